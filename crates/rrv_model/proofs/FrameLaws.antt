@@ -1,0 +1,91 @@
+-- A state and a frame leave one state after at most.
+use Rattle.std.proofs.Common.{◌≡◌, ℕ, zero, suc, ◌-◌, Option, Some, None, Result, Ok, Err, sym, ◌∙◌, ap, subst, refl}
+use Rattle.rrv_model.specs.declared.machine.FaultKind.{FaultKind}
+use Rattle.rrv_model.specs.declared.machine.GuestEnd.TheVariants as guest_ends
+use Rattle.rrv_model.specs.declared.machine.Thread.{Thread}
+use Rattle.rrv_model.specs.declared.instr.Instr.{Instr}
+use Rattle.rrv_model.specs.declared.record.End.{End}
+use Rattle.rrv_model.specs.declared.record.End.TheVariants.{Preempt, Call, Fault, Stuck}
+use Rattle.rrv_model.specs.declared.record.CallRecord.{CallRecord}
+use Rattle.rrv_model.specs.Instructions.{Decodes}
+use Rattle.rrv_model.specs.State.{State}
+use Rattle.rrv_model.specs.Step.{Hart, Step, StepOfWord, HartStep, StepsTo, CallsFrom, Outcome, Next, Called, fetched, executed, hart_of, with_hart}
+use Rattle.rrv_model.specs.Calls.{Calls}
+use Rattle.rrv_model.specs.FrameStep.{Steps, FrameStepBy, Preempts, EndsInCall, EndsInFault, closed, closed_at_end, OneStateAfterFrame}
+use Rattle.rrv_model.proofs.InstructionLaws.{one_row}
+use Rattle.rrv_model.proofs.CallLaws.{one_state_after_call}
+
+one_decoding : (w : ℕ) (i j : Option Instr) → Decodes w i → Decodes w j → i ≡ j
+one_decoding w (Some i) (Some j) p q = ap Some (one_row w i j p q)
+one_decoding w (Some i) None p q = absurd (q i p)
+one_decoding w None (Some j) p q = absurd (p j q)
+one_decoding w None None p q = refl
+
+one_outcome_of_word : (r : Result ℕ FaultKind) (h : Hart) (o o' : Outcome) → StepOfWord r h o → StepOfWord r h o' → o ≡ o'
+one_outcome_of_word (Err kind) h o o' p q = p ∙ sym q
+one_outcome_of_word (Ok w) h o o' p q =
+    p.2 ∙ ap (λ i. executed i h) (one_decoding w p.0 q.0 p.1 q.1) ∙ sym q.2
+
+-- a hart's step has one outcome
+pub one_outcome : (h : Hart) (o o' : Outcome) → HartStep h o → HartStep h o' → o ≡ o'
+one_outcome h o o' p q = one_outcome_of_word (fetched h.memory h.regs.pc) h o o' p q
+
+same_thread : (o : Option Thread) (t u : Thread) → o ≡ Some t → o ≡ Some u → t ≡ u
+same_thread o t u p q = cc
+
+next_harts : (s t : Hart) → Next s ≡ Next t → s ≡ t
+next_harts s t e = cc
+
+called_harts : (s t : Hart) → Called s ≡ Called t → s ≡ t
+called_harts s t e = cc
+
+-- the outcomes of one thread's steps from one state
+one_outcome_of : (s : State) (tid : ℕ) (t u : Thread) (o o' : Outcome) → Step s tid t o → Step s tid u o' → (t ≡ u) × (o ≡ o')
+one_outcome_of s tid t u o o' p q =
+    let e : u ≡ t = same_thread _ _ _ q.there p.there in
+    (sym e, one_outcome (hart_of s t) o o' p.does (subst (λ (v : Thread). HartStep (hart_of s v) o') e q.does))
+
+one_step : (s : State) (tid : ℕ) (after after' : State) → StepsTo s tid after → StepsTo s tid after' → after ≡ after'
+one_step s tid after after' p q =
+    let one = one_outcome_of s tid p.thread q.thread (Next p.hart) (Next q.hart) p.step q.step in
+    let hart : p.hart ≡ q.hart = next_harts p.hart q.hart one.1 in
+    p.after_is ∙ (λ i. with_hart tid (one.0 i) (hart i) s) ∙ sym q.after_is
+
+one_call_from : (s : State) (tid : ℕ) (after after' : State) → CallsFrom s tid after → CallsFrom s tid after' → after ≡ after'
+one_call_from s tid after after' p q =
+    let one = one_outcome_of s tid p.thread q.thread (Called p.hart) (Called q.hart) p.step q.step in
+    let hart : p.hart ≡ q.hart = called_harts p.hart q.hart one.1 in
+    p.after_is ∙ (λ i. with_hart tid (one.0 i) (hart i) s) ∙ sym q.after_is
+
+-- so many steps lead to one state at most
+pub one_end : (n tid : ℕ) (s after after' : State) → Steps n tid s after → Steps n tid s after' → after ≡ after'
+one_end zero tid s after after' p q = p ∙ sym q
+one_end (suc n) tid s after after' p q =
+    let e : q.0 ≡ p.0 = one_step s tid q.0 p.0 q.1 p.1 in
+    one_end n tid p.0 after after' p.2 (subst (λ (m : State). Steps n tid m after') e q.2)
+
+one_called : (s s' : State) (tid : ℕ) (t t' : State) → s' ≡ s → CallsFrom s tid t → CallsFrom s' tid t' → t' ≡ t
+one_called s s' tid t t' e p q = one_call_from s tid t' t (subst (λ (m : State). CallsFrom m tid t') e q) p
+
+one_preempt : (old : State) (tid count : ℕ) (new new' : State) → Preempts old tid count new → Preempts old tid count new' → new ≡ new'
+one_preempt old tid count new new' p q = p.new_is ∙ ap closed (one_end count tid old p.last q.last p.steps q.steps) ∙ sym q.new_is
+
+one_call : (old : State) (tid count : ℕ) (r : CallRecord) (new new' : State) → EndsInCall old tid count r new → EndsInCall old tid count r new' → new ≡ new'
+one_call old tid count r new new' p q =
+    let before : q.before ≡ p.before = one_end (count - 1) tid old q.before p.before q.steps p.steps in
+    let called : q.called ≡ p.called = one_called p.before q.before tid p.called q.called before p.calls q.calls in
+    let answered : Calls p.called tid q.answer r q.after = subst (λ (m : State). Calls m tid q.answer r q.after) called q.answered in
+    p.new_is ∙ ap closed (one_state_after_call p.called tid r p.answer q.answer p.after q.after p.answered answered) ∙ sym q.new_is
+
+one_fault : (old : State) (tid count : ℕ) (kind : FaultKind) (new new' : State) → EndsInFault old tid count kind new → EndsInFault old tid count kind new' → new ≡ new'
+one_fault old tid count kind new new' p q =
+    p.new_is ∙ ap (closed_at_end (guest_ends.Faulted kind)) (one_end (count - 1) tid old p.before q.before p.steps q.steps) ∙ sym q.new_is
+
+one_by : (end : End) (old : State) (tid count : ℕ) (new new' : State) → FrameStepBy end old tid count new → FrameStepBy end old tid count new' → new ≡ new'
+one_by Preempt old tid count new new' p q = one_preempt old tid count new new' p q
+one_by (Call r) old tid count new new' p q = one_call old tid count r new new' p q
+one_by (Fault kind) old tid count new new' p q = one_fault old tid count kind new new' p q
+one_by Stuck old tid count new new' p q = p.new_is ∙ sym q.new_is
+
+pub one_state_after_frame : OneStateAfterFrame
+one_state_after_frame old frame new new' p q = one_by frame.end old frame.tid frame.count new new' p.goes q.goes

@@ -1,0 +1,10 @@
+pub mod CallLaws
+pub mod RecordingLaws
+pub mod InstructionLaws
+pub mod FrameLaws
+pub mod Examples
+pub mod TextLaws
+pub mod OpeningFacts
+pub mod Decoding
+pub mod CallExamples
+pub mod RunExample

@@ -1,0 +1,37 @@
+//! Laws of the definitions, each as the contract of a function that does nothing.
+
+ghost use Rattle.rrv_model.specs.Instructions.{OneRow};
+ghost use Rattle.rrv_model.specs.FrameStep.{OneStateAfterFrame};
+ghost use Rattle.rrv_model.specs.Calls.{OneStateAfterCall};
+ghost use Rattle.rrv_model.specs.RecordText.{OneReading, OneSpelling};
+ghost use Rattle.rrv_model.specs.Recording.{BeginningsAreRecordings};
+
+/// A state, a thread and a call's record leave one state after at most, whatever the outside answered.
+pub fn one_state_after_call()
+    ensures { OneStateAfterCall }
+{}
+
+/// A record has one spelling.
+pub fn one_spelling()
+    ensures { OneSpelling }
+{}
+
+/// A beginning of a recording that is not empty is a recording.
+pub fn beginnings_are_recordings()
+    ensures { BeginningsAreRecordings }
+{}
+
+/// A word is one instruction at most.
+pub fn one_row()
+    ensures { OneRow }
+{}
+
+/// A state and a frame leave one state after at most.
+pub fn one_state_after_frame()
+    ensures { OneStateAfterFrame }
+{}
+
+/// What begins with a record's text begins with that one alone, and the rest is one.
+pub fn one_reading()
+    ensures { OneReading }
+{}

@@ -1,0 +1,11 @@
+//! The machine and its recordings: the types, the limits, and the definitions of `specs/`.
+#![tactic(auto)]
+
+pub mod fields;
+pub mod instr;
+pub mod items;
+pub mod laws;
+pub mod limits;
+pub mod machine;
+pub mod record;
+pub mod refusal;
