@@ -13,7 +13,7 @@ use Rattle.rrv_model.specs.Step.{Hart, Step, StepOfWord, HartStep, StepsTo, Call
 use Rattle.rrv_model.specs.Calls.{Calls}
 use Rattle.rrv_model.specs.FrameStep.{Steps, FrameStepBy, Preempts, EndsInCall, EndsInFault, closed, closed_at_end, OneStateAfterFrame}
 use Rattle.rrv_model.proofs.InstructionLaws.{one_row}
-use Rattle.rrv_model.proofs.CallLaws.{one_state_after_call}
+use Rattle.rrv_model.proofs.CallLaws.{one_state_after_call, same_thread}
 
 one_decoding : (w : ℕ) (i j : Option Instr) → Decodes w i → Decodes w j → i ≡ j
 one_decoding w (Some i) (Some j) p q = ap Some (one_row w i j p q)
@@ -30,9 +30,6 @@ one_outcome_of_word (Ok w) h o o' p q =
 pub one_outcome : (h : Hart) (o o' : Outcome) → HartStep h o → HartStep h o' → o ≡ o'
 one_outcome h o o' p q = one_outcome_of_word (fetched h.memory h.regs.pc) h o o' p q
 
-same_thread : (o : Option Thread) (t u : Thread) → o ≡ Some t → o ≡ Some u → t ≡ u
-same_thread o t u p q = cc
-
 next_harts : (s t : Hart) → Next s ≡ Next t → s ≡ t
 next_harts s t e = cc
 
@@ -45,7 +42,8 @@ one_outcome_of s tid t u o o' p q =
     let e : u ≡ t = same_thread _ _ _ q.there p.there in
     (sym e, one_outcome (hart_of s t) o o' p.does (subst (λ (v : Thread). HartStep (hart_of s v) o') e q.does))
 
-one_step : (s : State) (tid : ℕ) (after after' : State) → StepsTo s tid after → StepsTo s tid after' → after ≡ after'
+-- a plain step leads to one state at most
+pub one_step : (s : State) (tid : ℕ) (after after' : State) → StepsTo s tid after → StepsTo s tid after' → after ≡ after'
 one_step s tid after after' p q =
     let one = one_outcome_of s tid p.thread q.thread (Next p.hart) (Next q.hart) p.step q.step in
     let hart : p.hart ≡ q.hart = next_harts p.hart q.hart one.1 in

@@ -8,3 +8,4 @@ pub mod OpeningFacts
 pub mod Decoding
 pub mod CallExamples
 pub mod RunExample
+pub mod RunLaws

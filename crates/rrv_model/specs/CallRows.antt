@@ -1,13 +1,12 @@
 -- What each call does: the subset of Linux calls that a guest may make, a row a call (Linux man pages, section 2).
-use Rattle.std.specs.Prelude.{◌≡◌, ℕ, zero, suc, ◌+◌, ◌-◌, ◌*◌, ◌/◌, ◌%◌, ◌^◌, ◌<◌, ◌≤◌, min, Bool, true, false, not, ◌&&◌, ◌||◌, ◌==◌, nat_lt, nat_le, bit_and, if◌then◌else◌, List, [], ◌∷◌, ◌++◌, length, take, filter, flat_map, sum_by, fold, All, Option, Some, None}
+use Rattle.std.specs.Prelude.{ℕ, zero, suc, ◌+◌, ◌-◌, ◌*◌, ◌/◌, ◌%◌, ◌^◌, min, Bool, true, false, not, ◌&&◌, ◌||◌, ◌==◌, nat_lt, nat_le, bit_and, if◌then◌else◌, List, [], ◌∷◌, ◌++◌, length, take, filter, flat_map, sum_by, fold, Option, Some, None}
 use Rattle.std.specs.FinMap.{remove, len}
-use Rattle.std.specs.Int.{w32, w64, to_le_bytes}
+use Rattle.std.specs.Int.{w32, to_le_bytes}
 use Rattle.rrv_model.specs.declared.machine.Permissions.{Permissions}
 use Rattle.rrv_model.specs.declared.machine.Thread.{Thread}
 use Rattle.rrv_model.specs.declared.machine.GuestEnd.TheVariants.{Exited}
 use Rattle.rrv_model.specs.declared.record.Written.{Written}
-use Rattle.rrv_model.specs.declared.record.CallRecord.{CallRecord}
-use Rattle.rrv_model.specs.Memory.{Memory, readable, writable, stored, mapped, unmapped, protected, page_count, all_free, all_mapped, highest_free_up_to, pages_for, page_bytes}
+use Rattle.rrv_model.specs.Memory.{Memory, readable, writable, mapped, unmapped, protected, page_count, all_free, all_mapped, highest_free_up_to, pages_for, page_bytes}
 use Rattle.rrv_model.specs.State.{State, thread_at, with_thread, register, with_register}
 use Rattle.rrv_model.specs.Step.{word_at}
 
@@ -51,7 +50,7 @@ transfer count = min count 65_536
 
 -- ---- input and output
 
--- read(fd, buf, len)
+-- read(2): read(fd, buf, len)
 abbrev pub read_row : State → Thread → Row
 read_row s t =
     let count = transfer (argument t 2) in
@@ -63,7 +62,7 @@ read_row s t =
 abbrev pub is_output : ℕ → Bool
 is_output fd = fd == 1 || fd == 2
 
--- write(fd, buf, len)
+-- write(2): write(fd, buf, len)
 abbrev pub write_row : State → Thread → Row
 write_row s t =
     let count = transfer (argument t 2) in
@@ -88,7 +87,7 @@ all_readable m (b ∷ buffers) = readable m b.0 b.1 && all_readable m buffers
 abbrev pub total_len : List (ℕ × ℕ) → ℕ
 total_len buffers = sum_by (λ b. b.1) buffers
 
--- writev(fd, iov, cnt)
+-- writev(2): writev(fd, iov, cnt)
 abbrev pub writev_row : State → Thread → Row
 writev_row s t =
     let count = argument t 2 in
@@ -142,18 +141,18 @@ leaves tid status s =
 abbrev pub clears : State → Thread → Bool
 clears s t = not (t.clear == 0) && (t.clear % 4 == 0 && writable s.memory t.clear 4)
 
--- exit(status)
+-- _exit(2), with the clear address of set_tid_address(2): exit(status)
 abbrev pub exit_row : ℕ → State → Thread → Row
 exit_row tid s t =
     if clears s t
     then NoResult (range t.clear (0 ∷ 0 ∷ 0 ∷ 0 ∷ [])) (λ s. leaves tid (argument t 0) (wakes t.clear 1 s))
     else NoResult [] (leaves tid (argument t 0))
 
--- exit_group(status)
+-- exit_group(2): exit_group(status)
 abbrev pub exit_group_row : Thread → Row
 exit_group_row t = NoResult [] (ends (argument t 0))
 
--- set_tid_address(a)
+-- set_tid_address(2): set_tid_address(a)
 abbrev pub set_tid_address_row : ℕ → Thread → Row
 set_tid_address_row tid t = Answers tid [] (change_thread tid (λ t'. record t' { clear = argument t 0 }))
 
@@ -161,7 +160,7 @@ set_tid_address_row tid t = Answers tid [] (change_thread tid (λ t'. record t' 
 abbrev pub waits : ℕ → ℕ → State → State
 waits tid a s = change_thread tid (λ t. record t { waits_at = Some a }) (record s { waiting = s.waiting ++ tid ∷ [] })
 
--- futex(a, op, val, timeout): bit 128 of op is dropped; then 0 is WAIT and 1 is WAKE
+-- futex(2): futex(a, op, val, timeout). Bit 128 of op is dropped; then 0 is WAIT and 1 is WAKE
 abbrev pub futex_row : ℕ → State → Thread → Row
 futex_row tid s t =
     let a = argument t 0 in
@@ -174,7 +173,7 @@ futex_row tid s t =
     else if not (word_at s.memory a == argument t 2) then fails 11
     else Answers 0 [] (waits tid a)
 
--- ---- clone(flags, stack, ptid, tls, ctid)
+-- ---- clone(2): clone(flags, stack, ptid, tls, ctid)
 
 -- VM, FS, FILES, SIGHAND, THREAD are required
 abbrev pub required_flags : ℕ
@@ -230,7 +229,7 @@ page_limit = 16_384
 abbrev pub with_memory : Memory → State → State
 with_memory m s = record s { memory = m }
 
--- brk(a): the pages between the two breaks, each rounded up, are mapped or unmapped
+-- brk(2): brk(a). The pages between the two breaks, each rounded up, are mapped or unmapped
 abbrev pub brk_row : State → Thread → Row
 brk_row s t =
     let a = argument t 0 in
@@ -243,7 +242,7 @@ brk_row s t =
     else if not (all_free s.memory from (to - from)) || nat_lt page_limit (page_count grown) then answers s.program_break
     else Answers a [] (λ s'. record s' { memory = grown; program_break = a })
 
--- munmap(a, len)
+-- munmap(2): munmap(a, len)
 abbrev pub munmap_row : State → Thread → Row
 munmap_row s t =
     let a = argument t 0 in
@@ -267,7 +266,7 @@ maps_at s t (Some page) =
     if nat_lt page_limit (page_count new) then fails 12
     else Answers (page * page_bytes) [] (λ s'. record s' { memory = new })
 
--- mmap(a, len, prot, flags, ..)
+-- mmap(2): mmap(a, len, prot, flags, ..)
 abbrev pub mmap_row : State → Thread → Row
 mmap_row s t =
     let flags = argument t 3 in
@@ -275,7 +274,7 @@ mmap_row s t =
     || (has_flag flags 0x10 && not (argument t 0 % page_bytes == 0)))))) then fails 22
     else maps_at s t (mmap_place s t)
 
--- mprotect(a, len, prot)
+-- mprotect(2): mprotect(a, len, prot)
 abbrev pub mprotect_row : State → Thread → Row
 mprotect_row s t =
     let a = argument t 0 in
@@ -286,7 +285,7 @@ mprotect_row s t =
 
 -- ---- random bytes and the time
 
--- getrandom(buf, len, flags)
+-- getrandom(2): getrandom(buf, len, flags)
 abbrev pub getrandom_row : State → Thread → Row
 getrandom_row s t =
     let count = min (argument t 1) 256 in
@@ -295,7 +294,7 @@ getrandom_row s t =
     else if not (writable s.memory (argument t 0) count) then fails 14
     else AsksRandom (argument t 0) count
 
--- clock_gettime(id, ts)
+-- clock_gettime(2): clock_gettime(id, ts)
 abbrev pub clock_gettime_row : State → Thread → Row
 clock_gettime_row s t =
     if nat_lt 1 (argument t 0) then fails 22
@@ -336,4 +335,3 @@ row_of Mprotect tid s t = mprotect_row s t
 row_of Getrandom tid s t = getrandom_row s t
 row_of ClockGettime tid s t = clock_gettime_row s t
 row_of Other tid s t = fails 38
-

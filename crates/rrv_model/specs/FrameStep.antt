@@ -1,4 +1,5 @@
--- What a slice does: a thread's steps, and what ends them.
+-- Frame step: a frame leads from one state to the next by a thread's steps and what ends them, as in rr's record and replay
+-- (O'Callahan and others, 2017), with switches at exact instruction counts.
 use Rattle.std.specs.Prelude.{◌≡◌, ℕ, zero, suc, ◌-◌, ◌≤◌, Some, None}
 use Rattle.rrv_model.specs.declared.machine.GuestEnd.{GuestEnd}
 use Rattle.rrv_model.specs.declared.machine.GuestEnd.TheVariants as guest_ends
@@ -59,7 +60,7 @@ FrameStepBy (Call r) old tid count new = EndsInCall old tid count r new
 FrameStepBy (Fault kind) old tid count new = EndsInFault old tid count kind new
 FrameStepBy Stuck old tid count new = IsStuck old tid count new
 
--- the frame leads from old to new
+-- the frame leads from old, which hasn't ended, to new
 pub record FrameStep (old : State) (frame : Frame) (new : State) : Type 0 where
   pub runs : old.ended ≡ None
   pub limit : frame.count ≤ 1_048_576

@@ -16,3 +16,4 @@ pub mod RecordText
 pub mod CrashModel
 pub mod StoreText
 pub mod DiskCalls
+pub mod Failures

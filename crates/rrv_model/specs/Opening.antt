@@ -1,4 +1,5 @@
--- The state from which a guest starts, from its ELF file, its name and 16 random bytes.
+-- Opening state: that from which a guest starts, from its ELF file, its name and 16 random bytes
+-- (System V ABI, chapter 5 "Program Loading"; the stack as execve(2) leaves it, with the pairs of getauxval(3)).
 use Rattle.std.specs.Prelude.{◌≡◌, ℕ, ◌+◌, ◌-◌, ◌*◌, ◌/◌, ◌%◌, ◌≤◌, max, Bool, ◌&&◌, ◌||◌, nat_le, ◌==◌, if◌then◌else◌, List, [], ◌∷◌, ◌++◌, length, fold, flat_map, replicate, All, Some, None, slice_index, slice_set}
 use Rattle.std.specs.List.{list_any}
 use Rattle.std.specs.FinMap.{empty, insert}

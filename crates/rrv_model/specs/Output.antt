@@ -1,8 +1,6 @@
 -- What a recorded guest puts out.
-use Rattle.std.specs.Prelude.{◌≡◌, ℕ, ◌-◌, nat_le, ◌==◌, ◌&&◌, if◌then◌else◌, List, [], ◌∷◌, ◌++◌, flat_map, Option, Some, None}
-use Rattle.rrv_model.specs.declared.machine.FaultKind.{FaultKind}
+use Rattle.std.specs.Prelude.{◌≡◌, ℕ, ◌-◌, nat_le, ◌==◌, ◌&&◌, if◌then◌else◌, List, [], ◌∷◌, ◌++◌, flat_map, map, Option, Some, None}
 use Rattle.rrv_model.specs.declared.machine.Thread.{Thread}
-use Rattle.rrv_model.specs.declared.record.CallRecord.{CallRecord}
 use Rattle.rrv_model.specs.declared.record.End.{End}
 use Rattle.rrv_model.specs.declared.record.End.TheVariants.{Preempt, Call, Fault, Stuck}
 use Rattle.rrv_model.specs.declared.record.Frame.{Frame}
@@ -17,6 +15,14 @@ use Rattle.rrv_model.specs.Opening.{Opens}
 pub record Chunk : Type 0 where
   pub descriptor : ℕ
   pub bytes : List ℕ
+
+-- bytes, each with the descriptor that it goes to
+abbrev pub to_descriptor : ℕ → List ℕ → List (ℕ × ℕ)
+to_descriptor descriptor bytes = map (λ b. (descriptor, b)) bytes
+
+-- chunks, byte by byte
+abbrev pub spread : List Chunk → List (ℕ × ℕ)
+spread chunks = flat_map (λ c. to_descriptor c.descriptor c.bytes) chunks
 
 -- the first count bytes of the buffers of a `write` or `writev` that a thread is about to make
 abbrev pub put_out : Memory → Thread → ℕ → List Chunk

@@ -1,5 +1,5 @@
--- What a recording is: the records of one guest, in order, each of which follows from those before it.
-use Rattle.std.specs.Prelude.{◌≡◌, ℕ, suc, ◌+◌, List, [], ◌∷◌, ◌++◌, map, take, Option, Some, None}
+-- Recording: the records of one guest, in order, each of which follows from those before it.
+use Rattle.std.specs.Prelude.{◌≡◌, ℕ, suc, ◌+◌, List, [], ◌∷◌, ◌++◌, length, map, take, Option, Some, None}
 use Rattle.rrv_model.specs.declared.record.Frame.{Frame}
 use Rattle.rrv_model.specs.declared.record.Rest.{Rest}
 use Rattle.rrv_model.specs.declared.record.Part.{Part}
@@ -9,6 +9,7 @@ use Rattle.rrv_model.specs.declared.record.Record.{Record}
 use Rattle.rrv_model.specs.State.{State}
 use Rattle.rrv_model.specs.FrameStep.{FrameStep}
 use Rattle.rrv_model.specs.Opening.{Opens}
+use Rattle.rrv_model.specs.StateAt.{StateAt, total}
 use Rattle.rrv_model.specs.Checkpoint.{Describes}
 
 -- the guest's records from this index on
@@ -54,13 +55,36 @@ pub record IsRecording (records : List Record) : Type 0 where
   pub numbered : IsNumbered guest 0 records
   pub starts : Starts (items_of records)
 
--- a beginning that isn't empty is a recording
-abbrev pub BeginningsAreRecordings : Type 0
-BeginningsAreRecordings = (records : List Record) (k : ℕ) → IsRecording records → IsRecording (take (suc k) records)
-
 -- the frames among the items
 abbrev pub frames_of : List Item → List Frame
 frames_of [] = []
 frames_of (items.Frame f ∷ rest) = f ∷ frames_of rest
 frames_of (items.Opening o ∷ rest) = frames_of rest
 frames_of (items.Part p ∷ rest) = frames_of rest
+
+-- the state after all frames of the items, of which the first is an Opening
+abbrev pub EndsIn : List Item → State → Type 0
+EndsIn [] s = ⊥
+EndsIn (items.Opening o ∷ rest) s = StateAt o (frames_of rest) (total (frames_of rest)) s
+EndsIn (items.Frame f ∷ rest) s = ⊥
+EndsIn (items.Part p ∷ rest) s = ⊥
+
+-- ---- laws
+
+abbrev pub frame_record : ℕ → ℕ → Frame → Record
+frame_record guest index f = record { guest = guest; index = index; item = items.Frame f }
+
+-- a beginning that isn't empty is a recording
+abbrev pub BeginningsAreRecordings : Type 0
+BeginningsAreRecordings = (records : List Record) (k : ℕ) → IsRecording records → IsRecording (take (suc k) records)
+
+-- items leave one state after all their frames at most
+abbrev pub OneEnd : Type 0
+OneEnd = (items : List Item) (s s' : State) → EndsIn items s → EndsIn items s' → s ≡ s'
+
+-- a frame from the state behind a recording makes it a longer one, which ends in the frame's new state
+abbrev pub FramesAppend : Type 0
+FramesAppend =
+    (records : List Record) (guest : ℕ) (old new : State) (f : Frame) → IsRecording records → IsNumbered guest 0 records →
+    EndsIn (items_of records) old → FrameStep old f new →
+    IsRecording (records ++ frame_record guest (length records) f ∷ []) × EndsIn (items_of (records ++ frame_record guest (length records) f ∷ [])) new

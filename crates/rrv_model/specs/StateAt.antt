@@ -1,5 +1,5 @@
 -- The state of a recorded guest at a count of instructions.
-use Rattle.std.specs.Prelude.{◌≡◌, ℕ, ◌-◌, nat_le, ◌==◌, ◌&&◌, if◌then◌else◌, List, [], ◌∷◌, ◌++◌, flat_map, sum_by, MatchBool}
+use Rattle.std.specs.Prelude.{◌≡◌, ℕ, ◌-◌, nat_le, List, [], ◌∷◌, sum_by, MatchBool}
 use Rattle.rrv_model.specs.declared.record.Frame.{Frame}
 use Rattle.rrv_model.specs.declared.record.Opening.{Opening}
 use Rattle.rrv_model.specs.State.{State}
@@ -16,7 +16,6 @@ StateAtFrom s [] t at = (t ≡ 0) × (at ≡ s)
 StateAtFrom s (f ∷ frames) t at =
     MatchBool (nat_le f.count t) ((mid : State) × FrameStep s f mid × StateAtFrom mid frames (t - f.count) at) (Steps t f.tid s at)
 
--- the state at t
+-- the state at t, the ends of the frames at or before t included
 abbrev pub StateAt : Opening → List Frame → ℕ → State → Type 0
 StateAt o frames t at = (s : State) × Opens o.elf o.name o.random s × StateAtFrom s frames t at
-

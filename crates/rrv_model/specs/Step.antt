@@ -1,4 +1,5 @@
--- What one instruction of a thread does.
+-- Plain step: what one instruction does, a row an instruction and a row a kind of fault
+-- (RISC-V Unprivileged ISA 20191213, chapters 2, 3, 7 and 8).
 use Rattle.std.specs.Prelude.{◌≡◌, ℕ, ◌-◌, ◌*◌, ◌/◌, ◌%◌, ◌^◌, Bool, not, ◌==◌, nat_lt, int_lt, int_div, int_rem, ◌*ℤ◌, ℤ, pos, bit_and, bit_or, bit_xor, if◌then◌else◌, Option, Some, None, Result, Ok, Err}
 use Rattle.std.specs.Int.{w8, w16, w32, w64, from_le_bytes, to_le_bytes, int_shr, cast_unsigned}
 use Rattle.rrv_model.specs.declared.instr.BranchTest.{BranchTest}
@@ -39,7 +40,7 @@ pub data Outcome : Type 0 where
   Called : Hart → Outcome
   Faulted : FaultKind → Outcome
 
--- ---- values
+-- ---- values (sections 2.4, 7.1, 7.2 and 8.4)
 
 abbrev pub branches : BranchTest → ℕ → ℕ → Bool
 branches Beq x y = x == y
@@ -161,14 +162,14 @@ goes_on regs h = record h { regs = record regs { pc = plus regs.pc 4 } }
 abbrev pub sets : ℕ → ℕ → Hart → Outcome
 sets rd value h = Next (goes_on (with_register rd value h.regs) h)
 
--- a jump, which leaves the place behind it in a register
+-- a jump, which leaves the place behind it in a register (section 2.5)
 abbrev pub jumps : ℕ → ℕ → Hart → Outcome
 jumps rd target h =
     if target % 4 == 0
     then Next (record h { regs = record (with_register rd (plus h.regs.pc 4) h.regs) { pc = target } })
     else Faulted faults.MisalignedTarget
 
--- an atomic at an address: kind 4 comes before 6 and 7
+-- an atomic at an address: a misaligned one is refused as such before its bytes are looked at (sections 8.2 and 8.4)
 abbrev pub atomic : Bool → FaultKind → ℕ → Outcome → Outcome
 atomic allowed kind a outcome =
     if a % 4 == 0 then (if allowed then outcome else Faulted kind) else Faulted faults.MisalignedAtomic

@@ -4,7 +4,7 @@ ghost use Rattle.rrv_model.specs.Instructions.{OneRow};
 ghost use Rattle.rrv_model.specs.FrameStep.{OneStateAfterFrame};
 ghost use Rattle.rrv_model.specs.Calls.{OneStateAfterCall};
 ghost use Rattle.rrv_model.specs.RecordText.{OneReading, OneSpelling};
-ghost use Rattle.rrv_model.specs.Recording.{BeginningsAreRecordings};
+ghost use Rattle.rrv_model.specs.Recording.{BeginningsAreRecordings, FramesAppend, OneEnd};
 
 /// A state, a thread and a call's record leave one state after at most, whatever the outside answered.
 pub fn one_state_after_call()
@@ -34,4 +34,14 @@ pub fn one_state_after_frame()
 /// What begins with a record's text begins with that one alone, and the rest is one.
 pub fn one_reading()
     ensures { OneReading }
+{}
+
+/// Items leave one state after all their frames at most.
+pub fn one_end()
+    ensures { OneEnd }
+{}
+
+/// A frame from the state behind a recording makes a longer recording, which ends in the frame's new state.
+pub fn frames_append()
+    ensures { FramesAppend }
 {}

@@ -9,3 +9,4 @@ pub mod limits;
 pub mod machine;
 pub mod record;
 pub mod refusal;
+pub mod sink;
