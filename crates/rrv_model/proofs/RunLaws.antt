@@ -72,17 +72,17 @@ at_total_append (g ∷ frames) s last new f h step =
 
 -- ---- a longer recording
 
-frames-append : (rest : List Item) (f : Frame) → frames_of (rest ++ items.Frame f ∷ []) ≡ frames_of rest ++ f ∷ []
+pub frames-append : (rest : List Item) (f : Frame) → frames_of (rest ++ items.Frame f ∷ []) ≡ frames_of rest ++ f ∷ []
 frames-append [] f = refl
 frames-append (items.Opening o ∷ rest) f = frames-append rest f
 frames-append (items.Frame g ∷ rest) f = ap (λ fs. g ∷ fs) (frames-append rest f)
 frames-append (items.Part p ∷ rest) f = frames-append rest f
 
-items-append : (records : List Record) (r : Record) → items_of (records ++ r ∷ []) ≡ items_of records ++ r.item ∷ []
+pub items-append : (records : List Record) (r : Record) → items_of (records ++ r ∷ []) ≡ items_of records ++ r.item ∷ []
 items-append [] r = refl
 items-append (q ∷ records) r = ap (λ rest. q.item ∷ rest) (items-append records r)
 
-numbered-append : (guest index : ℕ) (records : List Record) (r : Record) → IsNumbered guest index records → r.guest ≡ guest → r.index ≡ index + length records →
+pub numbered-append : (guest index : ℕ) (records : List Record) (r : Record) → IsNumbered guest index records → r.guest ≡ guest → r.index ≡ index + length records →
     IsNumbered guest index (records ++ r ∷ [])
 numbered-append guest index [] r h g i = (g, omega (arith, i), tt)
 numbered-append guest index (q ∷ records) r h g i = (h.0, h.1, numbered-append guest (index + 1) records r h.2 g (omega (arith, i)))
