@@ -1,0 +1,28 @@
+//! One instruction of a hart: RV32I, Zifencei, M and A, at user level
+//! (RISC-V Unprivileged ISA 20191213, chapters 2, 3, 7 and 8).
+#![tactic(auto)]
+
+mod access;
+mod atomic;
+mod compute;
+mod execute;
+mod hart;
+mod memory;
+mod registers;
+#[cfg(test)]
+mod tests;
+mod values;
+
+pub use hart::step;
+use rrv_model::machine::FaultKind;
+
+/// What one instruction came to.
+#[derive(Clone, Copy, Debug, PartialEq, Eq)]
+pub enum Stepped {
+    /// It is done, and the hart goes on.
+    Next,
+    /// It is an ECALL, and `pc` is past it.
+    Call,
+    /// It failed, and changed no register, no memory and no reservation.
+    Fault(FaultKind),
+}
