@@ -1,0 +1,4 @@
+pub mod FailOnce
+pub mod MemDisk
+pub mod Reads
+pub mod Replay

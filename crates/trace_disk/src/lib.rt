@@ -1,0 +1,13 @@
+//! Disks as the log sees them: what a read gives, and what a crash may leave.
+#![tactic(auto)]
+
+mod disk;
+mod fail_once;
+mod mem_disk;
+
+pub use disk::{Disk, DiskFailed, cut_through, write_through};
+pub use fail_once::FailOnce;
+pub use mem_disk::MemDisk;
+
+#[cfg(test)]
+mod tests;

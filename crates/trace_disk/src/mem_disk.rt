@@ -1,0 +1,353 @@
+//! A disk in memory, which keeps a record of its calls, so that tests can crash it.
+
+ghost use Rattle.std.specs.Prelude.{◌≡◌, ◌≤◌, ◌<◌, ◌+◌, ◌++◌, ◌∷◌, [], max, List, ℕ, length, reverse, take, drop, OnOk, OnErr, IfOk, IsOk, vec_len, vec_capacity, IsTrue, ◌↔◌, ◌⊎◌, get_or};
+ghost use Rattle.rrv_model.specs.CrashModel.{IsTouched, IsCrash};
+ghost use Rattle.rrv_model.specs.DiskCalls.{overwritten, after_write, after_cut, after_sync, one_more, IsCounted};
+ghost use Rattle.trace_disk.specs.Replay.{replay, empty_disk, started_with, IsFilledCrash};
+
+use crate::{Disk, DiskFailed};
+use rrv_model::refusal::Memory;
+use std::alloc::{AllocError, Global};
+
+// A call that was done. The bytes of the writes stand elsewhere, joined in order.
+#[derive(Clone, Copy, Debug, PartialEq, Eq)]
+enum Call {
+    Wrote(usize, usize),
+    CutTo(usize),
+    Synced,
+}
+
+// Writes over what is there, and past the end.
+fn overwrite(content: &mut Vec<u8>, at: usize, bytes: &[u8]) -> Result<(), AllocError>
+    requires { at ≤ length content.old.items }
+    ensures written { OnOk result (content.new.items ≡ overwritten content.old.items at bytes.now) }
+    ensures err { OnErr result (content.new.items ≡ content.old.items) }
+    ensures len { OnOk result (vec_len content.new ≤ max (vec_len content.old) (at + length bytes.now)) }
+    ensures capacity { vec_capacity content.old ≤ vec_capacity content.new }
+    ensures room { at + length bytes.now ≤ vec_capacity content.old → IsOk result }
+{
+    let behind = content.len() - at;
+    if behind < bytes.len() {
+        content.extend_from_slice(&bytes[behind..])?;
+        content[at..at + behind].copy_from_slice(&bytes[..behind]);
+    } else {
+        content[at..at + bytes.len()].copy_from_slice(bytes);
+    }
+    Ok(())
+}
+
+// Makes room for so many bytes from a place on.
+fn reserve_to(content: &mut Vec<u8>, at: usize, count: usize) -> Result<(), AllocError>
+    requires { at ≤ length content.old.items }
+    ensures items { content.new.items ≡ content.old.items }
+    ensures len { vec_len content.new ≡ vec_len content.old }
+    ensures capacity { vec_capacity content.old ≤ vec_capacity content.new }
+    ensures fits { OnOk result (at + count ≤ vec_capacity content.new) }
+    ensures room { at + count ≤ vec_capacity content.old → IsOk result }
+{
+    let behind = content.len() - at;
+    if behind < count {
+        content.reserve(count - behind)?;
+    }
+    Ok(())
+}
+
+// Keeps a call, and the bytes that it wrote.
+fn keep_call(
+    calls: &mut Vec<Call>,
+    written: &mut Vec<u8>,
+    call: Call,
+    bytes: &[u8],
+) -> Result<(), AllocError>
+    ensures calls { OnOk result (calls.new.items ≡ calls.old.items ++ call ∷ []) }
+    ensures written { OnOk result (written.new.items ≡ written.old.items ++ bytes.now) }
+    ensures calls_len { OnOk result (vec_len calls.new ≡ vec_len calls.old + 1) }
+    ensures written_len { OnOk result (vec_len written.new ≡ vec_len written.old + length bytes.now) }
+    ensures calls_capacity { vec_capacity calls.old ≤ vec_capacity calls.new }
+    ensures written_capacity { vec_capacity written.old ≤ vec_capacity written.new }
+    ensures err_calls { OnErr result (calls.new.items ≡ calls.old.items) }
+    ensures err_written { OnErr result (written.new.items ≡ written.old.items) }
+    ensures room { vec_len calls.old < vec_capacity calls.old → vec_len written.old + length bytes.now ≤ vec_capacity written.old → IsOk result }
+{
+    calls.reserve(1)?;
+    written.extend_from_slice(bytes)?;
+    calls.push(call)?;
+    Ok(())
+}
+
+/// An honest disk in memory. It keeps each call since its start, and the bytes of each write.
+///
+/// Within its room no call takes memory. Past it a refused growth is a failure of the device, which changes nothing.
+#[derive(Drop)]
+pub struct MemDisk {
+    start: Vec<u8>,
+    calls: Vec<Call>,
+    written: Vec<u8>,
+    content: Vec<u8>,
+    synced: Vec<u8>,
+    least: usize,
+    greatest: usize,
+    touched: Vec<(usize, usize)>,
+    failures: u64,
+    ghost content_is: { content.items ≡ (replay start.items written.items (reverse calls.items)).content },
+    ghost pending_is: { (replay start.items written.items (reverse calls.items)).pending ≡ record { synced = synced.items; least = least; greatest = greatest; touched = touched.items } },
+    ghost least_within: { least ≤ length synced.items },
+}
+
+impl MemDisk {
+    ghost use Rattle.trace_disk.specs.MemDisk.{memory_state, memory_size, memory_failures, HasRoom};
+
+    /// An empty disk with no room: each call may take memory, making it takes none.
+    pub fn new(alloc: Global) -> Self
+        ensures state { memory_state result ≡ empty_disk }
+        ensures failures { memory_failures result ≡ 0 }
+    {
+        MemDisk {
+            start: Vec::new(alloc),
+            calls: Vec::new(alloc),
+            written: Vec::new(alloc),
+            content: Vec::new(alloc),
+            synced: Vec::new(alloc),
+            least: 0,
+            greatest: 0,
+            touched: Vec::new(alloc),
+            failures: 0,
+        }
+    }
+
+    /// An empty disk with room for so many calls, and for so many bytes in all writes together.
+    pub fn with_room(alloc: Global, bytes: usize, calls: usize) -> Result<MemDisk, Memory>
+        ensures state { IfOk result (λ disk. memory_state disk ≡ empty_disk) }
+        ensures failures { IfOk result (λ disk. memory_failures disk ≡ 0) }
+        ensures room { IfOk result (λ disk. HasRoom disk bytes calls) }
+    {
+        Ok(MemDisk {
+            start: Vec::new(alloc),
+            calls: Vec::with_capacity(alloc, calls)?,
+            written: Vec::with_capacity(alloc, bytes)?,
+            content: Vec::with_capacity(alloc, bytes)?,
+            synced: Vec::with_capacity(alloc, bytes)?,
+            least: 0,
+            greatest: 0,
+            touched: Vec::with_capacity(alloc, calls)?,
+            failures: 0,
+        })
+    }
+
+    /// The least length in bytes that a crash now may leave.
+    pub fn least(&self) -> u64
+        ensures { result ≡ (memory_state self.now).pending.least }
+    {
+        self.least as u64
+    }
+
+    /// The greatest length in bytes that a crash now may leave.
+    pub fn greatest(&self) -> u64
+        ensures { result ≡ (memory_state self.now).pending.greatest }
+    {
+        self.greatest as u64
+    }
+
+    /// A disk with no room that has what a crash now may leave: `len` bytes, `fill` wherever a crash may change them.
+    pub fn crash(&self, alloc: Global, len: u64, fill: u8) -> Result<MemDisk, Memory>
+        requires no_shorter { (memory_state self.now).pending.least ≤ len }
+        requires no_longer { len ≤ (memory_state self.now).pending.greatest }
+        ensures filled { IfOk result (λ disk. IsFilledCrash (memory_state self.now).pending len fill (memory_state disk).content) }
+        ensures may { IfOk result (λ disk. IsCrash (memory_state self.now).pending (memory_state disk).content) }
+        ensures started { IfOk result (λ disk. memory_state disk ≡ started_with (memory_state disk).content) }
+        ensures failures { IfOk result (λ disk. memory_failures disk ≡ 0) }
+    {
+        let len = len as usize;
+        let mut bytes = Vec::new(alloc);
+        bytes.resize(len, fill)?;
+        keep_untouched(&mut bytes, &self.synced, self.least, &self.touched);
+        Ok(MemDisk {
+            start: bytes.to_vec(alloc)?,
+            calls: Vec::new(alloc),
+            written: Vec::new(alloc),
+            content: bytes.to_vec(alloc)?,
+            synced: bytes,
+            least: len,
+            greatest: len,
+            touched: Vec::new(alloc),
+            failures: 0,
+        })
+    }
+
+    fn try_write(&mut self, at: usize, bytes: &[u8]) -> Result<(), AllocError>
+        requires { at ≤ memory_size self.old }
+        ensures written { OnOk result (memory_state self.new ≡ after_write (memory_state self.old) at bytes.now) }
+        ensures size { OnOk result (memory_size self.new ≡ max (memory_size self.old) (at + length bytes.now)) }
+        ensures err { OnErr result (memory_state self.new ≡ memory_state self.old) }
+        ensures failures { self.new.failures ≡ self.old.failures }
+        ensures room { (b c : ℕ) → HasRoom self.old (length bytes.now + b) (1 + c) → IsOk result }
+        ensures room_left { (b c : ℕ) → HasRoom self.old (length bytes.now + b) (1 + c) → HasRoom self.new b c }
+    {
+        reserve_to(&mut self.content, at, bytes.len())?;
+        self.touched.reserve(1)?;
+        keep_call(
+            &mut self.calls,
+            &mut self.written,
+            Call::Wrote(at, bytes.len()),
+            bytes,
+        )?;
+        // From here on there is room.
+        overwrite(&mut self.content, at, bytes)?;
+        self.touched.push((at, bytes.len()))?;
+        self.greatest = self.greatest.max(at + bytes.len());
+        Ok(())
+    }
+
+    fn try_cut(&mut self, len: usize) -> Result<(), AllocError>
+        requires { len ≤ memory_size self.old }
+        ensures cut { OnOk result (memory_state self.new ≡ after_cut (memory_state self.old) len) }
+        ensures size { OnOk result (memory_size self.new ≡ len) }
+        ensures err { OnErr result (memory_state self.new ≡ memory_state self.old) }
+        ensures failures { self.new.failures ≡ self.old.failures }
+        ensures room { (b c : ℕ) → HasRoom self.old b (1 + c) → IsOk result }
+        ensures room_left { (b c : ℕ) → HasRoom self.old b (1 + c) → HasRoom self.new b c }
+    {
+        keep_call(&mut self.calls, &mut self.written, Call::CutTo(len), &[])?;
+        self.content.truncate(len);
+        self.least = self.least.min(len);
+        Ok(())
+    }
+
+    fn try_sync(&mut self) -> Result<(), AllocError>
+        ensures synced { OnOk result (memory_state self.new ≡ after_sync (memory_state self.old)) }
+        ensures size { memory_size self.new ≡ memory_size self.old }
+        ensures err { OnErr result (memory_state self.new ≡ memory_state self.old) }
+        ensures failures { self.new.failures ≡ self.old.failures }
+        ensures room { (b c : ℕ) → HasRoom self.old b (1 + c) → IsOk result }
+        ensures room_left { (b c : ℕ) → HasRoom self.old b (1 + c) → HasRoom self.new b c }
+    {
+        reserve_to(&mut self.synced, 0, self.content.len())?;
+        keep_call(&mut self.calls, &mut self.written, Call::Synced, &[])?;
+        // From here on there is room.
+        self.synced.clear();
+        self.synced.extend_from_slice(&self.content)?;
+        self.touched.clear();
+        self.least = self.content.len();
+        self.greatest = self.content.len();
+        Ok(())
+    }
+
+    // Counts a failure.
+    fn failed(&mut self) -> DiskFailed
+        ensures state { memory_state self.new ≡ memory_state self.old }
+        ensures size { memory_size self.new ≡ memory_size self.old }
+        ensures counted { memory_failures self.new ≡ one_more (memory_failures self.old) }
+    {
+        self.failures = self.failures.saturating_add(1);
+        DiskFailed
+    }
+}
+
+// Whether a place is in one of the ranges.
+fn is_touched(ranges: &[(usize, usize)], place: usize) -> bool
+    ensures { IsTrue result ↔ IsTouched ranges.now place }
+{
+    let mut rest = ranges;
+    while let [(first, count), behind @ ..] = rest {
+        if *first <= place && place - *first < *count {
+            return true;
+        }
+        rest = behind;
+    }
+    false
+}
+
+// Puts back the old bytes where no write can have reached.
+fn keep_untouched(bytes: &mut [u8], synced: &[u8], least: usize, touched: &[(usize, usize)])
+    requires bytes { least ≤ length bytes.old }
+    requires synced { least ≤ length synced.now }
+    ensures kept { (k : ℕ) → k < least → ¬ (IsTouched touched.now k) → get_or bytes.new k 0 ≡ get_or synced.now k 0 }
+    ensures free { (k : ℕ) → ((least ≤ k) ⊎ IsTouched touched.now k) → get_or bytes.new k 0 ≡ get_or bytes.old k 0 }
+{
+    for place in 0..least {
+        if !is_touched(touched, place) {
+            bytes[place] = synced[place];
+        }
+    }
+}
+
+impl Disk for MemDisk {
+    ghost use Rattle.std.specs.Prelude.{⊤};
+    ghost use Rattle.trace_disk.specs.MemDisk.{memory_state, memory_size, memory_failures, HasRoom};
+    ghost use Rattle.trace_disk.specs.Reads.{reads_replay, sizes};
+
+    ghost honest = { λ _. ⊤ };
+
+    ghost size = { memory_size };
+
+    ghost faults = { memory_failures };
+
+    ghost state = { memory_state };
+
+    ghost sized = { λ m honest. sizes m.content.items _ m.content_is };
+
+    ghost reads_now = { λ m honest. reads_replay m.start.items m.written.items (reverse m.calls.items) };
+
+    fn len(&self) -> u64 {
+        self.content.len() as u64
+    }
+
+    fn failures(&self) -> u64 {
+        self.failures
+    }
+
+    fn read_at(&mut self, at: u64, into: &mut [u8]) -> Result<(), DiskFailed>
+        requires { at + length into.old ≤ memory_size self.old }
+        ensures never_fails { IsOk result }
+        ensures bytes { into.new ≡ take (length into.old) (drop at (memory_state self.old).content) }
+        ensures same { self.new ≡ self.old }
+    {
+        let from = at as usize;
+        into.copy_from_slice(&self.content[from..from + into.len()]);
+        Ok(())
+    }
+
+    fn write_at(&mut self, at: u64, bytes: &[u8]) -> Result<(), DiskFailed>
+        requires { at ≤ memory_size self.old }
+        ensures written { OnOk result (memory_state self.new ≡ after_write (memory_state self.old) at bytes.now) }
+        ensures err { OnErr result (memory_state self.new ≡ memory_state self.old) }
+        ensures size { OnOk result (memory_size self.new ≡ max (memory_size self.old) (at + length bytes.now)) }
+        ensures counted { IsCounted result (memory_failures self.old) (memory_failures self.new) }
+        ensures room { (b c : ℕ) → HasRoom self.old (length bytes.now + b) (1 + c) → IsOk result }
+        ensures room_left { (b c : ℕ) → HasRoom self.old (length bytes.now + b) (1 + c) → HasRoom self.new b c }
+    {
+        if self.try_write(at as usize, bytes).is_err() {
+            return Err(self.failed());
+        }
+        Ok(())
+    }
+
+    fn cut(&mut self, len: u64) -> Result<(), DiskFailed>
+        requires { len ≤ memory_size self.old }
+        ensures cut { OnOk result (memory_state self.new ≡ after_cut (memory_state self.old) len) }
+        ensures err { OnErr result (memory_state self.new ≡ memory_state self.old) }
+        ensures size { OnOk result (memory_size self.new ≡ len) }
+        ensures counted { IsCounted result (memory_failures self.old) (memory_failures self.new) }
+        ensures room { (b c : ℕ) → HasRoom self.old b (1 + c) → IsOk result }
+        ensures room_left { (b c : ℕ) → HasRoom self.old b (1 + c) → HasRoom self.new b c }
+    {
+        if self.try_cut(len as usize).is_err() {
+            return Err(self.failed());
+        }
+        Ok(())
+    }
+
+    fn sync(&mut self) -> Result<(), DiskFailed>
+        ensures synced { OnOk result (memory_state self.new ≡ after_sync (memory_state self.old)) }
+        ensures err { OnErr result (memory_state self.new ≡ memory_state self.old) }
+        ensures size { memory_size self.new ≡ memory_size self.old }
+        ensures counted { IsCounted result (memory_failures self.old) (memory_failures self.new) }
+        ensures room { (b c : ℕ) → HasRoom self.old b (1 + c) → IsOk result }
+        ensures room_left { (b c : ℕ) → HasRoom self.old b (1 + c) → HasRoom self.new b c }
+    {
+        if self.try_sync().is_err() {
+            return Err(self.failed());
+        }
+        Ok(())
+    }
+}
