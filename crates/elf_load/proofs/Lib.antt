@@ -1,0 +1,5 @@
+mod Headers
+mod Pages
+mod Refusal
+pub mod Accepted
+mod Shares

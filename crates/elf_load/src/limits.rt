@@ -1,0 +1,80 @@
+//! What an image asks for in all.
+
+ghost use Rattle.std.specs.Prelude.{◌≡◌, ◌||◌, ◌*◌, ◌≤◌, ◌<◌, ℕ, None, Some, IfOk, IfErr, OnOk, ◌≢◌, All, length, slice_index_or, false, not, count_by};
+ghost use Rattle.std.specs.List.{list_any};
+ghost use Rattle.rrv_model.specs.Elf.{loads, load_end, touches, touched_below, is_empty_load, leaves_range};
+ghost use Rattle.elf_load.specs.Fault.{number_of};
+ghost use Rattle.elf_load.specs.Refusals.{limit_refusal};
+
+use crate::fault::ElfFault;
+use crate::header::ProgramHeader;
+use rrv_model::limits::{MAX_ELF, PAGE_BYTES};
+use std::alloc::{AllocError, Global};
+
+/// Pages below the end of the addresses that a PT_LOAD may have.
+const PAGES: usize = 0x7_0000;
+/// Pages that the PT_LOADs may touch.
+const MAX_LOADED_PAGES: usize = 16_128;
+
+/// Tests the file's length, the number of pages, and that there is a byte of memory: refusals 14 and 15.
+#[tactic(auto, unfolding(crate::specs::Refusals::limit_refusal))]
+pub(crate) fn check_limits(
+    alloc: Global,
+    elf: &[u8],
+    found: &[ProgramHeader],
+) -> Result<(), ElfFault>
+    requires loads_are { found.now ≡ loads elf.now }
+    requires in_range { list_any leaves_range found.now ≡ false }
+    ensures passes { OnOk result (limit_refusal elf.now ≡ None) }
+    ensures refused { IfErr result (λ fault. fault ≢ ElfFault.Memory
+        → limit_refusal elf.now ≡ Some (number_of fault)) }
+{
+    if elf.len() > MAX_ELF as usize || touched_pages(alloc, found, PAGES)? > MAX_LOADED_PAGES {
+        return Err(ElfFault::TooLarge);
+    }
+    if !has_memory(found) {
+        return Err(ElfFault::NoLoad);
+    }
+    Ok(())
+}
+
+/// Some PT_LOAD has a byte of memory.
+fn has_memory(found: &[ProgramHeader]) -> bool
+    ensures { result ≡ list_any (λ load. not (is_empty_load load)) found.now }
+{
+    found.iter().any(|load| !load.is_empty())
+}
+
+/// How many of so many pages the PT_LOADs touch.
+fn touched_pages(alloc: Global, found: &[ProgramHeader], pages: usize) -> Result<usize, AllocError>
+    requires { All (λ load. 0 < load.memory_len → load_end load ≤ pages * 4096) found.now }
+    ensures { IfOk result (λ count. count ≡ touched_below pages found.now) }
+{
+    let mut marks = vec![in alloc; false; pages]?;
+    for load in found {
+        mark_pages(&mut marks, load);
+    }
+    Ok(count_marks(&marks))
+}
+
+fn count_marks(marks: &[bool]) -> usize
+    ensures { result ≡ count_by (λ mark. mark) marks.now }
+{
+    marks.iter().filter(|mark| **mark).count()
+}
+
+/// Marks the pages of a PT_LOAD.
+fn mark_pages(marks: &mut [bool], load: &ProgramHeader)
+    requires { 0 < load.now.memory_len → load_end load.now ≤ length marks.old * 4096 }
+    ensures { (page : ℕ) → page < length marks.old
+        → slice_index_or marks.new page false ≡ (slice_index_or marks.old page false || touches page load.now) }
+{
+    if load.is_empty() {
+        return;
+    }
+    let first = u64::from(load.address()) / u64::from(PAGE_BYTES);
+    let last = (load.end() - 1) / u64::from(PAGE_BYTES);
+    for page in first..last + 1 {
+        marks[page as usize] = true;
+    }
+}
