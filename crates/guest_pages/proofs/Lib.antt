@@ -1,0 +1,6 @@
+pub mod Cells
+pub mod Stores
+pub mod Facts
+pub mod Missing
+pub mod Ranges
+pub mod Same

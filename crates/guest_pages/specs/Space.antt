@@ -1,0 +1,100 @@
+-- What an address space stands for.
+use Rattle.std.specs.Prelude.{◌≡◌, ℕ, ◌/◌, ◌%◌, ◌<◌, ◌≤◌, Bool, true, false, if◌then◌else◌, List, length, Option, Some, None, IfSome, is_some, IsTrue, slice_index}
+use Rattle.std.specs.Option.{option_map}
+use Rattle.std.specs.Ordering.{nat_cmp}
+use Rattle.std.specs.Map.{lookup, keys_of}
+use Rattle.std.specs.BTreeMap.{is_at}
+use Rattle.std.specs.List.Sorted.{IsStrictlySortedBy}
+use Rattle.std.specs.Int.{w8, w16, w32, from_le_bytes}
+use Rattle.rrv_model.specs.Memory.{Memory, Cell, readable, writable, executable, all_cells, can_read, can_write, can_execute, bytes_at, page_bytes}
+use Rattle.rrv_model.specs.Step.{word_at}
+use Rattle.guest_pages.specs.declared.page.Page.{Page}
+use Rattle.guest_pages.specs.declared.page.Access.{Access}
+use Rattle.guest_pages.specs.declared.page.Access.TheVariants as accesses
+use Rattle.guest_pages.specs.declared.fault.PageFault.{PageFault}
+use Rattle.guest_pages.specs.declared.fault.PageFault.TheVariants as faults
+
+-- a space as contracts see it
+pub record SpaceValue : Type 0 where
+  -- by rising number
+  pub pages : List (ℕ × Page)
+
+abbrev pub page_at : List (ℕ × Page) → ℕ → Option Page
+page_at pages n = lookup (is_at (nat_cmp n)) pages
+
+abbrev pub cell_in : ℕ → Page → Cell
+cell_in at p = record { byte = slice_index p.bytes.value at; permissions = p.permissions }
+
+-- the memory that pages stand for
+unfoldable pub memory_in : List (ℕ × Page) → Memory
+memory_in pages a = option_map (cell_in (a % page_bytes)) (page_at pages (a / page_bytes))
+
+-- the memory that a space stands for
+abbrev pub memory_of : SpaceValue → Memory
+memory_of s = memory_in s.pages
+
+-- ---- what holds of every space
+
+-- a page n that may be mapped
+pub record IsPage (n : ℕ) (p : Page) : Type 0 where
+  pub low : 1 ≤ n
+  pub high : n < 0x80000
+  pub full : length p.bytes.value ≡ page_bytes
+  pub bytes : (k : ℕ) → slice_index p.bytes.value k < 256
+  pub readable : IsTrue p.permissions.write → IsTrue p.permissions.read
+
+pub record ArePages (pages : List (ℕ × Page)) : Type 0 where
+  pub ordered : IsStrictlySortedBy nat_cmp (keys_of pages)
+  pub each : (n : ℕ) → IfSome (page_at pages n) (IsPage n)
+  pub limit : length pages ≤ 16_384
+
+-- ---- what is loaded
+
+-- the byte of a cell that passes the test
+abbrev pub cell_byte : (Option Cell → Bool) → Option Cell → Option ℕ
+cell_byte test None = None
+cell_byte test (Some c) = if test (Some c) then Some c.byte else None
+
+abbrev pub fetched_word : Memory → ℕ → Option ℕ
+fetched_word m a = if executable m a 4 then Some (word_at m a) else None
+
+abbrev pub loaded_byte : Memory → ℕ → Option ℕ
+loaded_byte m a = if readable m a 1 then Some (from_le_bytes w8 (bytes_at m a 1)) else None
+
+abbrev pub loaded_half : Memory → ℕ → Option ℕ
+loaded_half m a = if readable m a 2 then Some (from_le_bytes w16 (bytes_at m a 2)) else None
+
+abbrev pub loaded_word : Memory → ℕ → Option ℕ
+loaded_word m a = if readable m a 4 then Some (from_le_bytes w32 (bytes_at m a 4)) else None
+
+-- ---- tests
+
+-- a test of the permissions of a page, if it is there
+abbrev pub page_passes : (Option Cell → Bool) → Option Page → Bool
+page_passes test p = test (option_map (cell_in 0) p)
+
+abbrev pub test_of : Access → Option Cell → Bool
+test_of accesses.Presence = is_some
+test_of accesses.Read = can_read
+test_of accesses.Write = can_write
+test_of accesses.Execute = can_execute
+
+-- ---- refusals
+
+-- count bytes from a are there
+abbrev pub present : Memory → ℕ → ℕ → Bool
+present m a count = all_cells is_some m a count
+
+-- a store of count bytes from a is refused so: the first refusal that applies to any byte
+abbrev pub IsStoreRefusal : Memory → ℕ → ℕ → PageFault → Type 0
+IsStoreRefusal m a count faults.NotMapped = (present m a count ≡ false) × (writable m a count ≡ false)
+IsStoreRefusal m a count faults.NotAllowed = (present m a count ≡ true) × (writable m a count ≡ false)
+IsStoreRefusal m a count faults.TooManyPages = ⊥
+IsStoreRefusal m a count faults.Memory = Unit {0}
+
+-- so is a load, which takes no memory
+abbrev pub IsLoadRefusal : Memory → ℕ → ℕ → PageFault → Type 0
+IsLoadRefusal m a count faults.NotMapped = (present m a count ≡ false) × (readable m a count ≡ false)
+IsLoadRefusal m a count faults.NotAllowed = (present m a count ≡ true) × (readable m a count ≡ false)
+IsLoadRefusal m a count faults.TooManyPages = ⊥
+IsLoadRefusal m a count faults.Memory = ⊥

@@ -1,0 +1,20 @@
+//! Why an address space refuses.
+
+use thiserror::Error;
+
+/// Why a call on an address space was refused: the first of these that applies to any byte. All is then as before.
+#[derive(Clone, Copy, Debug, PartialEq, Eq, Error)]
+pub enum PageFault {
+    /// A byte isn't there.
+    #[error("not mapped")]
+    NotMapped,
+    /// The permissions of a byte forbid it.
+    #[error("not allowed")]
+    NotAllowed,
+    /// More pages would be mapped than a guest may have.
+    #[error("too many pages")]
+    TooManyPages,
+    /// A growth was refused.
+    #[error("out of memory")]
+    Memory,
+}

@@ -1,0 +1,299 @@
+//! The steps of a mapping, over the pages by their number.
+
+ghost use Rattle.std.specs.Prelude.{◌≡◌, ℕ, ◌+◌, ◌<◌, ◌≤◌, ◌^◌, IfOk, OnOk, OnErr, IsSome, IsSomeAnd, IfSome, IfNone, Some, None, true, false, length, slice_index, ◌≢◌};
+ghost use Rattle.std.specs.Ordering.{nat_cmp};
+ghost use Rattle.std.specs.Map.{keys_of};
+ghost use Rattle.std.specs.List.Sorted.{IsStrictlySortedBy};
+ghost use Rattle.rrv_model.specs.Memory.{all_mapped, is_mapped};
+ghost use Rattle.guest_pages.specs.Space.{memory_in, page_at};
+ghost use Rattle.guest_pages.specs.Mapping.{missing, has_number, union, AreProtected, IsClear, IsJoined, SamePage};
+ghost use Rattle.guest_pages.specs.declared.page.Page.{Page};
+
+use crate::page::Page;
+use rrv_model::machine::Permissions;
+use std::alloc::{AllocError, Global};
+use std::collections::BTreeMap;
+
+/// A page of zeros.
+pub(crate) fn clear_page(alloc: Global, permissions: Permissions) -> Result<Page, AllocError>
+    ensures { IfOk result (IsClear permissions) }
+{
+    let bytes = Box::new(alloc, [0; 4096])?;
+    Ok(Page { permissions, bytes })
+}
+
+/// How many of some pages aren't there.
+#[tactic(auto, using(crate::proofs::Missing::missing_more, crate::proofs::Missing::missing_none))]
+pub(crate) fn count_missing(pages: &BTreeMap<u32, Page>, first: u32, count: u32) -> u32
+    requires { first + count < 2 ^ 32 }
+    ensures { result ≡ length (missing pages.now.entries first count) }
+{
+    let mut missing = 0;
+    for number in first..first + count {
+        if pages.contains_key(&number) {
+            continue;
+        }
+        missing += 1;
+    }
+    missing
+}
+
+/// The numbers of the pages that aren't there, rising.
+#[tactic(auto, using(crate::proofs::Missing::missing_more, crate::proofs::Missing::missing_none))]
+pub(crate) fn list_missing(
+    alloc: Global,
+    pages: &BTreeMap<u32, Page>,
+    first: u32,
+    count: u32,
+) -> Result<Vec<u32>, AllocError>
+    requires { first + count < 2 ^ 32 }
+    ensures { IfOk result (λ numbers. numbers.items ≡ missing pages.now.entries first count) }
+{
+    let mut numbers = Vec::new(alloc);
+    for number in first..first + count {
+        if pages.contains_key(&number) {
+            continue;
+        }
+        numbers.push(number)?;
+    }
+    Ok(numbers)
+}
+
+/// Adds pages of zeros that aren't there: all or none.
+pub(crate) fn add_pages(
+    alloc: Global,
+    pages: &mut BTreeMap<u32, Page>,
+    numbers: &[u32],
+    permissions: Permissions,
+) -> Result<(), AllocError>
+    requires absent { (q : ℕ) → has_number numbers.now q ≡ true → page_at pages.old.entries q ≡ None }
+    requires ordered { IsStrictlySortedBy nat_cmp (keys_of pages.old.entries) }
+    ensures added { OnOk result ((q : ℕ) → has_number numbers.now q ≡ true → IsSome (page_at pages.new.entries q)) }
+    ensures kept { OnOk result ((q : ℕ) → has_number numbers.now q ≡ false → page_at pages.new.entries q ≡ page_at pages.old.entries q) }
+    ensures ordered { IsStrictlySortedBy nat_cmp (keys_of pages.new.entries) }
+    ensures err { OnErr result (pages.new.entries ≡ pages.old.entries) }
+{
+    for number in numbers {
+        match add_page(alloc, pages, *number, permissions) {
+            Ok(()) => {}
+            Err(error) => {
+                remove_pages(pages, numbers);
+                return Err(error);
+            }
+        }
+    }
+    Ok(())
+}
+
+/// Puts a page of zeros at a number.
+pub(crate) fn add_page(
+    alloc: Global,
+    pages: &mut BTreeMap<u32, Page>,
+    number: u32,
+    permissions: Permissions,
+) -> Result<(), AllocError>
+    ensures here { OnOk result (IsSomeAnd (page_at pages.new.entries number) (IsClear permissions)) }
+    ensures others { (q : ℕ) → q ≢ number → page_at pages.new.entries q ≡ page_at pages.old.entries q }
+    ensures ordered { OnOk result (IsStrictlySortedBy nat_cmp (keys_of pages.new.entries)) }
+    ensures err { OnErr result (pages.new.entries ≡ pages.old.entries) }
+{
+    let page = clear_page(alloc, permissions)?;
+    pages.insert(number, page)?;
+    Ok(())
+}
+
+/// Takes pages away.
+fn remove_pages(pages: &mut BTreeMap<u32, Page>, numbers: &[u32])
+    requires { IsStrictlySortedBy nat_cmp (keys_of pages.old.entries) }
+    ensures removed { (q : ℕ) → has_number numbers.now q ≡ true → page_at pages.new.entries q ≡ None }
+    ensures kept { (q : ℕ) → has_number numbers.now q ≡ false → page_at pages.new.entries q ≡ page_at pages.old.entries q }
+    ensures ordered { IsStrictlySortedBy nat_cmp (keys_of pages.new.entries) }
+{
+    for number in numbers {
+        let _ = pages.remove(number);
+    }
+}
+
+/// Fills the pages of a range that are there with zeros, and sets their permissions.
+pub(crate) fn clear_pages(
+    pages: &mut BTreeMap<u32, Page>,
+    first: u32,
+    count: u32,
+    permissions: Permissions,
+)
+    requires low { first + count < 2 ^ 32 }
+    requires ordered { IsStrictlySortedBy nat_cmp (keys_of pages.old.entries) }
+    ensures cleared { (q : ℕ) → first ≤ q → q < first + count → IsSome (page_at pages.old.entries q) → IsSomeAnd (page_at pages.new.entries q) (IsClear permissions) }
+    ensures below { (q : ℕ) → q < first → page_at pages.new.entries q ≡ page_at pages.old.entries q }
+    ensures above { (q : ℕ) → first + count ≤ q → page_at pages.new.entries q ≡ page_at pages.old.entries q }
+    ensures ordered { IsStrictlySortedBy nat_cmp (keys_of pages.new.entries) }
+{
+    for number in first..first + count {
+        clear_number(pages, number, permissions);
+    }
+}
+
+fn clear_number(pages: &mut BTreeMap<u32, Page>, number: u32, permissions: Permissions)
+    requires { IsStrictlySortedBy nat_cmp (keys_of pages.old.entries) }
+    ensures here { IsSome (page_at pages.old.entries number) → IsSomeAnd (page_at pages.new.entries number) (IsClear permissions) }
+    ensures others { (q : ℕ) → q ≢ number → page_at pages.new.entries q ≡ page_at pages.old.entries q }
+    ensures ordered { IsStrictlySortedBy nat_cmp (keys_of pages.new.entries) }
+{
+    if let Some(page) = pages.get_mut(&number) {
+        page.permissions = permissions;
+        clear_bytes(&mut page.bytes);
+    }
+}
+
+fn clear_bytes(bytes: &mut [u8; 4096])
+    ensures full { length bytes.new ≡ 4096 }
+    ensures zeros { (k : ℕ) → slice_index bytes.new k ≡ 0 }
+{
+    bytes.fill(0);
+}
+
+/// Adds permissions to a page that is there.
+pub(crate) fn join_permissions(
+    pages: &mut BTreeMap<u32, Page>,
+    number: u32,
+    permissions: Permissions,
+)
+    requires { IsStrictlySortedBy nat_cmp (keys_of pages.old.entries) }
+    ensures here { (p : Page) → page_at pages.old.entries number ≡ Some p → IsSomeAnd (page_at pages.new.entries number) (IsJoined permissions p) }
+    ensures others { (q : ℕ) → q ≢ number → page_at pages.new.entries q ≡ page_at pages.old.entries q }
+    ensures ordered { IsStrictlySortedBy nat_cmp (keys_of pages.new.entries) }
+    ensures len { length pages.new.entries ≡ length pages.old.entries }
+{
+    if let Some(page) = pages.get_mut(&number) {
+        page.permissions = union(page.permissions, permissions);
+    }
+}
+
+/// What either allows.
+fn union(first: Permissions, second: Permissions) -> Permissions
+    ensures { result ≡ union first second }
+{
+    Permissions {
+        read: first.read || second.read,
+        write: first.write || second.write,
+        execute: first.execute || second.execute,
+    }
+}
+
+/// Takes the pages of a range away.
+pub(crate) fn remove_range(pages: &mut BTreeMap<u32, Page>, first: u32, count: u32)
+    requires low { first + count < 2 ^ 32 }
+    requires ordered { IsStrictlySortedBy nat_cmp (keys_of pages.old.entries) }
+    ensures removed { (q : ℕ) → first ≤ q → q < first + count → page_at pages.new.entries q ≡ None }
+    ensures below { (q : ℕ) → q < first → page_at pages.new.entries q ≡ page_at pages.old.entries q }
+    ensures above { (q : ℕ) → first + count ≤ q → page_at pages.new.entries q ≡ page_at pages.old.entries q }
+    ensures ordered { IsStrictlySortedBy nat_cmp (keys_of pages.new.entries) }
+    ensures len { length pages.new.entries ≤ length pages.old.entries }
+{
+    for number in first..first + count {
+        remove_number(pages, number);
+    }
+}
+
+fn remove_number(pages: &mut BTreeMap<u32, Page>, number: u32)
+    ensures here { page_at pages.new.entries number ≡ None }
+    ensures others { (q : ℕ) → q ≢ number → page_at pages.new.entries q ≡ page_at pages.old.entries q }
+    ensures ordered { IsStrictlySortedBy nat_cmp (keys_of pages.new.entries) }
+    ensures len { length pages.new.entries ≤ length pages.old.entries }
+{
+    let _ = pages.remove(&number);
+}
+
+/// Sets the permissions of the pages of a range that are there.
+pub(crate) fn protect_range(
+    pages: &mut BTreeMap<u32, Page>,
+    first: u32,
+    count: u32,
+    permissions: Permissions,
+)
+    requires low { first + count < 2 ^ 32 }
+    requires ordered { IsStrictlySortedBy nat_cmp (keys_of pages.old.entries) }
+    ensures protected { (q : ℕ) → first ≤ q → q < first + count → AreProtected permissions (page_at pages.old.entries q) (page_at pages.new.entries q) }
+    ensures below { (q : ℕ) → q < first → page_at pages.new.entries q ≡ page_at pages.old.entries q }
+    ensures above { (q : ℕ) → first + count ≤ q → page_at pages.new.entries q ≡ page_at pages.old.entries q }
+    ensures ordered { IsStrictlySortedBy nat_cmp (keys_of pages.new.entries) }
+    ensures len { length pages.new.entries ≡ length pages.old.entries }
+{
+    for number in first..first + count {
+        protect_number(pages, number, permissions);
+    }
+}
+
+fn protect_number(pages: &mut BTreeMap<u32, Page>, number: u32, permissions: Permissions)
+    requires { IsStrictlySortedBy nat_cmp (keys_of pages.old.entries) }
+    ensures here { AreProtected permissions (page_at pages.old.entries number) (page_at pages.new.entries number) }
+    ensures others { (q : ℕ) → q ≢ number → page_at pages.new.entries q ≡ page_at pages.old.entries q }
+    ensures ordered { IsStrictlySortedBy nat_cmp (keys_of pages.new.entries) }
+    ensures len { length pages.new.entries ≡ length pages.old.entries }
+{
+    if let Some(page) = pages.get_mut(&number) {
+        page.permissions = permissions;
+    }
+}
+
+/// Whether all pages of a range are there.
+#[tactic(auto, unfolding(rrv_model::specs::Memory::all_mapped), using(crate::proofs::Ranges::one_absent, crate::proofs::Ranges::all_mapped_more))]
+pub(crate) fn all_there(pages: &BTreeMap<u32, Page>, first: u32, count: u32) -> bool
+    requires { first + count < 2 ^ 32 }
+    ensures { result ≡ all_mapped (memory_in pages.now.entries) first count }
+{
+    for number in first..first + count {
+        if !pages.contains_key(&number) {
+            return false;
+        }
+    }
+    true
+}
+
+/// The least page of a range that is there.
+#[tactic(auto, using(crate::proofs::Facts::is_mapped_in))]
+pub(crate) fn first_there(pages: &BTreeMap<u32, Page>, first: u32, count: u32) -> Option<u32>
+    requires { first + count < 2 ^ 32 }
+    ensures some { IfSome result (λ number. (first ≤ number) × (number < first + count) × (is_mapped (memory_in pages.now.entries) number ≡ true)) }
+    ensures none { IfNone result ((q : ℕ) → first ≤ q → q < first + count → is_mapped (memory_in pages.now.entries) q ≡ false) }
+{
+    for number in first..first + count {
+        if pages.contains_key(&number) {
+            return Some(number);
+        }
+    }
+    None
+}
+
+/// Whether two maps have the same pages.
+pub(crate) fn same_pages(pages: &BTreeMap<u32, Page>, others: &BTreeMap<u32, Page>) -> bool
+    ensures all { result ≡ true → (q : ℕ) → q < 0x80000 → SamePage (page_at pages.now.entries q) (page_at others.now.entries q) }
+    ensures one { result ≡ false → (q : ℕ) × (SamePage (page_at pages.now.entries q) (page_at others.now.entries q) → ⊥) }
+{
+    for number in 0..0x80000 {
+        if !same_at(pages, others, number) {
+            return false;
+        }
+    }
+    true
+}
+
+fn same_at(pages: &BTreeMap<u32, Page>, others: &BTreeMap<u32, Page>, number: u32) -> bool
+    ensures same { result ≡ true → SamePage (page_at pages.now.entries number) (page_at others.now.entries number) }
+    ensures differ { result ≡ false → SamePage (page_at pages.now.entries number) (page_at others.now.entries number) → ⊥ }
+{
+    let Some(page) = pages.get(&number) else {
+        return !others.contains_key(&number);
+    };
+    let Some(other) = others.get(&number) else {
+        return false;
+    };
+    page.permissions == other.permissions && same_bytes(&page.bytes, &other.bytes)
+}
+
+fn same_bytes(bytes: &[u8; 4096], others: &[u8; 4096]) -> bool
+    ensures same { result ≡ true → bytes.now ≡ others.now }
+    ensures differ { result ≡ false → bytes.now ≡ others.now → ⊥ }
+{
+    bytes.as_slice() == others.as_slice()
+}
