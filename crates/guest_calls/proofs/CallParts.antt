@@ -1,0 +1,184 @@
+-- What calls leave, put together from their parts.
+use Rattle.std.proofs.Common.{◌≡◌, ℕ, ◌^◌, ◌<◌, ◌≤◌, ◌≢◌, Bool, true, false, cond, nat_eq, List, [], ◌∷◌, All, lit<, take, filter, find, fold, Option, Some, None, Result, Ok, Err, IfOk, refl, sym, ◌∙◌, ap, subst, arith}
+use Rattle.std.proofs.lemmas.Bool.Decides.{nat_tests}
+use Rattle.std.proofs.lemmas.List.Elements.{All-cons}
+use Rattle.std.specs.FinMap.{remove, len}
+use Rattle.rrv_model.specs.declared.machine.Thread.{Thread}
+use Rattle.rrv_model.specs.declared.record.Written.{Written}
+use Rattle.rrv_model.specs.declared.record.CallRecord.{CallRecord}
+use Rattle.rrv_model.specs.Memory.{Memory, stored, bytes_at}
+use Rattle.rrv_model.specs.State.{State, thread_at, register}
+use Rattle.rrv_model.specs.CallRows.{answers, change_thread, range, with_memory, waits_at, waiters, woken, wakes, leaves, ends, clears, Row, Answers, NoResult, Call, row_of, call_of, write_row, exit_row, exit_group_row, set_tid_address_row, fails, argument}
+use Rattle.rrv_model.specs.Calls.{Silence, write_all, writes, results, call_row, carried_out}
+use Rattle.rrv_model.specs.RecordText.{HasCallText}
+use Rattle.rrv_model.specs.Output.{put_out}
+use Rattle.guest_calls.specs.declared.syscall.Syscall.{Syscall}
+use Rattle.guest_calls.specs.declared.syscall.Syscall.TheVariants as syscalls
+use Rattle.guest_calls.specs.Carries.{Carries, IsNumber}
+
+-- ---- records
+
+no_writes : (s : State) → writes [] s ≡ s
+unfolding write_all
+no_writes s = refl
+
+-- a call that answers and writes nothing
+pub carries_answer : (value : ℕ) (change : State → State) (tid : ℕ) (old mid new : State) (r : CallRecord) →
+    r ≡ record { result = value; written = [] } → mid ≡ change old → new ≡ results tid value mid → Carries (Answers value [] change) tid old r new
+carries_answer value change tid old mid new r is m n = record {
+  answer = Silence;
+  records = is;
+  leaves = n ∙ ap (results tid value) (m ∙ sym (no_writes (change old)))
+      ∙ ap (λ (r : CallRecord). results tid r.result (writes r.written (change old))) (sym is);
+}
+
+-- a call without a result that writes nothing
+pub carries_end : (change : State → State) (tid : ℕ) (old new : State) (r : CallRecord) →
+    r ≡ record { result = 0; written = [] } → new ≡ change old → Carries (NoResult [] change) tid old r new
+carries_end change tid old new r is n = record {
+  answer = Silence;
+  records = is;
+  leaves = n ∙ sym (no_writes (change old)) ∙ ap (λ (r : CallRecord). writes r.written (change old)) (sym is);
+}
+
+-- ---- waiters
+
+listed : Option ℕ → List ℕ
+listed None = []
+listed (Some x) = x ∷ []
+
+first_kept : (p : ℕ → Bool) (xs : List ℕ) → take 1 (filter p xs) ≡ listed (find p xs)
+unfolding listed
+first_kept p [] = refl
+first_kept p (x ∷ xs) = elim (p x) as (λ b. take 1 (cond b (x ∷ filter p xs) (filter p xs)) ≡ listed (cond b (Some x) (find p xs))) [
+  | true ↦ refl
+  | false ↦ first_kept p xs
+]
+
+pub wakes_none : (a : ℕ) (s : State) → find (waits_at s a) s.waiting ≡ None → wakes a 1 s ≡ s
+unfolding listed
+wakes_none a s e = ap (λ (tids : List ℕ). fold woken s tids) (first_kept (waits_at s a) s.waiting ∙ ap listed e)
+
+pub wakes_one : (a tid : ℕ) (s : State) → find (waits_at s a) s.waiting ≡ Some tid → wakes a 1 s ≡ woken s tid
+unfolding listed
+wakes_one a tid s e = ap (λ (tids : List ℕ). fold woken s tids) (first_kept (waits_at s a) s.waiting ∙ ap listed e)
+
+-- ---- memory, beside the rest
+
+change_memory : (tid : ℕ) (change : Thread → Thread) (m : Memory) (s : State) (o : Option Thread) → thread_at s tid ≡ o →
+    change_thread tid change (with_memory m s) ≡ with_memory m (change_thread tid change s)
+change_memory tid change m s None e = rw e refl
+change_memory tid change m s (Some t) e = rw e refl
+
+woken_memory : (tid : ℕ) (m : Memory) (s : State) → woken (with_memory m s) tid ≡ with_memory m (woken s tid)
+woken_memory tid m s = change_memory tid _ m _ _ refl
+
+all_woken_memory : (tids : List ℕ) (m : Memory) (s : State) → fold woken (with_memory m s) tids ≡ with_memory m (fold woken s tids)
+all_woken_memory [] m s = refl
+all_woken_memory (tid ∷ tids) m s = ap (λ (s : State). fold woken s tids) (woken_memory tid m s) ∙ all_woken_memory tids m (woken s tid)
+
+leaves_memory : (tid status : ℕ) (m : Memory) (s : State) → leaves tid status (with_memory m s) ≡ with_memory m (leaves tid status s)
+leaves_memory tid status m s = either (nat_eq (len (remove s.threads tid)) 0) (ends status (record s { threads = remove s.threads tid })) (record s { threads = remove s.threads tid }) m where
+  either : (b : Bool) (x y : State) (m : Memory) → cond b (with_memory m x) (with_memory m y) ≡ with_memory m (cond b x y)
+  either true x y m = refl
+  either false x y m = refl
+
+-- a word is cleared before the threads change
+pub cleared_first : (a tid status : ℕ) (m : Memory) (s : State) → leaves tid status (wakes a 1 (with_memory m s)) ≡ with_memory m (leaves tid status (wakes a 1 s))
+cleared_first a tid status m s = ap (leaves tid status) (all_woken_memory (waiters s a 1) m s) ∙ leaves_memory tid status m (wakes a 1 s)
+
+-- an exit that clears a word
+pub carries_clearing : (a tid status : ℕ) (bytes : List ℕ) (old mid new : State) (r : CallRecord) →
+    r ≡ record { result = 0; written = record { address = a; bytes = bytes } ∷ [] } → mid ≡ with_memory (stored a bytes old.memory) old →
+    new ≡ leaves tid status (wakes a 1 mid) → (leaves tid status (wakes a 1 old)).memory ≡ old.memory →
+    Carries (NoResult (record { address = a; bytes = bytes } ∷ []) (λ s. leaves tid status (wakes a 1 s))) tid old r new
+unfolding write_all
+carries_clearing a tid status bytes old mid new r is m n kept = record {
+  answer = Silence;
+  records = is;
+  leaves = n ∙ ap (λ (s : State). leaves tid status (wakes a 1 s)) m ∙ cleared_first a tid status (stored a bytes old.memory) old
+      ∙ ap (λ (memory : Memory). with_memory (stored a bytes memory) (leaves tid status (wakes a 1 old))) (sym kept)
+      ∙ ap (λ (r : CallRecord). writes r.written (leaves tid status (wakes a 1 old))) (sym is);
+}
+
+-- ---- rows by number
+
+abbrev pub row_for : Syscall → ℕ → State → Thread → Row
+row_for syscalls.Write tid s t = write_row s t
+row_for syscalls.Exit tid s t = exit_row tid s t
+row_for syscalls.ExitGroup tid s t = exit_group_row t
+row_for syscalls.SetTidAddress tid s t = set_tid_address_row tid t
+row_for syscalls.SchedYield tid s t = answers 0
+row_for syscalls.Getpid tid s t = answers 1
+row_for syscalls.Gettid tid s t = answers tid
+row_for syscalls.Other tid s t = fails 38
+
+abbrev row_at : ℕ → ℕ → State → Thread → Row
+row_at n tid s t = row_of (carried_out (call_of n)) tid s t
+
+row_is : (sys : Syscall) (n tid : ℕ) (s : State) (t : Thread) → IsNumber sys n → row_for sys tid s t ≡ row_at n tid s t
+unfolding row_of
+row_is syscalls.Write n tid s t e = ap (λ n. row_at n tid s t) (sym e)
+row_is syscalls.Exit n tid s t e = ap (λ n. row_at n tid s t) (sym e)
+row_is syscalls.ExitGroup n tid s t e = ap (λ n. row_at n tid s t) (sym e)
+row_is syscalls.SetTidAddress n tid s t e = ap (λ n. row_at n tid s t) (sym e)
+row_is syscalls.SchedYield n tid s t e = ap (λ n. row_at n tid s t) (sym e)
+row_is syscalls.Getpid n tid s t e = ap (λ n. row_at n tid s t) (sym e)
+row_is syscalls.Gettid n tid s t e = ap (λ n. row_at n tid s t) (sym e)
+row_is syscalls.Other n tid s t e = ap (λ (call : Call). row_of call tid s t) (sym e)
+
+pub carries_at : (sys : Syscall) (tid : ℕ) (s : State) (t : Thread) (r : CallRecord) (new : State) → IsNumber sys (register t.regs 17) →
+    Carries (row_for sys tid s t) tid s r new → Carries (call_row s tid t) tid s r new
+carries_at sys tid s t r new e p = subst (λ (row : Row). Carries row tid s r new) (row_is sys (register t.regs 17) tid s t e) p
+
+-- ---- output
+
+pub quiet_number : (m : Memory) (t : Thread) (n count : ℕ) → register t.regs 17 ≡ n → n ≢ 64 → n ≢ 66 → [] ≡ put_out m t count
+quiet_number m t n count e a b = grind (arith, nat_tests)
+
+pub quiet_count : (m : Memory) (t : Thread) (count : ℕ) → 65_536 < count → [] ≡ put_out m t count
+quiet_count m t count a = grind (arith, nat_tests)
+
+pub quiet_none : (m : Memory) (t : Thread) (count : ℕ) → count ≡ 0 → [] ≡ put_out m t count
+quiet_none m t count a = grind (arith, nat_tests)
+
+pub put_out_write : (m : Memory) (t : Thread) (count : ℕ) → register t.regs 17 ≡ 64 → 0 < count → count ≤ 65_536 →
+    record { descriptor = argument t 0; bytes = bytes_at m (argument t 1) count } ∷ [] ≡ put_out m t count
+put_out_write m t count e a b = grind (arith, nat_tests)
+
+-- the thread that isn't there isn't changed
+pub changed_nowhere : (tid : ℕ) (change : Thread → Thread) (s : State) → thread_at s tid ≡ None → change_thread tid change s ≡ s
+changed_nowhere tid change s none = rw none refl
+
+-- ---- exits
+
+pub memory_kept : (a tid status : ℕ) (s : State) → (leaves tid status (wakes a 1 s)).memory ≡ s.memory
+memory_kept a tid status s = ap (λ (s : State). s.memory) (cleared_first a tid status s.memory s)
+
+pub carries_exit : (tid : ℕ) (s : State) (t : Thread) (r : CallRecord) (new : State) → clears s t ≡ false →
+    Carries (NoResult [] (leaves tid (argument t 0))) tid s r new → Carries (exit_row tid s t) tid s r new
+carries_exit tid s t r new e p =
+    let clearing : Row = NoResult (range t.clear (0 ∷ 0 ∷ 0 ∷ 0 ∷ [])) (λ s. leaves tid (argument t 0) (wakes t.clear 1 s)) in
+    let plain : Row = NoResult [] (leaves tid (argument t 0)) in
+    subst (λ (b : Bool). Carries (cond b clearing plain) tid s r new) (sym e) p
+
+pub IfOk-map : {T E : Type 0} (r : Result T E) (P Q : T → Type 0) → ((x : T) → P x → Q x) → IfOk r P → IfOk r Q
+IfOk-map (Ok x) P Q f p = f x p
+IfOk-map (Err e) P Q f p = tt
+
+-- ---- records that have a text
+
+pub text_none : (value : ℕ) (written : List Written) → value < 2 ^ 32 → written ≡ [] → HasCallText (record { result = value; written = written })
+text_none value written low e =
+    subst (λ (w : List Written). HasCallText (record { result = value; written = w })) (sym e) (record { result = low; two = omega arith; written = tt })
+
+zeros : All (λ b. b < 256) (0 ∷ 0 ∷ 0 ∷ 0 ∷ [])
+zeros =
+    All-cons (λ b. b < 256) 0 (0 ∷ 0 ∷ 0 ∷ []) (lit< tt) (All-cons (λ b. b < 256) 0 (0 ∷ 0 ∷ []) (lit< tt) (All-cons (λ b. b < 256) 0 (0 ∷ []) (lit< tt)
+    (All-cons (λ b. b < 256) 0 [] (lit< tt) (λ k d h. absurd (omega arith)))))
+
+pub text_cleared : (a : ℕ) (written : List Written) → a < 2 ^ 32 → written ≡ range a (0 ∷ 0 ∷ 0 ∷ 0 ∷ []) →
+    HasCallText (record { result = 0; written = written })
+text_cleared a written low e =
+    subst (λ (w : List Written). HasCallText (record { result = 0; written = w })) (sym e)
+    (record { result = omega arith; two = omega arith; written = (record { address = low; some = omega arith; most = omega arith; bytes = zeros }, tt) })

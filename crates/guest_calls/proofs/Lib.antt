@@ -1,0 +1,16 @@
+pub mod ThreadMaps
+pub mod HartSteps
+pub mod Ecalls
+pub mod Lift
+pub mod CallParts
+pub mod RunningTids
+pub mod AcceptedFile
+pub mod ImageLoads
+pub mod ImageParts
+pub mod LoadWalk
+pub mod OpeningMemory
+pub mod OpeningState
+pub mod PageCounts
+pub mod PageWalk
+pub mod StackPlaces
+pub mod StackStores

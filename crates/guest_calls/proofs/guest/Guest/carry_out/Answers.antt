@@ -1,0 +1,49 @@
+use Rattle.std.proofs.Common.{◌≡◌, ◌-◌, ◌^◌, subst, arith}
+use Rattle.rrv_model.specs.CallRows.{answers}
+use Rattle.guest_calls.specs.Carries.{Carries}
+use Rattle.guest_calls.specs.declared.syscall.Syscall.TheVariants as syscalls
+use Rattle.guest_calls.specs.Guest.{state_of}
+use Rattle.guest_calls.proofs.CallParts.{carries_at, IfOk-map}
+use Rattle.guest_calls.proofs.guest.Guest.carry_out.Goals as goal
+
+pub returns-in-Write-clause-carries : goal.returns-in-Write-clause-carries
+returns-in-Write-clause-carries c =
+    let number = rw c.in-Write.is at c.syscall_of.ensures in
+    IfOk-map _ _ _ (λ r p. carries_at syscalls.Write c.args.tid (state_of c.args.self.now) c.args.thread.now r _ number p) c.write.ensures.carries
+
+pub returns-in-Exit-clause-carries : goal.returns-in-Exit-clause-carries
+returns-in-Exit-clause-carries c =
+    let number = rw c.in-Exit.is at c.syscall_of.ensures in
+    IfOk-map _ _ _ (λ r p. carries_at syscalls.Exit c.args.tid (state_of c.args.self.now) c.args.thread.now r _ number p) c.exit.ensures.carries
+
+pub returns-in-ExitGroup-clause-carries : goal.returns-in-ExitGroup-clause-carries
+returns-in-ExitGroup-clause-carries c =
+    let number = rw c.in-ExitGroup.is at c.syscall_of.ensures in
+    carries_at syscalls.ExitGroup c.args.tid (state_of c.args.self.now) c.args.thread.now _ _ number c.exit_group.ensures.carries
+
+pub returns-in-SetTidAddress-clause-carries : goal.returns-in-SetTidAddress-clause-carries
+returns-in-SetTidAddress-clause-carries c =
+    let number = rw c.in-SetTidAddress.is at c.syscall_of.ensures in
+    carries_at syscalls.SetTidAddress c.args.tid (state_of c.args.self.now) c.args.thread.now _ _ number c.set_tid_address.ensures.carries
+
+pub returns-in-SchedYield-clause-carries : goal.returns-in-SchedYield-clause-carries
+returns-in-SchedYield-clause-carries c =
+    let number = rw c.in-SchedYield.is at c.syscall_of.ensures in
+    carries_at syscalls.SchedYield c.args.tid (state_of c.args.self.now) c.args.thread.now _ _ number c.answer.ensures.carries
+
+pub returns-in-Getpid-clause-carries : goal.returns-in-Getpid-clause-carries
+returns-in-Getpid-clause-carries c =
+    let number = rw c.in-Getpid.is at c.syscall_of.ensures in
+    carries_at syscalls.Getpid c.args.tid (state_of c.args.self.now) c.args.thread.now _ _ number c.answer-in-Getpid.ensures.carries
+
+pub returns-in-Gettid-clause-carries : goal.returns-in-Gettid-clause-carries
+returns-in-Gettid-clause-carries c =
+    let number = rw c.in-Gettid.is at c.syscall_of.ensures in
+    carries_at syscalls.Gettid c.args.tid (state_of c.args.self.now) c.args.thread.now _ _ number c.answer-in-Gettid.ensures.carries
+
+pub returns-in-Other-clause-carries : goal.returns-in-Other-clause-carries
+returns-in-Other-clause-carries c =
+    let number = rw c.in-Other.is at c.syscall_of.ensures in
+    let value : c.failure.result ≡ 2 ^ 32 - 38 = omega (arith, c.failure.ensures) in
+    carries_at syscalls.Other c.args.tid (state_of c.args.self.now) c.args.thread.now _ _ number
+    (subst (λ n. Carries (answers n) c.args.tid (state_of c.args.self.now) c.answer-in-Other.result (state_of c.answer-in-Other.new.self)) value c.answer-in-Other.ensures.carries)

@@ -1,0 +1,19 @@
+use Rattle.std.proofs.Common.{◌↔◌, ℕ, List, Contains, sym, subst}
+use Rattle.std.specs.FinMap.{get}
+use Rattle.std.specs.List.Sorted.{IsStrictlyIncreasing}
+use Rattle.rrv_model.specs.declared.machine.Thread.{Thread}
+use Rattle.rrv_model.specs.State.{IsRunning}
+use Rattle.guest_calls.specs.Threads.{thread_map, running_in}
+use Rattle.guest_calls.proofs.RunningTids.{rising, which}
+use Rattle.guest_calls.proofs.threads.Threads.running.Goals as goal
+
+pub returns-clause-rising : goal.returns-clause-rising
+returns-clause-rising c =
+    subst (λ (xs : List ℕ). IsStrictlyIncreasing xs) (sym c.in_ok-tids.ensures) (rising c.self.inside.threads.entries c.len-ordered.ensures.ordered)
+
+pub returns-clause-running : goal.returns-clause-running
+returns-clause-running c = λ tid.
+    let es = c.self.inside.threads.entries in
+    subst (λ (xs : List ℕ). Contains xs tid ↔ IsRunning (get (thread_map c.args.self.now) tid)) (sym c.in_ok-tids.ensures)
+    (subst (λ (now : List (ℕ × Thread)). Contains (running_in es) tid ↔ IsRunning (get (thread_map now) tid)) c.self.view_is
+    (which es c.len-ordered.ensures.ordered tid))

@@ -1,0 +1,6 @@
+pub mod Threads
+pub mod Guest
+pub mod Runs
+pub mod HartRuns
+pub mod Carries
+pub mod Loading

@@ -1,0 +1,34 @@
+-- What the loading of an image does to a memory.
+use Rattle.std.specs.Prelude.{ℕ, true, false, ◌+◌, ◌/◌, ◌<◌, ◌≤◌, ◌||◌, if◌then◌else◌, List, length, take, drop, Some}
+use Rattle.rrv_model.specs.declared.machine.Permissions.{Permissions}
+use Rattle.rrv_model.specs.Memory.{Memory, mapped, page_bytes}
+use Rattle.rrv_model.specs.CallRows.{has_flag}
+use Rattle.rrv_model.specs.Elf.{Header, touches, load_end}
+use Rattle.guest_pages.specs.Mapping.{covered_cell}
+
+-- a load that no test of the loads refuses
+pub record IsLoad (file : List ℕ) (h : Header) : Type 0 where
+  pub in_file : 0 < h.file_len → h.offset + h.file_len ≤ length file
+  pub sizes : h.file_len ≤ h.memory_len
+  pub low : 0 < h.memory_len → 0x1000 ≤ h.address
+  pub high : 0 < h.memory_len → load_end h ≤ 0x70000000
+
+-- what a load's flags allow: X 1, W 2, R 4, and R with W
+abbrev pub load_permissions : Header → Permissions
+load_permissions h = record {
+  read = has_flag h.flags 4 || has_flag h.flags 2;
+  write = has_flag h.flags 2;
+  execute = has_flag h.flags 1;
+}
+
+-- the pages that the load touches are covered by what its flags allow
+abbrev pub covered_load : Header → Memory → Memory
+covered_load h m a = if touches (a / page_bytes) h then Some (covered_cell (load_permissions h) (m a)) else m a
+
+-- the load's bytes in the file
+abbrev pub file_bytes : List ℕ → Header → List ℕ
+file_bytes file h = take h.file_len (drop h.offset file)
+
+-- with the stack's pages
+abbrev pub with_stack : Memory → Memory
+with_stack m = mapped 0x7FF00000 0x100000 (record { read = true; write = true; execute = false }) m

@@ -1,0 +1,247 @@
+//! A guest's calls, a function a row.
+
+ghost use Rattle.std.specs.Prelude.{◌≡◌, [], ◌∷◌, Some, None, MatchOption, IsTrue, IfOk, OnOk, OnErr, length, if◌then◌else◌, ◌==◌, ◌+◌, ◌≤◌, ◌^◌};
+ghost use Rattle.rrv_model.specs.Memory.{writable};
+ghost use Rattle.rrv_model.specs.State.{thread_at, register, IsRunning};
+ghost use Rattle.rrv_model.specs.CallRows.{NoResult, range, answers, leaves, wakes, write_row, exit_row, exit_group_row, set_tid_address_row};
+ghost use Rattle.rrv_model.specs.Calls.{call_row};
+ghost use Rattle.rrv_model.specs.RecordText.{HasCallText};
+ghost use Rattle.rrv_model.specs.Output.{put_out, put_out_by};
+ghost use Rattle.guest_calls.specs.Guest.{state_of, chunks_of};
+ghost use Rattle.guest_calls.specs.Carries.{Carries, CallDoes, CallAsks};
+
+use crate::guest::Guest;
+use crate::outside::Outside;
+use crate::put::Put;
+use crate::syscall::{Syscall, syscall_of};
+use rrv_model::items::Items;
+use rrv_model::limits::MAX_TRANSFER;
+use rrv_model::machine::Thread;
+use rrv_model::record::{CallRecord, Written};
+use rrv_model::refusal::Memory;
+use std::alloc::Global;
+
+/// The numbers of errors (Linux man pages, errno(3)).
+const BAD_DESCRIPTOR: u32 = 9;
+
+const BAD_ADDRESS: u32 = 14;
+
+const NO_SUCH_CALL: u32 = 38;
+
+/// The register that has a call's number, a7.
+const NUMBER: usize = 17;
+
+/// The result of a call that failed.
+fn failure(errno: u32) -> u32
+    requires { 1 ≤ errno }
+    ensures { result + errno ≡ 2 ^ 32 }
+{
+    u32::MAX - errno + 1
+}
+
+/// What a call records that writes one word of zeros.
+fn cleared_word(alloc: Global, address: u32) -> Result<Items<Written>, Memory>
+    ensures { IfOk result (λ written. written ≡ range address (0 ∷ 0 ∷ 0 ∷ 0 ∷ [])) }
+{
+    let bytes = vec![in alloc; 0u8; 4]?;
+    let mut written = Vec::new(alloc);
+    match written.push(Written {
+        address,
+        bytes: Items::from_vec(bytes),
+    }) {
+        Ok(()) => Ok(Items::from_vec(written)),
+        Err(_) => Err(Memory),
+    }
+}
+
+/// What a call puts out; nothing where there is no byte.
+fn put_of(descriptor: u32, bytes: Vec<u8>) -> Option<Put>
+    ensures { chunks_of result
+        ≡ (if length bytes.items == 0 then [] else record { descriptor = descriptor; bytes = bytes.items } ∷ []) }
+{
+    if bytes.is_empty() {
+        return None;
+    }
+    Some(Put {
+        descriptor,
+        bytes: Items::from_vec(bytes),
+    })
+}
+
+impl Guest {
+    /// Makes the call of a running thread, whose `pc` is past its ECALL. Where a growth is refused, all is as before.
+    pub fn call<O: Outside>(
+        &mut self,
+        alloc: Global,
+        tid: u32,
+        outside: &mut O,
+    ) -> Result<CallRecord, Memory>
+        requires running { IsRunning (thread_at (state_of self.old) tid) }
+        requires runs { (state_of self.old).ended ≡ None }
+        ensures calls { IfOk result (λ r. CallDoes (state_of self.old) tid r (state_of self.new)) }
+        ensures text { IfOk result HasCallText }
+        ensures puts { IfOk result (λ r. chunks_of self.new.put
+            ≡ put_out_by (thread_at (state_of self.old) tid) (state_of self.old).memory r.result) }
+        ensures refused { OnErr result (self.new ≡ self.old) }
+        ensures ran { self.new.ran ≡ self.old.ran }
+        ensures unasked { ¬ CallAsks (state_of self.old) tid (thread_at (state_of self.old) tid) → outside.new ≡ outside.old }
+    {
+        let thread = self.running_thread(tid);
+        self.carry_out(alloc, tid, &thread)
+    }
+
+    /// What the last call put out: a descriptor and bytes.
+    pub fn put_out(&self) -> Option<(u32, &[u8])>
+        ensures { MatchOption result (chunks_of self.now.put ≡ [])
+            (λ put. chunks_of self.now.put ≡ record { descriptor = put.0; bytes = put.1.now } ∷ []) }
+    {
+        match &self.put {
+            Some(put) => Some((put.descriptor, put.bytes.as_slice())),
+            None => None,
+        }
+    }
+
+    fn carry_out(&mut self, alloc: Global, tid: u32, thread: &Thread) -> Result<CallRecord, Memory>
+        requires { thread_at (state_of self.old) tid ≡ Some thread.now }
+        ensures carries { IfOk result (λ r.
+            Carries (call_row (state_of self.old) tid thread.now) tid (state_of self.old) r (state_of self.new)) }
+        ensures text { IfOk result HasCallText }
+        ensures puts { IfOk result (λ r. chunks_of self.new.put ≡ put_out (state_of self.old).memory thread.now r.result) }
+        ensures refused { OnErr result (self.new ≡ self.old) }
+        ensures ran { self.new.ran ≡ self.old.ran }
+    {
+        match syscall_of(thread.regs.registers[NUMBER]) {
+            Syscall::Write => self.write(alloc, tid, thread),
+            Syscall::Exit => self.exit(alloc, tid, thread),
+            Syscall::ExitGroup => Ok(self.exit_group(alloc, tid, thread)),
+            Syscall::SetTidAddress => Ok(self.set_tid_address(alloc, tid, thread)),
+            Syscall::SchedYield => Ok(self.answer(alloc, tid, 0)),
+            Syscall::Getpid => Ok(self.answer(alloc, tid, 1)),
+            Syscall::Gettid => Ok(self.answer(alloc, tid, tid)),
+            Syscall::Other => Ok(self.answer(alloc, tid, failure(NO_SUCH_CALL))),
+        }
+    }
+
+    /// Answers a value, and does nothing else.
+    fn answer(&mut self, alloc: Global, tid: u32, value: u32) -> CallRecord
+        ensures carries { Carries (answers value) tid (state_of self.old) result (state_of self.new) }
+        ensures text { HasCallText result }
+        ensures value { result.result ≡ value }
+        ensures put { self.new.put ≡ None }
+        ensures ran { self.new.ran ≡ self.old.ran }
+    {
+        self.set_result(tid, value);
+        self.put = None;
+        CallRecord {
+            result: value,
+            written: Items::from_vec(Vec::new(alloc)),
+        }
+    }
+
+    /// write(fd, buf, len)
+    fn write(&mut self, alloc: Global, tid: u32, thread: &Thread) -> Result<CallRecord, Memory>
+        requires { register thread.now.regs 17 ≡ 64 }
+        ensures carries { IfOk result (λ r.
+            Carries (write_row (state_of self.old) thread.now) tid (state_of self.old) r (state_of self.new)) }
+        ensures text { IfOk result HasCallText }
+        ensures puts { IfOk result (λ r. chunks_of self.new.put ≡ put_out (state_of self.old).memory thread.now r.result) }
+        ensures refused { OnErr result (self.new ≡ self.old) }
+        ensures ran { self.new.ran ≡ self.old.ran }
+    {
+        let descriptor = thread.regs.registers[10];
+        let address = thread.regs.registers[11];
+        let len = thread.regs.registers[12];
+        if descriptor != 1 && descriptor != 2 {
+            return Ok(self.answer(alloc, tid, failure(BAD_DESCRIPTOR)));
+        }
+        let count = len.min(MAX_TRANSFER);
+        let mut bytes = vec![in alloc; 0u8; count as usize]?;
+        if self.space.load(address, bytes.as_mut_slice()).is_err() {
+            return Ok(self.answer(alloc, tid, failure(BAD_ADDRESS)));
+        }
+        let record = self.answer(alloc, tid, count);
+        self.put = put_of(descriptor, bytes);
+        Ok(record)
+    }
+
+    /// exit(status)
+    fn exit(&mut self, alloc: Global, tid: u32, thread: &Thread) -> Result<CallRecord, Memory>
+        ensures carries { IfOk result (λ r.
+            Carries (exit_row tid (state_of self.old) thread.now) tid (state_of self.old) r (state_of self.new)) }
+        ensures value { IfOk result (λ r. r.result ≡ 0) }
+        ensures text { IfOk result HasCallText }
+        ensures put { OnOk result (self.new.put ≡ None) }
+        ensures refused { OnErr result (self.new ≡ self.old) }
+        ensures ran { self.new.ran ≡ self.old.ran }
+    {
+        let status = thread.regs.registers[10];
+        if self.clears(thread) {
+            return self.exit_clearing(alloc, tid, thread.clear, status);
+        }
+        self.leave(tid, status);
+        self.put = None;
+        Ok(CallRecord {
+            result: 0,
+            written: Items::from_vec(Vec::new(alloc)),
+        })
+    }
+
+    /// An exit that clears a word and wakes a thread.
+    fn exit_clearing(
+        &mut self,
+        alloc: Global,
+        tid: u32,
+        clear: u32,
+        status: u32,
+    ) -> Result<CallRecord, Memory>
+        requires { IsTrue (writable (state_of self.old).memory clear 4) }
+        ensures carries { IfOk result (λ r.
+            Carries (NoResult (range clear (0 ∷ 0 ∷ 0 ∷ 0 ∷ [])) (λ s. leaves tid status (wakes clear 1 s)))
+            tid (state_of self.old) r (state_of self.new)) }
+        ensures value { IfOk result (λ r. r.result ≡ 0) }
+        ensures text { IfOk result HasCallText }
+        ensures put { OnOk result (self.new.put ≡ None) }
+        ensures refused { OnErr result (self.new ≡ self.old) }
+        ensures ran { self.new.ran ≡ self.old.ran }
+    {
+        let written = cleared_word(alloc, clear)?;
+        self.clear_word(clear)?;
+        self.wake_first(clear);
+        self.leave(tid, status);
+        self.put = None;
+        Ok(CallRecord { result: 0, written })
+    }
+
+    /// exit_group(status)
+    fn exit_group(&mut self, alloc: Global, tid: u32, thread: &Thread) -> CallRecord
+        ensures carries { Carries (exit_group_row thread.now) tid (state_of self.old) result (state_of self.new) }
+        ensures text { HasCallText result }
+        ensures value { result.result ≡ 0 }
+        ensures put { self.new.put ≡ None }
+        ensures ran { self.new.ran ≡ self.old.ran }
+    {
+        self.end(thread.regs.registers[10]);
+        self.put = None;
+        CallRecord {
+            result: 0,
+            written: Items::from_vec(Vec::new(alloc)),
+        }
+    }
+
+    /// set_tid_address(a)
+    fn set_tid_address(&mut self, alloc: Global, tid: u32, thread: &Thread) -> CallRecord
+        ensures carries { Carries (set_tid_address_row tid thread.now) tid (state_of self.old) result (state_of self.new) }
+        ensures text { HasCallText result }
+        ensures value { result.result ≡ tid }
+        ensures put { self.new.put ≡ None }
+        ensures ran { self.new.ran ≡ self.old.ran }
+    {
+        self.set_clear(tid, thread.regs.registers[10]);
+        self.set_result(tid, tid);
+        self.put = None;
+        CallRecord {
+            result: tid,
+            written: Items::from_vec(Vec::new(alloc)),
+        }
+    }
+}

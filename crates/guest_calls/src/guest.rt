@@ -1,0 +1,150 @@
+//! A guest, and what it tells.
+
+ghost use Rattle.std.specs.Prelude.{◌≡◌, ◌↔◌, ◌≤◌, ℕ, IsTrue, IfOk, Contains, Some, None};
+ghost use Rattle.std.specs.List.Sorted.{IsStrictlyIncreasing};
+ghost use Rattle.rrv_model.specs.State.{thread_at, IsRunning, IsThread};
+ghost use Rattle.guest_pages.specs.Space.{memory_of};
+
+use crate::put::Put;
+use crate::threads::Threads;
+use guest_pages::Space;
+use rrv_model::machine::{GuestEnd, Reservation, Thread};
+use rrv_model::refusal::Memory;
+use std::alloc::Global;
+use std::marker::Model;
+
+/// A guest: its address space, its threads, and what has become of it.
+#[derive(Drop)]
+pub struct Guest {
+    pub(crate) space: Space,
+    pub(crate) threads: Threads,
+    /// The tids of the waiting threads, in the waiting order.
+    pub(crate) waiting: Vec<u32>,
+    pub(crate) next_tid: u32,
+    pub(crate) opening_break: u32,
+    pub(crate) program_break: u32,
+    pub(crate) reservation: Reservation,
+    /// None while the guest runs.
+    pub(crate) ended: Option<GuestEnd>,
+    pub(crate) ran: u64,
+    pub(crate) ran_before_call: u64,
+    pub(crate) put: Option<Put>,
+}
+
+impl Model for Guest {
+    ghost use Rattle.guest_calls.specs.Guest.{GuestValue};
+
+    ghost Value = { GuestValue };
+
+    ghost view = { λ g. record {
+      space = g.space;
+      threads = g.threads;
+      waiting = g.waiting.items;
+      next_tid = g.next_tid;
+      opening_break = g.opening_break;
+      program_break = g.program_break;
+      reservation = g.reservation;
+      ended = g.ended;
+      ran = g.ran;
+      ran_before_call = g.ran_before_call;
+      put = g.put;
+    } };
+
+    ghost use Rattle.std.specs.Prelude.{◌<◌, ◌^◌};
+
+    ghost invariant = { λ g. g.ran < 2 ^ 64 };
+}
+
+impl Guest {
+    ghost use Rattle.guest_calls.specs.Guest.{state_of, closed_by, HasRunning};
+
+    /// How the guest ended; None while it runs.
+    pub fn ended(&self) -> Option<GuestEnd>
+        ensures { result ≡ (state_of self.now).ended }
+    {
+        self.ended
+    }
+
+    /// The instructions run since the guest was opened, up to 2^64 - 1.
+    pub fn ran(&self) -> u64
+        ensures { result ≡ self.now.ran }
+    {
+        self.ran
+    }
+
+    /// The end of the program's data, in bytes.
+    pub fn program_break(&self) -> u32
+        ensures { result ≡ (state_of self.now).program_break }
+    {
+        self.program_break
+    }
+
+    /// The address that an LR of the running slice reserved.
+    pub fn reservation(&self) -> Reservation
+        ensures { result ≡ (state_of self.now).reservation }
+    {
+        self.reservation
+    }
+
+    /// The guest's memory.
+    pub fn space(&self) -> &Space
+        ensures { memory_of result.now ≡ (state_of self.now).memory }
+    {
+        &self.space
+    }
+
+    /// A thread, by its tid.
+    pub fn thread(&self, tid: u32) -> Option<Thread>
+        ensures { result ≡ thread_at (state_of self.now) tid }
+    {
+        self.threads.get(tid)
+    }
+
+    /// Tests whether a thread is there and does not wait.
+    pub fn is_running(&self, tid: u32) -> bool
+        ensures runs { IsTrue result ↔ IsRunning (thread_at (state_of self.now) tid) }
+        ensures tid { IsTrue result → 1 ≤ tid }
+    {
+        match self.threads.get(tid) {
+            Some(thread) => thread.waits_at.is_none(),
+            None => false,
+        }
+    }
+
+    /// Tests whether some thread runs.
+    pub fn has_running(&self) -> bool
+        ensures { IsTrue result ↔ HasRunning (state_of self.now) }
+    {
+        self.threads.any_running()
+    }
+
+    /// The tids of the threads that run, rising.
+    pub fn running(&self, alloc: Global) -> Result<Vec<u32>, Memory>
+        ensures rising { IfOk result (λ tids. IsStrictlyIncreasing tids.items) }
+        ensures running { IfOk result (λ tids. (tid : ℕ) → Contains tids.items tid ↔ IsRunning (thread_at (state_of self.now) tid)) }
+    {
+        self.threads.running(alloc)
+    }
+
+    /// A thread that runs.
+    pub(crate) fn running_thread(&self, tid: u32) -> Thread
+        requires { IsRunning (thread_at (state_of self.now) tid) }
+        ensures there { thread_at (state_of self.now) tid ≡ Some result }
+        ensures running { result.waits_at ≡ None }
+        ensures fits { IsThread result }
+    {
+        self.threads.get(tid).unwrap()
+    }
+
+    /// Ends a slice: the reservation is gone, and the guest has ended where an end is given.
+    pub fn close_slice(&mut self, end: Option<GuestEnd>)
+        ensures state { state_of self.new ≡ closed_by end (state_of self.old) }
+        ensures ran { self.new.ran ≡ self.old.ran }
+        ensures put { self.new.put ≡ self.old.put }
+    {
+        self.reservation = None;
+        if end.is_some() {
+            self.ended = end;
+        }
+    }
+}

@@ -1,0 +1,20 @@
+//! A guest: its opening state, its instructions and its calls.
+#![tactic(auto)]
+
+mod calls;
+mod changes;
+mod guest;
+mod opening;
+mod outside;
+mod put;
+mod run;
+mod steps;
+mod syscall;
+#[cfg(test)]
+mod tests;
+mod threads;
+
+pub use guest::Guest;
+pub use outside::Outside;
+pub use put::Put;
+pub use run::{Run, RunEnd};

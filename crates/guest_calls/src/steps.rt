@@ -1,0 +1,81 @@
+//! A guest's plain steps.
+
+ghost use Rattle.std.specs.Prelude.{◌≡◌, ◌-◌, IfOk, OnOk, OnErr};
+ghost use Rattle.rrv_model.specs.State.{thread_at, IsRunning};
+ghost use Rattle.rrv_model.specs.Step.{ThreadMayTakeMemory};
+ghost use Rattle.guest_calls.specs.Guest.{state_of, counted};
+ghost use Rattle.guest_calls.specs.Runs.{Runs, StepDoes, before_call};
+
+use crate::guest::Guest;
+use crate::run::{Run, RunEnd, run_hart};
+use rrv_model::refusal::Memory;
+use rv_machine::Stepped;
+
+impl Guest {
+    /// Runs up to `limit` instructions of a running thread: it stops behind a call's ECALL, before a fault, and before an
+    /// instruction that finds no memory.
+    pub fn run_thread(&mut self, tid: u32, limit: u32) -> Run
+        requires { IsRunning (thread_at (state_of self.old) tid) }
+        ensures runs { Runs limit tid (state_of self.old) result (state_of self.new) }
+        ensures ran { self.new.ran ≡ counted self.old.ran result.count }
+        ensures ran_before_call { result.end ≡ RunEnd.Call → self.new.ran_before_call ≡ counted self.old.ran (result.count - 1) }
+        ensures put { self.new.put ≡ self.old.put }
+    {
+        let run = self.run_uncounted(tid, limit);
+        if let RunEnd::Call = run.end {
+            self.ran_before_call = self.ran.saturating_add(u64::from(run.count) - 1);
+        }
+        self.ran = self.ran.saturating_add(u64::from(run.count));
+        run
+    }
+
+    fn run_uncounted(&mut self, tid: u32, limit: u32) -> Run
+        requires { IsRunning (thread_at (state_of self.old) tid) }
+        ensures runs { Runs limit tid (state_of self.old) result (state_of self.new) }
+        ensures ran { self.new.ran ≡ self.old.ran }
+        ensures put { self.new.put ≡ self.old.put }
+    {
+        let mut thread = self.running_thread(tid);
+        let run = run_hart(
+            &mut thread.regs,
+            &mut self.space,
+            &mut self.reservation,
+            limit,
+        );
+        self.threads.set(tid, thread);
+        run
+    }
+
+    /// Runs one instruction of a running thread. Where it finds no memory, all is as before.
+    pub fn step_thread(&mut self, tid: u32) -> Result<Stepped, Memory>
+        requires { IsRunning (thread_at (state_of self.old) tid) }
+        ensures step { IfOk result (λ stepped. StepDoes stepped tid (state_of self.old) (state_of self.new)) }
+        ensures ran { OnOk result (self.new.ran ≡ counted self.old.ran 1) }
+        ensures refused { OnErr result (state_of self.new ≡ state_of self.old) }
+        ensures refused_ran { OnErr result (self.new.ran ≡ self.old.ran) }
+        ensures takes { OnErr result (ThreadMayTakeMemory (state_of self.old) tid) }
+        ensures put { self.new.put ≡ self.old.put }
+    {
+        let _ran = self.ran;
+        let run = self.run_thread(tid, 1);
+        match run.end {
+            RunEnd::Limit => Ok(Stepped::Next),
+            RunEnd::Call => Ok(Stepped::Call),
+            RunEnd::Fault(kind) => Ok(Stepped::Fault(kind)),
+            RunEnd::Memory => Err(Memory),
+        }
+    }
+
+    /// Straight after a call that found no memory: the thread stands at its ECALL again, which is not counted.
+    pub fn take_back(&mut self, tid: u32)
+        requires { IsRunning (thread_at (state_of self.old) tid) }
+        ensures state { state_of self.new ≡ before_call tid (state_of self.old) }
+        ensures ran { self.new.ran ≡ self.old.ran_before_call }
+        ensures put { self.new.put ≡ self.old.put }
+    {
+        let mut thread = self.running_thread(tid);
+        thread.regs.pc = thread.regs.pc.wrapping_sub(4);
+        self.threads.set(tid, thread);
+        self.ran = self.ran_before_call;
+    }
+}

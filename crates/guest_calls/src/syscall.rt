@@ -1,0 +1,32 @@
+//! The calls that are carried out, by their numbers.
+
+ghost use Rattle.guest_calls.specs.Carries.{IsNumber};
+
+/// A call that is carried out, or any other, which is refused.
+#[derive(Clone, Copy, Debug, PartialEq, Eq)]
+pub(crate) enum Syscall {
+    Write,
+    Exit,
+    ExitGroup,
+    SetTidAddress,
+    SchedYield,
+    Getpid,
+    Gettid,
+    Other,
+}
+
+/// The call with a number.
+pub(crate) fn syscall_of(number: u32) -> Syscall
+    ensures { IsNumber result number }
+{
+    match number {
+        64 => Syscall::Write,
+        93 => Syscall::Exit,
+        94 => Syscall::ExitGroup,
+        96 => Syscall::SetTidAddress,
+        124 => Syscall::SchedYield,
+        172 => Syscall::Getpid,
+        178 => Syscall::Gettid,
+        _ => Syscall::Other,
+    }
+}

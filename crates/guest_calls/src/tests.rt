@@ -1,0 +1,158 @@
+//! Small guests, each up to its first call. Results are negated errno values of Linux (man pages, errno(3)).
+
+use crate::guest::Guest;
+use crate::outside::Outside;
+use crate::run::RunEnd;
+use elf_load::image::parse;
+use rrv_model::machine::GuestEnd;
+use std::alloc::Global;
+use std::process::Abort;
+use std::test::Fail;
+
+/// An ELF header and one program header, for a file of 116 bytes that is loaded at 0x10000 and starts behind them.
+const HEADERS: [u8; 84] = [
+    0x7F, 0x45, 0x4C, 0x46, 1, 1, 1, 0, 0, 0, 0, 0, 0, 0, 0, 0, // identification
+    2, 0, 0xF3, 0, 1, 0, 0, 0, // type, machine, version
+    0x54, 0, 1, 0, 52, 0, 0, 0, 0, 0, 0, 0, // entry, e_phoff, e_shoff
+    0, 0, 0, 0, 52, 0, 32, 0, 1, 0, 0, 0, 0, 0, 0, 0, // flags, sizes and counts
+    1, 0, 0, 0, 0, 0, 0, 0, 0, 0, 1, 0, 0, 0, 1, 0, // PT_LOAD, offset, addresses
+    116, 0, 0, 0, 116, 0, 0, 0, 5, 0, 0, 0, 0, 0x10, 0, 0, // sizes, flags, alignment
+];
+
+/// `ecall`
+const ECALL: u32 = 0x0000_0073;
+/// `lui a1, 0x10`: the address of the ELF header.
+const A1_HEADER: u32 = 0x0001_05B7;
+/// `lui a1, 0x11`: the first address behind the image's page.
+const A1_BEHIND: u32 = 0x0001_15B7;
+/// `addi a1, a1, -2`
+const A1_BACK: u32 = 0xFFE5_8593;
+
+/// `li a0, n`, for n below 2,048.
+fn a0(n: u32) -> u32 {
+    n.wrapping_shl(20) | 0x513
+}
+
+/// `li a2, n`
+fn a2(n: u32) -> u32 {
+    n.wrapping_shl(20) | 0x613
+}
+
+/// `li a7, n`
+fn a7(n: u32) -> u32 {
+    n.wrapping_shl(20) | 0x893
+}
+
+/// An outside that has nothing.
+#[derive(Drop)]
+struct Nothing;
+
+impl Outside for Nothing {
+    fn read(&mut self, _: &mut [u8]) -> usize {
+        0
+    }
+
+    fn random(&mut self, _: &mut [u8]) {}
+
+    fn now(&mut self, _: u32) -> (u64, u32) {
+        (0, 0)
+    }
+}
+
+/// A guest of these instructions.
+fn guest_of(alloc: Global, code: [u32; 8]) -> Result<Guest, Fail> {
+    let mut elf = Vec::with_capacity(alloc, 116)?;
+    for byte in HEADERS {
+        elf.push(byte)?;
+    }
+    for word in code {
+        for byte in word.to_le_bytes() {
+            elf.push(byte)?;
+        }
+    }
+    let image = parse(alloc, &elf)?;
+    Ok(Guest::open(alloc, &image, b"a", [7; 16])?)
+}
+
+/// The guest behind its first call, and what that answered.
+fn called(rt: &impl Abort, alloc: Global, code: [u32; 8]) -> Result<(u32, Guest), Fail> {
+    let mut guest = guest_of(alloc, code)?;
+    assert!(rt; guest.is_running(1));
+    let run = guest.run_thread(1, 64);
+    assert_eq!(rt; run.end, RunEnd::Call);
+    assert!(rt; guest.is_running(1));
+    assert!(rt; guest.ended().is_none());
+    let record = guest.call(alloc, 1, &mut Nothing)?;
+    assert!(rt; record.written.as_slice().is_empty());
+    Ok((record.result, guest))
+}
+
+#[test]
+fn exits_with_five(rt: HostRuntime) -> Result<(), Fail> {
+    let code = [a0(5), a7(93), ECALL, 0, 0, 0, 0, 0];
+    let (result, mut guest) = called(&rt, rt.alloc(), code)?;
+    assert_eq!(rt; result, 0);
+    assert_eq!(rt; guest.ended(), Some(GuestEnd::Exited(5)));
+    assert_eq!(rt; guest.ran(), 3);
+    assert!(rt; !guest.has_running());
+    assert!(rt; guest.running(rt.alloc())?.is_empty());
+    guest.close_slice(None);
+    assert_eq!(rt; guest.ended(), Some(GuestEnd::Exited(5)));
+    Ok(())
+}
+
+#[test]
+fn answers_calls(rt: HostRuntime) -> Result<(), Fail> {
+    let cases = [
+        ([a0(1), A1_HEADER, a2(4), a7(64), ECALL, 0, 0, 0], 4),
+        (
+            [a0(3), A1_HEADER, a2(4), a7(64), ECALL, 0, 0, 0],
+            0xFFFF_FFF7,
+        ),
+        (
+            [a0(1), A1_BEHIND, A1_BACK, a2(4), a7(64), ECALL, 0, 0],
+            0xFFFF_FFF2,
+        ),
+        ([a0(1), A1_HEADER, a2(0), a7(64), ECALL, 0, 0, 0], 0),
+        ([a7(124), ECALL, 0, 0, 0, 0, 0, 0], 0),
+        ([a7(172), ECALL, 0, 0, 0, 0, 0, 0], 1),
+        ([a7(178), ECALL, 0, 0, 0, 0, 0, 0], 1),
+        ([a7(999), ECALL, 0, 0, 0, 0, 0, 0], 0xFFFF_FFDA),
+        ([a0(8), a7(96), ECALL, 0, 0, 0, 0, 0], 1),
+    ];
+    for (code, want) in cases {
+        let (result, guest) = called(&rt, rt.alloc(), code)?;
+        let thread = guest.thread(1).ok_or("no thread 1")?;
+        assert_eq!(rt; result, want);
+        assert_eq!(rt; thread.regs.registers[10], want, "a0");
+        assert_eq!(rt; guest.put_out().is_some(), want == 4, "output");
+    }
+    Ok(())
+}
+
+#[test]
+fn puts_out_the_bytes(rt: HostRuntime) -> Result<(), Fail> {
+    let code = [a0(2), A1_HEADER, a2(4), a7(64), ECALL, 0, 0, 0];
+    let (_, guest) = called(&rt, rt.alloc(), code)?;
+    let (descriptor, bytes) = guest.put_out().ok_or("nothing put out")?;
+    assert_eq!(rt; descriptor, 2);
+    assert_eq!(rt; bytes, [0x7F, 0x45, 0x4C, 0x46].as_slice());
+    Ok(())
+}
+
+#[test]
+fn steps_and_takes_a_call_back(rt: HostRuntime) -> Result<(), Fail> {
+    let mut guest = guest_of(rt.alloc(), [a0(5), a7(94), ECALL, 0, 0, 0, 0, 0])?;
+    assert!(rt; guest.is_running(1));
+    let _ = guest.step_thread(1)?;
+    assert!(rt; guest.is_running(1));
+    let run = guest.run_thread(1, 2);
+    assert_eq!(rt; run.count, 2);
+    assert_eq!(rt; run.end, RunEnd::Call);
+    assert!(rt; guest.is_running(1));
+    guest.take_back(1);
+    assert_eq!(rt; guest.ran(), 2);
+    let thread = guest.thread(1).ok_or("no thread 1")?;
+    assert_eq!(rt; thread.regs.pc, 0x1_005C);
+    Ok(())
+}
