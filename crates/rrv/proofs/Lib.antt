@@ -1,0 +1,5 @@
+pub mod Sizes
+pub mod Outcomes
+pub mod Gained
+pub mod Replayed
+pub mod Tried

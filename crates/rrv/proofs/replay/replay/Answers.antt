@@ -1,0 +1,10 @@
+use Rattle.std.proofs.Common.{rules}
+use Rattle.guest_calls.specs.Guest.{chunks_of, state_of}
+use Rattle.rrv.specs.Recorded.{chunks_in}
+use Rattle.rrv.proofs.Replayed.{replayed_at}
+use Rattle.rrv.proofs.replay.replay.Goals as goal
+
+pub loop-index-preserved : goal.loop-index-preserved
+loop-index-preserved c = rw c.in_ok-keep.ensures (replayed_at c.in-Some.first.now.guest c.args.records.now c.loop-index.index c.index-records-index.result
+    (state_of c.loop-index.guest) (state_of c.follow_record.new.guest) (chunks_in c.loop-index.output.items) (chunks_of c.in_ok-put.put)
+    (search rules) c.index-records-index.is c.loop-index.invariant c.in_ok-put.ensures)

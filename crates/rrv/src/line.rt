@@ -1,0 +1,48 @@
+//! What a line of words asks for.
+
+ghost use Rattle.std.specs.Prelude.{◌≡◌};
+
+use clap::{Arg, ArgAction, Command, Error};
+use std::alloc::{AllocError, Global};
+use std::convert::AsStr;
+
+/// What a line asks for.
+#[derive(Clone, Copy, Debug, PartialEq, Eq)]
+pub enum Request<'a> {
+    /// No word: the program records a small guest of its own.
+    Demonstration,
+    /// `try ELF`: records this file to a disk in memory and replays it.
+    Try { elf: &'a str },
+}
+
+fn command<'a>(alloc: Global) -> Result<Command<'a>, AllocError> {
+    let elf = Arg::new(alloc, "ELF")
+        .required(true)
+        .action(ArgAction::Set)
+        .help("a static RISC-V program (ELF32, RV32IMA)");
+    let attempt = Command::new(alloc, "try")
+        .about("records a program to a disk in memory and replays it")
+        .arg(elf)?;
+    Command::new(alloc, "rrv")
+        .about("records RISC-V programs and replays them exactly")
+        .no_binary_name(true)
+        .subcommand_required(true)
+        .disable_help_subcommand(true)
+        .subcommand(attempt)
+}
+
+/// Reads the words after the program's name. No word at all asks for the demonstration; else a word that the
+/// command line doesn't have, or lacks, and a call for help, are the parser's error, whose text says so.
+pub fn line<'a, S: AsStr>(alloc: Global, words: &'a [S]) -> Result<Request<'a>, Error> {
+    if words.is_empty() {
+        return Ok(Request::Demonstration);
+    }
+    let matches = command(alloc)?.try_get_matches_from(words)?;
+    let elf = match matches.subcommand() {
+        Some((_, attempt)) => attempt.get_str("ELF"),
+        None => None,
+    };
+    Ok(Request::Try {
+        elf: elf.unwrap_or(""),
+    })
+}

@@ -1,0 +1,89 @@
+//! Lines of the program, done, and what they print.
+
+use crate::exit_five::EXIT_FIVE;
+use crate::run::run;
+use std::fs;
+
+/// The ELF header and the program header of a guest of 128 bytes, all loaded at 0x10000, entry 0x10054.
+const HELLO_HEADERS: [u8; 84] = [
+    0x7F, 0x45, 0x4C, 0x46, 1, 1, 1, 0, 0, 0, 0, 0, 0, 0, 0, 0, 2, 0, 0xF3, 0, 1, 0, 0, 0, 0x54, 0,
+    1, 0, 52, 0, 0, 0, 0, 0, 0, 0, 0, 0, 0, 0, 52, 0, 32, 0, 1, 0, 0, 0, 0, 0, 0, 0, 1, 0, 0, 0, 0,
+    0, 0, 0, 0, 0, 1, 0, 0, 0, 1, 0, 128, 0, 0, 0, 128, 0, 0, 0, 5, 0, 0, 0, 4, 0, 0, 0,
+];
+
+/// Its code: it stores `hi` and a newline below the stack pointer, writes these three bytes, and exits with 0.
+const HELLO_CODE: [u32; 11] = [
+    0xFF010593, 0x000A7537, 0x96850513, 0x00A5A023, 0x00100513, 0x00300613, 0x04000893, 0x00000073,
+    0x00000513, 0x05D00893, 0x00000073,
+];
+
+#[test]
+fn no_word_records_the_demonstration(rt: HostRuntime) {
+    let mut out = Vec::new(rt.alloc());
+    let mut err = Vec::new(rt.alloc());
+    let words: [&str; 0] = [];
+    let status = run(&rt, words.as_slice(), &mut out, &mut err);
+    assert_eq!(rt; status, 0);
+    let want: &[u8] =
+        b"0 opening name=g0 elf=96\n1 call tid=1 count=3 result=00000000 written=0\nok records=2 instructions=3 end exited 5\n";
+    assert!(rt; out.as_slice() == want);
+    assert!(rt; err.is_empty());
+}
+
+#[test]
+fn try_puts_the_output_out(rt: HostRuntime) {
+    let mut hello = Vec::new(rt.alloc());
+    assert!(rt; hello.extend_from_slice(&HELLO_HEADERS).is_ok());
+    for word in HELLO_CODE {
+        assert!(rt; hello.extend_from_slice(&word.to_le_bytes()).is_ok());
+    }
+    assert!(rt; fs::write(&rt, "hello", hello.as_slice()).is_ok());
+    let mut out = Vec::new(rt.alloc());
+    let mut err = Vec::new(rt.alloc());
+    let status = run(&rt, &["try", "hello"], &mut out, &mut err);
+    assert_eq!(rt; status, 0);
+    let want: &[u8] =
+        b"hi\n0 opening name=g0 elf=128\n1 call tid=1 count=8 result=00000003 written=0\n2 call tid=1 count=3 result=00000000 written=0\nok records=3 instructions=11 end exited 0\n";
+    assert!(rt; out.as_slice() == want);
+    assert!(rt; err.is_empty());
+}
+
+#[test]
+fn bad_files_are_refused_by_name(rt: HostRuntime) {
+    let text: &[u8] =
+        b"This is a text and no program, though it has more than the 52 bytes of a header.\n";
+    assert!(rt; fs::write(&rt, "empty", "").is_ok());
+    assert!(rt; fs::write(&rt, "text", text).is_ok());
+    assert!(rt; fs::write(&rt, "cut51", &EXIT_FIVE[..51]).is_ok());
+    assert!(rt; fs::write(&rt, "cut83", &EXIT_FIVE[..83]).is_ok());
+    assert!(rt; fs::write(&rt, "cut95", &EXIT_FIVE[..95]).is_ok());
+    let cases: [(&str, &[u8]); 6] = [
+        ("empty", b"rrv: guest 0: elf refusal 1\n"),
+        ("text", b"rrv: guest 0: elf refusal 2\n"),
+        ("cut51", b"rrv: guest 0: elf refusal 1\n"),
+        ("cut83", b"rrv: guest 0: elf refusal 8\n"),
+        ("cut95", b"rrv: guest 0: elf refusal 10\n"),
+        ("missing", b"rrv: cannot read file\n"),
+    ];
+    for (file, want) in cases {
+        let mut out = Vec::new(rt.alloc());
+        let mut err = Vec::new(rt.alloc());
+        let status = run(&rt, &["try", file], &mut out, &mut err);
+        assert_eq!(rt; status, 1, "{file}");
+        assert!(rt; err.as_slice() == want, "{file}");
+        assert!(rt; out.is_empty(), "{file}");
+    }
+}
+
+#[test]
+fn bad_lines_end_with_two_and_help_with_zero(rt: HostRuntime) {
+    let mut out = Vec::new(rt.alloc());
+    let mut err = Vec::new(rt.alloc());
+    assert_eq!(rt; run(&rt, &["try"], &mut out, &mut err), 2);
+    assert_eq!(rt; run(&rt, &["try", "one", "two"], &mut out, &mut err), 2);
+    assert_eq!(rt; run(&rt, &["record"], &mut out, &mut err), 2);
+    assert!(rt; out.is_empty());
+    assert!(rt; !err.is_empty());
+    assert_eq!(rt; run(&rt, &["--help"], &mut out, &mut err), 0);
+    assert!(rt; !out.is_empty());
+}

@@ -1,0 +1,59 @@
+//! A trial of a program: it is recorded to a disk in memory, and what the disk holds is opened again and replayed.
+
+ghost use Rattle.std.specs.Prelude.{◌≡◌, ◌++◌, ◌∷◌, [], ℕ, List, IsSome, IfOk, None};
+ghost use Rattle.rrv_model.specs.Elf.{refusal};
+ghost use Rattle.rrv_model.specs.Opening.{IsName};
+ghost use Rattle.rrv_model.specs.Recording.{IsRecording, EndsIn, items_of};
+ghost use Rattle.guest_calls.specs.Guest.{state_of};
+ghost use Rattle.rrv.specs.Recorded.{OutputOf, chunks_in};
+
+use crate::recording::record_guest;
+use crate::refusal::Refusal;
+use crate::replay::{Replayed, read_bodies, replay};
+use elf_load::image::Image;
+use guest_calls::Guest;
+use rrv_model::record::Record;
+use std::alloc::Global;
+use trace_disk::MemDisk;
+use trace_log::{Log, reopen};
+
+/// A guest as it was recorded, the records that its store was found to hold, and the guest as they replay it.
+#[derive(Drop)]
+pub struct Trial {
+    pub recorded: Guest,
+    pub records: Vec<Record>,
+    pub replayed: Replayed,
+}
+
+/// Records a program as guest 0 to a disk in memory, opens the disk again, and replays what it holds.
+pub fn try_image(
+    alloc: Global,
+    image: &Image,
+    name: &[u8],
+    random: [u8; 16],
+    quantum: u32,
+) -> Result<Trial, Refusal>
+    requires name { IsName name.now }
+    ensures recording { IfOk result (λ trial. IsRecording trial.records.items) }
+    ensures ends { IfOk result (λ trial. EndsIn (items_of trial.records.items) (state_of trial.replayed.guest)) }
+    ensures output { IfOk result (λ trial. OutputOf (items_of trial.records.items) (chunks_in trial.replayed.output.items)) }
+    ensures ended { IfOk result (λ trial. IsSome (state_of trial.recorded).ended) }
+    ensures same { IfOk result (λ trial. state_of trial.replayed.guest ≡ state_of trial.recorded) }
+{
+    let mut log = match Log::create(MemDisk::new(alloc)) {
+        Ok(log) => log,
+        Err((_, fault)) => return Err(Refusal::from(fault)),
+    };
+    let recorded = record_guest(alloc, &mut log, 0, image, name, random, quantum)?;
+    let (_, bodies) = match reopen(alloc, log.close()) {
+        Ok(opened) => opened,
+        Err((_, fault)) => return Err(Refusal::from(fault)),
+    };
+    let records = read_bodies(alloc, &bodies)?;
+    let replayed = replay(alloc, &records)?;
+    Ok(Trial {
+        recorded,
+        records,
+        replayed,
+    })
+}

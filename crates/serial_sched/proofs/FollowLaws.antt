@@ -1,0 +1,120 @@
+-- Where a frame leads nowhere.
+use Rattle.std.proofs.Common.{◌≡◌, ◌≢◌, ℕ, ◌-◌, ◌≤◌, List, false, is_some, Option, Some, None, Result, Ok, Err, OnOk, IsErrOf, refl, sym, ◌∙◌, ap, subst, arith}
+use Rattle.std.proofs.lemmas.Bool.{false≢true}
+use Rattle.rrv_model.specs.declared.machine.FaultKind.{FaultKind}
+use Rattle.rrv_model.specs.declared.machine.GuestEnd.{GuestEnd}
+use Rattle.rrv_model.specs.declared.record.CallRecord.{CallRecord}
+use Rattle.rrv_model.specs.declared.record.End.{End}
+use Rattle.rrv_model.specs.declared.record.Frame.{Frame}
+use Rattle.rrv_model.specs.State.{State, thread_at}
+use Rattle.rrv_model.specs.Calls.{Answer, Calls}
+use Rattle.rrv_model.specs.FrameStep.{Steps, FrameStep, FrameStepBy, EndsInCall, EndsInFault, closed}
+use Rattle.rrv_model.specs.Output.{Chunk, put_out_by}
+use Rattle.guest_calls.specs.declared.run.RunEnd.{RunEnd}
+use Rattle.guest_calls.specs.declared.run.RunEnd.TheVariants as ends
+use Rattle.guest_calls.specs.Runs.{RunsTo, RunsToCall}
+use Rattle.serial_sched.specs.Slices.{CallPuts}
+use Rattle.serial_sched.specs.Follows.{CallPutsAt, Reaches, ReachesCall, ReachesFault, MeetsNoMemory}
+use Rattle.serial_sched.proofs.Ways.{reached, one_run_end, one_called}
+use Rattle.serial_sched.proofs.Ecalls.{call_may_take}
+use Rattle.serial_sched.proofs.Determined.{one_call_record}
+use Rattle.serial_sched.proofs.SliceLaws.{call_puts}
+
+reaches_call : (old new : State) (tid count : ℕ) (r : CallRecord) (p : EndsInCall old tid count r new) → ReachesCall count tid old p.called
+reaches_call old new tid count r p = record { some = p.some; before = p.before; steps = p.steps; calls = p.calls }
+
+reaches_fault : (old new : State) (tid count : ℕ) (kind : FaultKind) (p : EndsInFault old tid count kind new) → ReachesFault count tid kind old p.before
+reaches_fault old new tid count kind p = record { some = p.some; steps = p.steps; faults = p.faults }
+
+-- where no run has that end, no frame has it
+pub no_call : (old : State) (tid count : ℕ) (r : CallRecord) → ((end : RunEnd) (new : State) → Reaches end count tid old new → ⊥) →
+    (new : State) → EndsInCall old tid count r new → ⊥
+no_call old tid count r none new p = none ends.Call p.called (reaches_call old new tid count r p)
+
+pub no_fault : (old : State) (tid count : ℕ) (kind : FaultKind) → ((end : RunEnd) (new : State) → Reaches end count tid old new → ⊥) →
+    (new : State) → EndsInFault old tid count kind new → ⊥
+no_fault old tid count kind none new p = none (ends.Fault kind) p.before (reaches_fault old new tid count kind p)
+
+-- where a run has another end
+pub other_than_steps : (end : RunEnd) (tid count : ℕ) (old mid : State) → end ≢ ends.Limit → RunsTo end count tid count old mid →
+    (new : State) → Steps count tid old new → ⊥
+other_than_steps end tid count old mid other run new p =
+    other (one_run_end end ends.Limit count tid old mid new (reached end count count tid old mid refl run) p)
+
+pub other_than_call : (end : RunEnd) (tid count : ℕ) (r : CallRecord) (old mid : State) → end ≢ ends.Call → RunsTo end count tid count old mid →
+    (new : State) → EndsInCall old tid count r new → ⊥
+other_than_call end tid count r old mid other run new p =
+    other (one_run_end end ends.Call count tid old mid p.called (reached end count count tid old mid refl run) (reaches_call old new tid count r p))
+
+pub other_than_fault : (end : RunEnd) (tid count : ℕ) (kind : FaultKind) (old mid : State) → end ≢ ends.Fault kind → RunsTo end count tid count old mid →
+    (new : State) → EndsInFault old tid count kind new → ⊥
+other_than_fault end tid count kind old mid other run new p =
+    other (one_run_end end (ends.Fault kind) count tid old mid p.before (reached end count count tid old mid refl run) (reaches_fault old new tid count kind p))
+
+-- where the call has another record
+pub other_record : (tid count : ℕ) (q r : CallRecord) (answer : Answer) (old called after : State) → q ≢ r → RunsToCall count tid count old called →
+    Calls called tid answer q after → (new : State) → EndsInCall old tid count r new → ⊥
+other_record tid count q r answer old called after other run calls new p =
+    let e : p.called ≡ called =
+    one_called count tid old p.called called (reaches_call old new tid count r p)
+    (record { some = run.some; before = run.before; steps = run.steps; calls = run.calls }) in
+    let answered : Calls called tid p.answer r p.after = subst (λ (s : State). Calls s tid p.answer r p.after) e p.answered in
+    other (one_call_record called tid answer p.answer q r after p.after calls answered)
+
+-- ---- what is followed
+
+pub call_followed : (tid count : ℕ) (q r : CallRecord) (answer : Answer) (old called after : State) → q ≡ r → RunsToCall count tid count old called →
+    Calls called tid answer q after → EndsInCall old tid count r (closed after)
+call_followed tid count q r answer old called after e run calls = record {
+  some = run.some;
+  before = run.before;
+  steps = run.steps;
+  called = called;
+  calls = run.calls;
+  answer = answer;
+  after = after;
+  answered = subst (λ (t : CallRecord). Calls called tid answer t after) e calls;
+  new_is = refl;
+}
+
+-- a call finds no memory at its ECALL
+pub call_meets : (limit tid count : ℕ) (old called : State) → RunsToCall limit tid count old called → MeetsNoMemory old tid count
+call_meets limit tid count old called p =
+    let some = p.some in
+    record { done = count - 1; within = omega arith; finds = record { last = p.before; steps = p.steps; takes = call_may_take p.before tid called p.calls } }
+
+pub call_put : (tid count : ℕ) (q r : CallRecord) (answer : Answer) (old called after : State) (chunks : List Chunk) → q ≡ r → RunsToCall count tid count old called →
+    Calls called tid answer q after → chunks ≡ put_out_by (thread_at called tid) called.memory q.result → CallPutsAt old tid count r.result chunks
+call_put tid count q r answer old called after chunks e run calls puts =
+    subst (λ (t : CallRecord). CallPutsAt old tid count t.result chunks) e (call_puts count tid count old called after answer q chunks run calls puts)
+
+-- ---- a frame by its end
+
+pub frame_followed : (old new : State) (f : Frame) (end : End) → f.end ≡ end → old.ended ≡ None → f.count ≤ 1_048_576 → FrameStepBy end old f.tid f.count new →
+    FrameStep old f new
+frame_followed old new f end e runs limit goes =
+    record { runs = runs; limit = limit; goes = subst (λ (x : End). FrameStepBy x old f.tid f.count new) (sym e) goes }
+
+pub frame_leads : (old new : State) (f : Frame) (end : End) → f.end ≡ end → FrameStep old f new → FrameStepBy end old f.tid f.count new
+frame_leads old new f end e p = subst (λ (x : End). FrameStepBy x old f.tid f.count new) e p.goes
+
+pub frame_puts : (old : State) (f : Frame) (end : End) (chunks : List Chunk) → f.end ≡ end → CallPuts end old f chunks → CallPuts f.end old f chunks
+frame_puts old f end chunks e p = subst (λ (x : End). CallPuts x old f chunks) (sym e) p
+
+pub on_ok : {T E : Type 0} {P : Type 0} (r : Result T E) → P → OnOk r P
+on_ok (Ok x) p = p
+on_ok (Err x) p = tt
+
+-- the exit of a `?`
+one_error : {A E : Type 0} (r : Result A E) (x y : E) → r ≡ Err x → r ≡ Err y → x ≡ y
+one_error r x y p q = cc
+
+pub again : {A B E : Type 0} (r : Result A E) (y x f : E) → r ≡ Err y → y ≡ x → r ≡ Err f → IsErrOf {T = B} (Err x) f
+again r y x f p q e = let w : x ≡ f = sym q ∙ one_error r y f p e in ap Err w
+
+pub same_kinds : (end : RunEnd) (a b : FaultKind) → end ≡ ends.Fault a → end ≡ ends.Fault b → a ≡ b
+same_kinds end a b p q = cc
+
+pub not_ended : (o end : Option GuestEnd) → o ≡ end → false ≡ is_some o → end ≡ None
+not_ended None end e p = sym e
+not_ended (Some x) end e p = absurd (false≢true p)

@@ -1,0 +1,5 @@
+pub mod Ways
+pub mod Ecalls
+pub mod Determined
+pub mod SliceLaws
+pub mod FollowLaws

@@ -1,0 +1,163 @@
+-- What the slice of a thread that runs is, end by end.
+use Rattle.std.proofs.Common.{◌≡◌, ℕ, ◌-◌, ◌<◌, ◌≤◌, inl, inr, List, Option, Some, None, Result, Ok, Err, IfOk, OnOk, OnErr, refl, sym, ◌∙◌, ap, subst, arith}
+use Rattle.rrv_model.specs.declared.machine.FaultKind.{FaultKind}
+use Rattle.rrv_model.specs.declared.machine.GuestEnd.TheVariants as guest_ends
+use Rattle.rrv_model.specs.declared.machine.Thread.{Thread}
+use Rattle.rrv_model.specs.declared.record.CallRecord.{CallRecord}
+use Rattle.rrv_model.specs.declared.record.Choice.{Choice}
+use Rattle.rrv_model.specs.declared.record.End.TheVariants as ends
+use Rattle.rrv_model.specs.declared.record.Frame.{Frame}
+use Rattle.rrv_model.specs.Words.{minus}
+use Rattle.rrv_model.specs.State.{State, thread_at, with_thread, IsRunning}
+use Rattle.rrv_model.specs.Step.{ThreadMayTakeMemory}
+use Rattle.rrv_model.specs.CallRows.{change_thread}
+use Rattle.rrv_model.specs.Calls.{Answer, Calls}
+use Rattle.rrv_model.specs.FrameStep.{Steps, closed, closed_at_end}
+use Rattle.rrv_model.specs.Output.{Chunk, put_out_by}
+use Rattle.rrv_model.specs.RecordText.{HasCallText}
+use Rattle.guest_calls.specs.Runs.{RunsToCall, RunsToFault, before_call}
+use Rattle.serial_sched.specs.Slices.{CanRun, Sliced, IsWhole}
+use Rattle.serial_sched.specs.Follows.{CallPutsAt}
+use Rattle.serial_sched.proofs.Ways.{get-insert_same, running_behind, steps_end_none}
+use Rattle.serial_sched.proofs.Ecalls.{call_may_take}
+
+-- ---- what a call puts out
+
+-- the thread there is changed
+changed_there : (tid : ℕ) (change : Thread → Thread) (s : State) (t : Thread) → thread_at s tid ≡ Some t → change_thread tid change s ≡ with_thread tid (change t) s
+changed_there tid change s t there = rw there refl
+
+-- the thread at its ECALL, from the one behind it
+abbrev at_ecall : Thread → Thread
+at_ecall t = record t { regs = record t.regs { pc = minus t.regs.pc 4 } }
+
+-- an ECALL changes nothing that a call puts out
+pub same_put : (tid count : ℕ) (before called : State) (t : Thread) → thread_at called tid ≡ Some t → before_call tid called ≡ before →
+    put_out_by (thread_at called tid) called.memory count ≡ put_out_by (thread_at before tid) before.memory count
+same_put tid count before called t there back =
+    let was : before_call tid called ≡ with_thread tid (at_ecall t) called = changed_there tid at_ecall called t there in
+    let is : before ≡ with_thread tid (at_ecall t) called = sym back ∙ was in
+    ap (λ (o : Option Thread). put_out_by o called.memory count) there
+    ∙ sym (ap (λ (o : Option Thread). put_out_by o called.memory count) (get-insert_same called.threads tid (at_ecall t)))
+    ∙ sym (ap (λ (s : State). put_out_by (thread_at s tid) s.memory count) is)
+
+pub call_puts : (limit tid count : ℕ) (s called after : State) (answer : Answer) (r : CallRecord) (chunks : List Chunk) → RunsToCall limit tid count s called →
+    Calls called tid answer r after → chunks ≡ put_out_by (thread_at called tid) called.memory r.result → CallPutsAt s tid count r.result chunks
+call_puts limit tid count s called after answer r chunks p calls puts =
+    (p.before, p.steps, puts ∙ same_put tid r.result p.before called calls.thread calls.there p.back)
+
+-- ---- the state behind an ECALL
+
+pub call_running : (limit tid count : ℕ) (s called : State) → RunsToCall limit tid count s called → IsRunning (thread_at called tid)
+call_running limit tid count s called p = running_behind p.before tid called p.calls
+
+pub call_runs_on : (limit tid count : ℕ) (s called : State) → RunsToCall limit tid count s called → s.ended ≡ None → called.ended ≡ None
+call_runs_on limit tid count s called p runs =
+    ap (λ (x : State). x.ended) p.calls.after_is ∙ steps_end_none (count - 1) tid s p.before p.steps ∙ runs
+
+-- ---- the ends
+
+-- where nothing has run, the first instruction found no memory
+pub none_took : {E : Type 0} (r : Result Frame E) (tid count : ℕ) (s last : State) → Steps count tid s last → ThreadMayTakeMemory last tid →
+    OnErr r (count ≡ 0) → OnErr r (ThreadMayTakeMemory s tid)
+none_took (Ok f) tid count s last steps takes e = tt
+none_took (Err x) tid count s last steps takes e =
+    let q : last ≡ s = subst (λ (n : ℕ). Steps n tid s last) e steps in subst (λ (x : State). ThreadMayTakeMemory x tid) q takes
+
+pub refused_call_took : {E : Type 0} (r : Result Frame E) (limit tid count : ℕ) (s called back : State) → RunsToCall limit tid count s called →
+    back ≡ before_call tid called → OnErr r (count - 1 ≡ 0) → OnErr r (ThreadMayTakeMemory s tid)
+refused_call_took r limit tid count s called back p e first = none_took r tid (count - 1) s p.before p.steps (call_may_take p.before tid called p.calls) first
+
+pub same_sliced : (s : State) (choice : Choice) (f f' : Frame) (new new' : State) (chunks : List Chunk) → f' ≡ f → new' ≡ new →
+    Sliced s choice f new chunks → Sliced s choice f' new' chunks
+same_sliced s choice f f' new new' chunks e e' p =
+    subst (λ (x : Frame). Sliced s choice x new' chunks) (sym e) (subst (λ (x : State). Sliced s choice f x chunks) (sym e') p)
+
+module _ (s : State) (choice : Choice) (can : CanRun s choice) where
+  preempted : (count : ℕ) (last : State) (chunks : List Chunk) → 1 ≤ count → count ≤ choice.quantum → Steps count choice.tid s last →
+      IsWhole s choice.tid count choice.quantum →
+      Sliced s choice (record { tid = choice.tid; count = count; end = ends.Preempt }) (closed last) chunks
+  preempted count last chunks some within steps whole =
+      let most = can.quantum.1 in
+      record {
+        frame = record { runs = can.runs; limit = omega arith; goes = record { some = some; last = last; steps = steps; new_is = refl } };
+        text = record { tid_low = can.tid.0; tid_high = can.tid.1; count_low = some; count_high = omega arith };
+        fits = (refl, whole);
+        puts = tt;
+      }
+
+  -- the whole quantum
+  pub limit_sliced : (count : ℕ) (last : State) (chunks : List Chunk) → count ≡ choice.quantum → Steps choice.quantum choice.tid s last →
+      Sliced s choice (record { tid = choice.tid; count = count; end = ends.Preempt }) (closed last) chunks
+  limit_sliced count last chunks e steps =
+      let least = can.quantum.0 in
+      preempted count last chunks (omega arith) (omega arith) (subst (λ n. Steps n choice.tid s last) (sym e) steps) (inl e)
+
+  -- less, since there was no memory
+  pub short_sliced : (count : ℕ) (last : State) (chunks : List Chunk) → 1 ≤ count → count < choice.quantum → Steps count choice.tid s last →
+      ThreadMayTakeMemory last choice.tid →
+      Sliced s choice (record { tid = choice.tid; count = count; end = ends.Preempt }) (closed last) chunks
+  short_sliced count last chunks some within steps takes =
+      preempted count last chunks some (omega arith) steps (inr (within, record { last = last; steps = steps; takes = takes }))
+
+  pub short_or_none : {E : Type 0} (r : Result Frame E) (count : ℕ) (last new : State) (chunks : List Chunk) → count < choice.quantum →
+      Steps count choice.tid s last → ThreadMayTakeMemory last choice.tid → OnOk r (1 ≤ count) →
+      IfOk r (λ f. f ≡ record { tid = choice.tid; count = count; end = ends.Preempt }) → OnOk r (new ≡ closed last) →
+      IfOk r (λ f. Sliced s choice f new chunks)
+  short_or_none (Ok f) count last new chunks within steps takes some frame closes =
+      same_sliced s choice (record { tid = choice.tid; count = count; end = ends.Preempt }) f (closed last) new chunks frame closes
+      (short_sliced count last chunks some within steps takes)
+  short_or_none (Err x) count last new chunks within steps takes some frame closes = tt
+
+  -- the ECALL is taken back
+  pub refused_call_sliced : {E : Type 0} (r : Result Frame E) (count : ℕ) (called back new : State) (chunks : List Chunk) →
+      RunsToCall choice.quantum choice.tid count s called → back ≡ before_call choice.tid called → OnOk r (1 ≤ count - 1) →
+      IfOk r (λ f. f ≡ record { tid = choice.tid; count = count - 1; end = ends.Preempt }) → OnOk r (new ≡ closed back) →
+      IfOk r (λ f. Sliced s choice f new chunks)
+  refused_call_sliced r count called back new chunks p e some frame closes =
+      let least = p.some in let within = p.within in
+      let at : back ≡ p.before = e ∙ p.back in
+      short_or_none r (count - 1) back new chunks (omega arith) (subst (λ (x : State). Steps (count - 1) choice.tid s x) (sym at) p.steps)
+      (subst (λ (x : State). ThreadMayTakeMemory x choice.tid) (sym at) (call_may_take p.before choice.tid called p.calls)) some frame closes
+
+  pub fault_sliced : (count : ℕ) (kind : FaultKind) (last : State) (chunks : List Chunk) → RunsToFault choice.quantum choice.tid count kind s last →
+      Sliced s choice (record { tid = choice.tid; count = count; end = ends.Fault kind }) (closed_at_end (guest_ends.Faulted kind) last) chunks
+  fault_sliced count kind last chunks p =
+      let most = can.quantum.1 in let some = p.some in let within = p.within in
+      record {
+        frame = record {
+          runs = can.runs;
+          limit = omega arith;
+          goes = record { some = p.some; before = last; steps = p.steps; faults = p.faults; new_is = refl };
+        };
+        text = record { tid_low = can.tid.0; tid_high = can.tid.1; count_low = p.some; count_high = omega arith };
+        fits = (refl, p.within);
+        puts = tt;
+      }
+
+  pub call_sliced : (count : ℕ) (called after : State) (answer : Answer) (r : CallRecord) (chunks : List Chunk) →
+      RunsToCall choice.quantum choice.tid count s called → Calls called choice.tid answer r after → HasCallText r →
+      chunks ≡ put_out_by (thread_at called choice.tid) called.memory r.result →
+      Sliced s choice (record { tid = choice.tid; count = count; end = ends.Call r }) (closed after) chunks
+  call_sliced count called after answer r chunks p calls text puts =
+      let most = can.quantum.1 in let some = p.some in let within = p.within in
+      record {
+        frame = record {
+          runs = can.runs;
+          limit = omega arith;
+          goes = record {
+            some = p.some;
+            before = p.before;
+            steps = p.steps;
+            called = called;
+            calls = p.calls;
+            answer = answer;
+            after = after;
+            answered = calls;
+            new_is = refl;
+          };
+        };
+        text = (record { tid_low = can.tid.0; tid_high = can.tid.1; count_low = p.some; count_high = omega arith }, text);
+        fits = (refl, p.within);
+        puts = call_puts choice.quantum choice.tid count s called after answer r chunks p calls puts;
+      }

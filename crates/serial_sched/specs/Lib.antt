@@ -1,0 +1,4 @@
+pub mod Slices
+pub mod Follows
+pub mod Answered
+pub mod Turns

@@ -1,0 +1,158 @@
+//! Frames that are followed from a state on.
+
+ghost use Rattle.std.specs.Prelude.{◌≡◌, ◌≤◌, None, IfOk, OnOk, IsErrOf};
+ghost use Rattle.rrv_model.specs.State.{State};
+ghost use Rattle.rrv_model.specs.FrameStep.{FrameStep, FrameStepBy, Steps, Preempts, EndsInCall, EndsInFault, IsStuck};
+ghost use Rattle.guest_calls.specs.declared.run.RunEnd.{RunEnd};
+ghost use Rattle.guest_calls.specs.Guest.{state_of, counted, chunks_of};
+ghost use Rattle.guest_calls.specs.Runs.{RunsTo};
+ghost use Rattle.serial_sched.specs.Slices.{CallPuts};
+ghost use Rattle.serial_sched.specs.Follows.{CallPutsAt, MeetsNoMemory, Reaches};
+
+use crate::comparison::is_same_call;
+use crate::fault::FollowFault;
+use crate::recorded::Recorded;
+use guest_calls::{Guest, RunEnd};
+use rrv_model::limits::MAX_QUANTUM;
+use rrv_model::machine::{FaultKind, GuestEnd};
+use rrv_model::record::{CallRecord, End, Frame};
+use std::alloc::Global;
+
+/// Follows a frame: runs its instructions, and gives a call the answers that the frame tells.
+/// After a refusal the guest is fit only to be dropped.
+pub fn follow(guest: &mut Guest, alloc: Global, frame: &Frame) -> Result<(), FollowFault>
+    ensures follows { OnOk result (FrameStep (state_of guest.old) frame.now (state_of guest.new)) }
+    ensures puts { OnOk result (CallPuts frame.now.end (state_of guest.old) frame.now (chunks_of guest.new.put)) }
+    ensures ran { OnOk result (guest.new.ran ≡ counted guest.old.ran frame.now.count) }
+    ensures nowhere { IsErrOf result FollowFault.GoesNowhere
+        → (new : State) → FrameStep (state_of guest.old) frame.now new → ⊥ }
+    ensures memory { IsErrOf result FollowFault.Memory → MeetsNoMemory (state_of guest.old) frame.now.tid frame.now.count }
+{
+    if guest.ended().is_some() {
+        return Err(FollowFault::GoesNowhere);
+    }
+    if MAX_QUANTUM < frame.count {
+        return Err(FollowFault::GoesNowhere);
+    }
+    match &frame.end {
+        End::Preempt => follow_preempt(guest, frame.tid, frame.count),
+        End::Call(told) => follow_call(guest, alloc, frame.tid, frame.count, told),
+        End::Fault(kind) => follow_fault(guest, frame.tid, frame.count, *kind),
+        End::Stuck => follow_stuck(guest, frame.tid, frame.count),
+    }
+}
+
+/// Runs just so many plain steps of a thread. After a refusal the guest is fit only to be dropped.
+pub fn steps(guest: &mut Guest, tid: u32, count: u32) -> Result<(), FollowFault>
+    ensures follows { OnOk result (Steps count tid (state_of guest.old) (state_of guest.new)) }
+    ensures ran { OnOk result (guest.new.ran ≡ counted guest.old.ran count) }
+    ensures nowhere { IsErrOf result FollowFault.GoesNowhere → (new : State) → Steps count tid (state_of guest.old) new → ⊥ }
+    ensures memory { IsErrOf result FollowFault.Memory → MeetsNoMemory (state_of guest.old) tid count }
+{
+    match run_whole(guest, tid, count)? {
+        RunEnd::Limit => Ok(()),
+        _ => Err(FollowFault::GoesNowhere),
+    }
+}
+
+fn follow_preempt(guest: &mut Guest, tid: u32, count: u32) -> Result<(), FollowFault>
+    ensures follows { OnOk result (Preempts (state_of guest.old) tid count (state_of guest.new)) }
+    ensures ran { OnOk result (guest.new.ran ≡ counted guest.old.ran count) }
+    ensures nowhere { IsErrOf result FollowFault.GoesNowhere → (new : State) → Preempts (state_of guest.old) tid count new → ⊥ }
+    ensures memory { IsErrOf result FollowFault.Memory → MeetsNoMemory (state_of guest.old) tid count }
+{
+    if count == 0 {
+        return Err(FollowFault::GoesNowhere);
+    }
+    steps(guest, tid, count)?;
+    guest.close_slice(None);
+    Ok(())
+}
+
+fn follow_call(
+    guest: &mut Guest,
+    alloc: Global,
+    tid: u32,
+    count: u32,
+    told: &CallRecord,
+) -> Result<(), FollowFault>
+    requires { (state_of guest.old).ended ≡ None }
+    ensures follows { OnOk result (EndsInCall (state_of guest.old) tid count told.now (state_of guest.new)) }
+    ensures puts { OnOk result (CallPutsAt (state_of guest.old) tid count told.now.result (chunks_of guest.new.put)) }
+    ensures ran { OnOk result (guest.new.ran ≡ counted guest.old.ran count) }
+    ensures nowhere { IsErrOf result FollowFault.GoesNowhere
+        → (new : State) → EndsInCall (state_of guest.old) tid count told.now new → ⊥ }
+    ensures memory { IsErrOf result FollowFault.Memory → MeetsNoMemory (state_of guest.old) tid count }
+{
+    match run_whole(guest, tid, count)? {
+        RunEnd::Call => {
+            let mut outside = Recorded::of(told);
+            let found = guest.call(alloc, tid, &mut outside)?;
+            if !is_same_call(&found, told) {
+                return Err(FollowFault::GoesNowhere);
+            }
+            guest.close_slice(None);
+            Ok(())
+        }
+        _ => Err(FollowFault::GoesNowhere),
+    }
+}
+
+fn follow_fault(guest: &mut Guest, tid: u32, count: u32, kind: FaultKind) -> Result<(), FollowFault>
+    ensures follows { OnOk result (EndsInFault (state_of guest.old) tid count kind (state_of guest.new)) }
+    ensures ran { OnOk result (guest.new.ran ≡ counted guest.old.ran count) }
+    ensures nowhere { IsErrOf result FollowFault.GoesNowhere
+        → (new : State) → EndsInFault (state_of guest.old) tid count kind new → ⊥ }
+    ensures memory { IsErrOf result FollowFault.Memory → MeetsNoMemory (state_of guest.old) tid count }
+{
+    match run_whole(guest, tid, count)? {
+        RunEnd::Fault(found) => {
+            if found != kind {
+                return Err(FollowFault::GoesNowhere);
+            }
+            guest.close_slice(Some(GuestEnd::Faulted(kind)));
+            Ok(())
+        }
+        _ => Err(FollowFault::GoesNowhere),
+    }
+}
+
+fn follow_stuck(guest: &mut Guest, tid: u32, count: u32) -> Result<(), FollowFault>
+    ensures follows { OnOk result (IsStuck (state_of guest.old) tid count (state_of guest.new)) }
+    ensures ran { OnOk result (guest.new.ran ≡ counted guest.old.ran count) }
+    ensures nowhere { IsErrOf result FollowFault.GoesNowhere
+        → (new : State) → IsStuck (state_of guest.old) tid count new → ⊥ }
+    ensures memory { IsErrOf result FollowFault.Memory → ⊥ }
+{
+    let _ran = guest.ran();
+    if tid != 0 || count != 0 || guest.has_running() {
+        return Err(FollowFault::GoesNowhere);
+    }
+    guest.close_slice(Some(GuestEnd::Stuck));
+    Ok(())
+}
+
+/// Runs just so many instructions of a thread, of which only the last may be a call or a fault.
+fn run_whole(guest: &mut Guest, tid: u32, count: u32) -> Result<RunEnd, FollowFault>
+    ensures runs { IfOk result (λ end. RunsTo end count tid count (state_of guest.old) (state_of guest.new)) }
+    ensures ran { OnOk result (guest.new.ran ≡ counted guest.old.ran count) }
+    ensures nowhere { IsErrOf result FollowFault.GoesNowhere
+        → (end : RunEnd) (new : State) → Reaches end count tid (state_of guest.old) new → ⊥ }
+    ensures memory { IsErrOf result FollowFault.Memory → MeetsNoMemory (state_of guest.old) tid count }
+{
+    if count == 0 {
+        let _ran = guest.ran();
+        return Ok(RunEnd::Limit);
+    }
+    if !guest.is_running(tid) {
+        return Err(FollowFault::GoesNowhere);
+    }
+    let run = guest.run_thread(tid, count);
+    if let RunEnd::Memory = run.end {
+        return Err(FollowFault::Memory);
+    }
+    if run.count != count {
+        return Err(FollowFault::GoesNowhere);
+    }
+    Ok(run.end)
+}

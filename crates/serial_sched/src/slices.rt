@@ -1,0 +1,139 @@
+//! The slice of a choice.
+
+ghost use Rattle.std.specs.Prelude.{◌≡◌, ◌↔◌, ◌≤◌, ◌<◌, ◌⊎◌, None, IsSome, IfOk, OnOk, OnErr, IsErrOf};
+ghost use Rattle.rrv_model.specs.State.{thread_at, IsRunning};
+ghost use Rattle.rrv_model.specs.Step.{ThreadMayTakeMemory};
+ghost use Rattle.rrv_model.specs.FrameStep.{FrameStep, closed};
+ghost use Rattle.rrv_model.specs.RecordText.{HasFrameText};
+ghost use Rattle.guest_calls.specs.Guest.{state_of, counted, chunks_of, HasRunning};
+ghost use Rattle.serial_sched.specs.Slices.{CanRun, CallPuts, FitsChoice, IsLive, IsQuantum, Sliced};
+
+use crate::fault::SliceFault;
+use guest_calls::{Guest, Outside, RunEnd};
+use rrv_model::limits::{MAX_QUANTUM, MIN_QUANTUM};
+use rrv_model::machine::GuestEnd;
+use rrv_model::record::{Choice, End, Frame};
+use rrv_model::refusal::Memory;
+use std::alloc::Global;
+
+/// Runs the chosen thread until it has run the quantum, makes a call or faults, or its next instruction finds no memory.
+/// Where no thread runs, whatever the choice, the guest is stuck, which ends it.
+pub fn slice<O: Outside>(
+    guest: &mut Guest,
+    alloc: Global,
+    choice: Choice,
+    outside: &mut O,
+) -> Result<Frame, SliceFault>
+    ensures frame { IfOk result (λ f. FrameStep (state_of guest.old) f (state_of guest.new)) }
+    ensures text { IfOk result (λ f. HasFrameText f.end f.tid f.count) }
+    ensures fits { IfOk result (λ f. FitsChoice f.end (state_of guest.old) f choice) }
+    ensures puts { IfOk result (λ f. CallPuts f.end (state_of guest.old) f (chunks_of guest.new.put)) }
+    ensures ran { IfOk result (λ f. guest.new.ran ≡ counted guest.old.ran f.count) }
+    ensures ended { IsErrOf result SliceFault.Ended ↔ IsSome (state_of guest.old).ended }
+    ensures stuck { (state_of guest.old).ended ≡ None → ¬ HasRunning (state_of guest.old) → IfOk result (λ f. f.end ≡ End.Stuck) }
+    ensures bad_quantum { IsErrOf result SliceFault.BadQuantum ↔ (IsLive (state_of guest.old) × ¬ IsQuantum choice.quantum) }
+    ensures not_runnable { IsErrOf result SliceFault.NotRunnable
+        ↔ (IsLive (state_of guest.old) × IsQuantum choice.quantum
+        × ¬ IsRunning (thread_at (state_of guest.old) choice.tid)) }
+    ensures memory { IsErrOf result SliceFault.Memory → ThreadMayTakeMemory (state_of guest.old) choice.tid }
+    ensures refused { OnErr result (state_of guest.new ≡ state_of guest.old) }
+    ensures refused_ran { OnErr result (guest.new.ran ≡ guest.old.ran) }
+    ensures refused_put { OnErr result (guest.new.put ≡ guest.old.put) }
+{
+    if guest.ended().is_some() {
+        return Err(SliceFault::Ended);
+    }
+    if !guest.has_running() {
+        return Ok(get_stuck(guest));
+    }
+    if choice.quantum < MIN_QUANTUM || MAX_QUANTUM < choice.quantum {
+        return Err(SliceFault::BadQuantum);
+    }
+    if !guest.is_running(choice.tid) {
+        return Err(SliceFault::NotRunnable);
+    }
+    Ok(run_slice(guest, alloc, choice, outside)?)
+}
+
+/// Ends a guest of which no thread runs.
+fn get_stuck(guest: &mut Guest) -> Frame
+    requires runs { (state_of guest.old).ended ≡ None }
+    requires none { ¬ HasRunning (state_of guest.old) }
+    ensures stuck { result ≡ record { tid = 0; count = 0; end = End.Stuck } }
+    ensures frame { FrameStep (state_of guest.old) result (state_of guest.new) }
+    ensures ran { guest.new.ran ≡ counted guest.old.ran 0 }
+{
+    let _ran = guest.ran();
+    guest.close_slice(Some(GuestEnd::Stuck));
+    Frame {
+        tid: 0,
+        count: 0,
+        end: End::Stuck,
+    }
+}
+
+/// The slice of a thread that runs.
+fn run_slice<O: Outside>(
+    guest: &mut Guest,
+    alloc: Global,
+    choice: Choice,
+    outside: &mut O,
+) -> Result<Frame, Memory>
+    requires { CanRun (state_of guest.old) choice }
+    ensures sliced { IfOk result (λ f. Sliced (state_of guest.old) choice f (state_of guest.new) (chunks_of guest.new.put)) }
+    ensures ran { IfOk result (λ f. guest.new.ran ≡ counted guest.old.ran f.count) }
+    ensures memory { OnErr result (ThreadMayTakeMemory (state_of guest.old) choice.tid) }
+    ensures refused { OnErr result (state_of guest.new ≡ state_of guest.old) }
+    ensures refused_ran { OnErr result (guest.new.ran ≡ guest.old.ran) }
+    ensures refused_put { OnErr result (guest.new.put ≡ guest.old.put) }
+{
+    let _ran = guest.ran();
+    let tid = choice.tid;
+    let run = guest.run_thread(tid, choice.quantum);
+    match run.end {
+        RunEnd::Limit => Ok(closed_frame(guest, tid, run.count, End::Preempt)),
+        RunEnd::Call => match guest.call(alloc, tid, outside) {
+            Ok(told) => Ok(closed_frame(guest, tid, run.count, End::Call(told))),
+            Err(Memory) => {
+                guest.take_back(tid);
+                stop_short(guest, tid, run.count - 1)
+            }
+        },
+        RunEnd::Fault(kind) => {
+            guest.close_slice(Some(GuestEnd::Faulted(kind)));
+            Ok(Frame {
+                tid,
+                count: run.count,
+                end: End::Fault(kind),
+            })
+        }
+        RunEnd::Memory => stop_short(guest, tid, run.count),
+    }
+}
+
+/// Ends a slice before an instruction that found no memory. There is no slice where none has run.
+fn stop_short(guest: &mut Guest, tid: u32, count: u32) -> Result<Frame, Memory>
+    ensures some { OnOk result (1 ≤ count) }
+    ensures frame { IfOk result (λ f. f ≡ record { tid = tid; count = count; end = End.Preempt }) }
+    ensures closes { OnOk result (state_of guest.new ≡ closed (state_of guest.old)) }
+    ensures none { OnErr result (count ≡ 0) }
+    ensures refused { OnErr result (state_of guest.new ≡ state_of guest.old) }
+    ensures ran { guest.new.ran ≡ guest.old.ran }
+    ensures put { guest.new.put ≡ guest.old.put }
+{
+    if count == 0 {
+        return Err(Memory);
+    }
+    Ok(closed_frame(guest, tid, count, End::Preempt))
+}
+
+/// Ends a slice that doesn't itself end the guest.
+fn closed_frame(guest: &mut Guest, tid: u32, count: u32, end: End) -> Frame
+    ensures frame { result ≡ record { tid = tid; count = count; end = end } }
+    ensures closes { state_of guest.new ≡ closed (state_of guest.old) }
+    ensures ran { guest.new.ran ≡ guest.old.ran }
+    ensures put { guest.new.put ≡ guest.old.put }
+{
+    guest.close_slice(None);
+    Frame { tid, count, end }
+}
