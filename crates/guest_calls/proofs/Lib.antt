@@ -4,6 +4,7 @@ pub mod Ecalls
 pub mod Lift
 pub mod CallParts
 pub mod RunningTids
+pub mod SameThreads
 pub mod AcceptedFile
 pub mod ImageLoads
 pub mod ImageParts

@@ -111,6 +111,20 @@ impl Guest {
         }
     }
 
+    /// Tests whether two guests are in one state.
+    pub fn same(&self, other: &Guest) -> bool
+        ensures { IsTrue result ↔ (state_of self.now ≡ state_of other.now) }
+    {
+        self.space.same(&other.space)
+            && self.threads.same(&other.threads)
+            && self.waiting == other.waiting
+            && self.next_tid == other.next_tid
+            && self.opening_break == other.opening_break
+            && self.program_break == other.program_break
+            && self.reservation == other.reservation
+            && self.ended == other.ended
+    }
+
     /// Tests whether some thread runs.
     pub fn has_running(&self) -> bool
         ensures { IsTrue result ↔ HasRunning (state_of self.now) }

@@ -156,3 +156,15 @@ fn steps_and_takes_a_call_back(rt: HostRuntime) -> Result<(), Fail> {
     assert_eq!(rt; thread.regs.pc, 0x1_005C);
     Ok(())
 }
+
+#[test]
+fn tells_states_apart(rt: HostRuntime) -> Result<(), Fail> {
+    let code = [a0(5), a7(94), ECALL, 0, 0, 0, 0, 0];
+    let one = guest_of(rt.alloc(), code)?;
+    let mut other = guest_of(rt.alloc(), code)?;
+    assert!(rt; one.same(&other));
+    assert!(rt; other.is_running(1));
+    let _ = other.step_thread(1)?;
+    assert!(rt; !one.same(&other));
+    Ok(())
+}

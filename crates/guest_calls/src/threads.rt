@@ -97,6 +97,15 @@ impl Threads {
         self.threads.is_empty()
     }
 
+    /// Tests whether the same threads are there.
+    pub(crate) fn same(&self, other: &Threads) -> bool
+        ensures { IsTrue result ↔ (thread_map self.now ≡ thread_map other.now) }
+    {
+        let _ordered = self.threads.len();
+        let _other_ordered = other.threads.len();
+        self.threads == other.threads
+    }
+
     /// Tests whether some thread runs.
     pub(crate) fn any_running(&self) -> bool
         ensures { IsTrue result ↔ ((tid : ℕ) × IsRunning (get (thread_map self.now) tid)) }

@@ -37,16 +37,22 @@ pub record LeadsBy (guest index : ℕ) (f : Frame) (old new : State) : Type 0 wh
   pub step : FrameStep old f new
   pub has_text : HasText (frame_record guest index f)
 
--- the log has gained so many records of a guest, which end in this state
-pub record HasGainedJust {D : Type 0} (state : D → DiskState) (guest count : ℕ) (log : LogValue D) (bodies : List (List ℕ)) (s : State) : Type 0 where
+-- this is the first of the records
+abbrev pub IsFirst : Record → List Record → Type 0
+IsFirst first records = (rest : List Record) × (records ≡ first ∷ rest)
+
+-- the log has gained so many records of a guest, the first of them this one, which end in this state
+pub record HasGainedJust {D : Type 0} (state : D → DiskState) (guest count : ℕ) (first : Record) (log : LogValue D) (bodies : List (List ℕ)) (s : State) : Type 0 where
   pub records : List Record
   pub count_is : length records ≡ count
+  pub opens : IsFirst first records
   pub recorded : IsRecorded guest records s
   pub keeps : Keeps state log (bodies ++ texts_of records)
 
--- the log has gained the records of a guest, which end in this state
-pub record HasGained {D : Type 0} (state : D → DiskState) (guest : ℕ) (log : LogValue D) (bodies : List (List ℕ)) (s : State) : Type 0 where
+-- the log has gained the records of a guest, the first of them this one, which end in this state
+pub record HasGained {D : Type 0} (state : D → DiskState) (guest : ℕ) (first : Record) (log : LogValue D) (bodies : List (List ℕ)) (s : State) : Type 0 where
   pub records : List Record
+  pub opens : IsFirst first records
   pub recorded : IsRecorded guest records s
   pub keeps : Keeps state log (bodies ++ texts_of records)
 

@@ -33,9 +33,6 @@ pub enum Refusal {
     /// The first record is no opening of a guest.
     #[error("bad opening")]
     BadOpening,
-    /// The thread that should run next isn't there. A trial's guest has one thread, so this doesn't come.
-    #[error("no thread to run")]
-    NoThread,
     /// The output could not be written.
     #[error("output failed")]
     OutputFailed,

@@ -5,7 +5,8 @@ ghost use Rattle.rrv_model.specs.Elf.{refusal};
 ghost use Rattle.rrv_model.specs.Opening.{IsName};
 ghost use Rattle.rrv_model.specs.Recording.{IsRecording, EndsIn, items_of};
 ghost use Rattle.guest_calls.specs.Guest.{state_of};
-ghost use Rattle.rrv.specs.Recorded.{OutputOf, chunks_in};
+ghost use Rattle.serial_sched.specs.Slices.{IsQuantum};
+ghost use Rattle.rrv.specs.Recorded.{IsFirst, OutputOf, chunks_in, opening_of};
 
 use crate::recording::record_guest;
 use crate::refusal::Refusal;
@@ -34,6 +35,8 @@ pub fn try_image(
     quantum: u32,
 ) -> Result<Trial, Refusal>
     requires name { IsName name.now }
+    requires quantum { IsQuantum quantum }
+    ensures program { IfOk result (λ trial. IsFirst (opening_of 0 image.now name.now random) trial.records.items) }
     ensures recording { IfOk result (λ trial. IsRecording trial.records.items) }
     ensures ends { IfOk result (λ trial. EndsIn (items_of trial.records.items) (state_of trial.replayed.guest)) }
     ensures output { IfOk result (λ trial. OutputOf (items_of trial.records.items) (chunks_in trial.replayed.output.items)) }
