@@ -3,6 +3,7 @@ use Rattle.std.proofs.Common.{◌≡◌, ℕ, true, false, List, [], ◌∷◌, 
 use Rattle.rrv_model.specs.declared.instr.ImmediateOp.TheVariants.{Addi}
 use Rattle.rrv_model.specs.declared.instr.RegisterOp.TheVariants as ops
 use Rattle.rrv_model.specs.declared.instr.BranchTest.TheVariants.{Bne}
+use Rattle.rrv_model.specs.declared.instr.Ordering.TheVariants as orderings
 use Rattle.rrv_model.specs.declared.instr.StoreKind.TheVariants.{Sw}
 use Rattle.rrv_model.specs.declared.instr.Instr.TheVariants.{Jal, Branch, Store, OpImm, Op, Lr, Sc}
 use Rattle.rrv_model.specs.declared.record.End.TheVariants as ends
@@ -23,10 +24,10 @@ _div : Stands 0x02B54633 (Op ops.Div 12 10 11)
 _div = record { code_is = refl; f3_is = refl; f7_is = refl; rd_is = refl; rs1_is = refl; rs2_is = refl }
 
 -- sc.w a2, a3, (a1) and lr.w a0, (a1)
-_sc : Stands 0x18D5A62F (Sc (record { acquire = false; release = false }) 12 11 13)
+_sc : Stands 0x18D5A62F (Sc orderings.Relaxed 12 11 13)
 _sc = record { code_is = refl; f3_is = refl; f5_is = refl; acquire_is = refl; release_is = refl; rd_is = refl; rs1_is = refl; rs2_is = refl }
 
-_lr : Stands 0x1005A52F (Lr (record { acquire = false; release = false }) 10 11)
+_lr : Stands 0x1005A52F (Lr orderings.Relaxed 10 11)
 _lr = record { code_is = refl; f3_is = refl; f5_is = refl; acquire_is = refl; release_is = refl; rd_is = refl; rs1_is = refl; rs2_is = refl }
 
 -- bne a0, a1, -4; sw a0, -8(sp); jal x0, -4

@@ -9,3 +9,7 @@ pub mod Decoding
 pub mod CallExamples
 pub mod RunExample
 pub mod RunLaws
+pub mod CrashLaws
+pub mod SettledLaws
+pub mod RecoveredLaws
+pub mod StoreLaws

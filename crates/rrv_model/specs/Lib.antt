@@ -17,3 +17,6 @@ pub mod CrashModel
 pub mod StoreText
 pub mod DiskCalls
 pub mod Failures
+pub mod Settled
+pub mod Recovered
+pub mod Refused

@@ -297,6 +297,8 @@ pub record MayTakeMemory (h : Hart) : Type 0 where
   pub fetches : fetched h.memory h.regs.pc ≡ Ok word
   pub stands : Stands word instr
   pub takes : may_take_memory instr ≡ Bool.true
+  -- and does not fault
+  pub goes : (kind : FaultKind) → executed (Some instr) h ≡ Faulted kind → ⊥
 
 -- so is the next instruction of a thread
 pub record ThreadMayTakeMemory (s : State) (tid : ℕ) : Type 0 where

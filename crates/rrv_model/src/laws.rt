@@ -5,6 +5,7 @@ ghost use Rattle.rrv_model.specs.FrameStep.{OneStateAfterFrame};
 ghost use Rattle.rrv_model.specs.Calls.{OneStateAfterCall};
 ghost use Rattle.rrv_model.specs.RecordText.{OneReading, OneSpelling};
 ghost use Rattle.rrv_model.specs.Recording.{BeginningsAreRecordings, FramesAppend, OneEnd};
+ghost use Rattle.rrv_model.specs.Recovered.{BeginningsAreRecovered, OneBatch, OneRecovery};
 
 /// A state, a thread and a call's record leave one state after at most, whatever the outside answered.
 pub fn one_state_after_call()
@@ -44,4 +45,19 @@ pub fn one_end()
 /// A frame from the state behind a recording makes a longer recording, which ends in the frame's new state.
 pub fn frames_append()
     ensures { FramesAppend }
+{}
+
+/// A body is the text of one list of records at most.
+pub fn one_batch()
+    ensures { OneBatch }
+{}
+
+/// From bodies at most one list of records is recovered, and so of each guest.
+pub fn one_recovery()
+    ensures { OneRecovery }
+{}
+
+/// What is recovered from the first of some bodies is the first of what is recovered from all.
+pub fn beginnings_are_recovered()
+    ensures { BeginningsAreRecovered }
 {}
