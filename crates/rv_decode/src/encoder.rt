@@ -145,8 +145,8 @@ fn atomic_word(funct5: u32, ordering: Ordering, rd: Register, rs1: Register, rs2
     ensures stands { IsA result funct5 ordering rd rs1 rs2 }
     ensures back { (w : ℕ) → w < 2 ^ 32 → IsA w funct5 ordering rd rs1 rs2 → w ≡ result }
 {
-    let acquire = flag_of(ordering.acquire);
-    let release = flag_of(ordering.release);
+    let acquire = flag_of(ordering.acquires());
+    let release = flag_of(ordering.releases());
     0b0101111
         + (number_of(rd) << 7)
         + (0b010 << 12)

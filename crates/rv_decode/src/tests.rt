@@ -67,8 +67,7 @@ fn operation(op: RegisterOp) -> Instr {
 }
 
 /// An operation of a3 and the word at a1, to a2.
-fn atomic(op: AmoOp, acquire: bool, release: bool) -> Instr {
-    let ordering = Ordering { acquire, release };
+fn atomic(op: AmoOp, ordering: Ordering) -> Instr {
     Instr::Amo {
         op,
         ordering,
@@ -154,10 +153,7 @@ fn operations(rt: HostRuntime) {
 
 #[test]
 fn atomics(rt: HostRuntime) {
-    let ordering = Ordering {
-        acquire: false,
-        release: false,
-    };
+    let ordering = Ordering::Relaxed;
     // lr.w a0, (a1)
     let (rd, rs1) = (Register::new(10), Register::new(11));
     assert_is(&rt, 0x1005_A52F, &Instr::Lr { ordering, rd, rs1 });
@@ -174,9 +170,13 @@ fn atomics(rt: HostRuntime) {
         },
     );
     // amoadd.w, amoswap.w.aqrl and amomaxu.w.rl
-    assert_is(&rt, 0x00D5_A62F, &atomic(AmoOp::Add, false, false));
-    assert_is(&rt, 0x0ED5_A62F, &atomic(AmoOp::Swap, true, true));
-    assert_is(&rt, 0xE2D5_A62F, &atomic(AmoOp::Maxu, false, true));
+    assert_is(&rt, 0x00D5_A62F, &atomic(AmoOp::Add, Ordering::Relaxed));
+    assert_is(
+        &rt,
+        0x0ED5_A62F,
+        &atomic(AmoOp::Swap, Ordering::AcquireRelease),
+    );
+    assert_is(&rt, 0xE2D5_A62F, &atomic(AmoOp::Maxu, Ordering::Release));
 }
 
 #[test]
@@ -185,8 +185,9 @@ fn calls_and_fences(rt: HostRuntime) {
     assert_is(&rt, 0x0010_0073, &Instr::Ebreak);
     assert_is(&rt, 0x0000_000F, &Instr::Fence);
     assert_is(&rt, 0x0000_100F, &Instr::FenceI);
-    // fence iorw, iorw
+    // fence iorw, iorw, encoded again without what is ignored of it
     assert_eq!(rt; decode(0x0FF0_000F), Some(Instr::Fence));
+    assert_eq!(rt; encode(Instr::Fence), 0x0000_000F);
 }
 
 #[test]

@@ -89,9 +89,11 @@ pub fn shift_amount(word: u32) -> ShiftAmount
 pub fn ordering(word: u32) -> Ordering
     ensures { result ≡ ordering_of word }
 {
-    Ordering {
-        acquire: bits(word, 26, 1) == 1,
-        release: bits(word, 25, 1) == 1,
+    match (bits(word, 26, 1) == 1, bits(word, 25, 1) == 1) {
+        (false, false) => Ordering::Relaxed,
+        (true, false) => Ordering::Acquire,
+        (false, true) => Ordering::Release,
+        (true, true) => Ordering::AcquireRelease,
     }
 }
 

@@ -1,14 +1,14 @@
 //! The atomic instructions, on aligned words.
 
-ghost use Rattle.std.specs.Prelude.{◌≡◌, ℕ, Option, IfOk, IfSome, IfNone, OnErr, false, if◌then◌else◌, ◌&&◌};
+ghost use Rattle.std.specs.Prelude.{◌≡◌, ℕ, Option, IfOk, IfSome, IfNone, OnErr, true, false, if◌then◌else◌, ◌&&◌};
 ghost use Rattle.rrv_model.specs.Memory.{writable};
 ghost use Rattle.rrv_model.specs.State.{AreRegs};
 ghost use Rattle.rrv_model.specs.Step.{is_reserved, word_at, stores};
 ghost use Rattle.rrv_model.specs.declared.instr.Instr.TheVariants as instrs;
 ghost use Rattle.rrv_model.specs.declared.instr.Ordering.{Ordering};
 ghost use Rattle.rrv_model.specs.declared.instr.StoreKind.TheVariants.{Sw};
-ghost use Rattle.rv_machine.specs.Outcome.{hart, Executes};
-ghost use Rattle.guest_pages.specs.Space.{memory_of};
+ghost use Rattle.rv_machine.specs.Outcome.{hart, DoesNotFault, Executes};
+ghost use Rattle.guest_pages.specs.Space.{memory_of, snapshots_of};
 
 use crate::access::store_word;
 use crate::registers::{finish, read};
@@ -70,6 +70,8 @@ fn store_if_reserved(
     ensures after { IfOk result (λ done. memory_of space.new
         ≡ (if done && reserved then stores Sw address value (memory_of space.old) else memory_of space.old)) }
     ensures refused { OnErr result (memory_of space.new ≡ memory_of space.old) }
+    ensures goes { OnErr result (writable (memory_of space.old) address 4 ≡ true) }
+    ensures snapshots { snapshots_of space.new ≡ snapshots_of space.old }
 {
     if reserved {
         store_word(space, address, value)
@@ -96,7 +98,11 @@ pub(crate) fn store_conditional(
         (hart regs.new (memory_of space.new) reservation.new)) }
     ensures refused { OnErr result (hart regs.new (memory_of space.new) reservation.new
         ≡ hart regs.old (memory_of space.old) reservation.old) }
+    ensures goes { (ordering : Ordering) →
+        OnErr result (DoesNotFault (instrs.Sc ordering rd rs1 rs2)
+        (hart regs.old (memory_of space.old) reservation.old)) }
     ensures regs { AreRegs regs.new }
+    ensures snapshots { snapshots_of space.new ≡ snapshots_of space.old }
 {
     let address = read(regs, rs1);
     if address % 4 != 0 {
@@ -141,7 +147,10 @@ pub(crate) fn change(
         (hart regs.old (memory_of space.old) r) (hart regs.new (memory_of space.new) r)) }
     ensures refused { (r : Option ℕ) →
         OnErr result (hart regs.new (memory_of space.new) r ≡ hart regs.old (memory_of space.old) r) }
+    ensures goes { (ordering : Ordering) (r : Option ℕ) →
+        OnErr result (DoesNotFault (instrs.Amo op ordering rd rs1 rs2) (hart regs.old (memory_of space.old) r)) }
     ensures regs { AreRegs regs.new }
+    ensures snapshots { snapshots_of space.new ≡ snapshots_of space.old }
 {
     let address = read(regs, rs1);
     if address % 4 != 0 {

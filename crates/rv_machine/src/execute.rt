@@ -3,8 +3,8 @@
 ghost use Rattle.std.specs.Prelude.{◌≡◌, IfOk, OnErr, true};
 ghost use Rattle.rrv_model.specs.State.{AreRegs};
 ghost use Rattle.rrv_model.specs.Step.{may_take_memory};
-ghost use Rattle.rv_machine.specs.Outcome.{hart, Executes};
-ghost use Rattle.guest_pages.specs.Space.{memory_of};
+ghost use Rattle.rv_machine.specs.Outcome.{hart, DoesNotFault, Executes};
+ghost use Rattle.guest_pages.specs.Space.{memory_of, snapshots_of};
 
 use crate::{Stepped, atomic, compute, memory};
 use guest_pages::Space;
@@ -28,7 +28,9 @@ pub(crate) fn execute(
     ensures refused { OnErr result (hart regs.new (memory_of space.new) reservation.new
         ≡ hart regs.old (memory_of space.old) reservation.old) }
     ensures takes { OnErr result (may_take_memory instr ≡ true) }
+    ensures goes { OnErr result (DoesNotFault instr (hart regs.old (memory_of space.old) reservation.old)) }
     ensures regs { AreRegs regs.new }
+    ensures snapshots { snapshots_of space.new ≡ snapshots_of space.old }
 {
     match instr {
         Instr::Lui { rd, immediate } => Ok(compute::lui(regs, rd, immediate)),

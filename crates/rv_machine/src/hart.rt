@@ -4,7 +4,7 @@ ghost use Rattle.std.specs.Prelude.{◌≡◌, IfOk, OnErr};
 ghost use Rattle.rrv_model.specs.State.{AreRegs};
 ghost use Rattle.rrv_model.specs.Step.{HartStep, MayTakeMemory};
 ghost use Rattle.rv_machine.specs.Outcome.{hart, outcome_of, KeepsAtFault};
-ghost use Rattle.guest_pages.specs.Space.{memory_of};
+ghost use Rattle.guest_pages.specs.Space.{memory_of, snapshots_of};
 
 use crate::Stepped;
 use crate::execute::execute;
@@ -16,7 +16,7 @@ use rv_decode::decode;
 /// Does the one instruction at `pc`. A misaligned `pc` is a MisalignedTarget before anything is fetched.
 ///
 /// # Errors
-/// Memory where a store, an SC or an AMO found no memory. All is then as before.
+/// Memory where a store, an SC or an AMO that does not fault found no memory. All is then as before.
 #[inline(always)]
 #[tactic(auto, unfolding(rrv_model::specs::Step::executed))]
 pub fn step(
@@ -34,6 +34,7 @@ pub fn step(
         ≡ hart regs.old (memory_of space.old) reservation.old) }
     ensures takes { OnErr result (MayTakeMemory (hart regs.old (memory_of space.old) reservation.old)) }
     ensures regs { AreRegs regs.new }
+    ensures snapshots { snapshots_of space.new ≡ snapshots_of space.old }
 {
     let pc = regs.pc;
     if pc % 4 != 0 {

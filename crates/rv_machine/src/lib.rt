@@ -12,6 +12,8 @@ mod registers;
 #[cfg(test)]
 mod tests;
 mod values;
+#[cfg(test)]
+mod vectors;
 
 pub use hart::step;
 use rrv_model::machine::FaultKind;

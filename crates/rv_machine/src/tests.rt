@@ -1,13 +1,20 @@
-//! Worked instructions: each expected value is computed by hand from the instruction set's text.
+//! Worked instructions: each expected value is computed by hand from the instruction set's text, or what qemu-riscv32 gave.
 
 ghost use Rattle.rrv_model.specs.State.{AreRegs};
 
 use crate::registers::write;
+use crate::vectors::{
+    ATOMICS, BRANCHES, CONDITIONALS, IMMEDIATES, JUMPS, LOADS, OTHERS, REGISTERS, RESERVING_LOADS,
+    STORES,
+};
 use crate::{Stepped, step};
 use guest_pages::Space;
 use rrv_model::fields::Register;
+use rrv_model::instr::Instr;
 use rrv_model::machine::{FaultKind, Permissions, Regs, Reservation};
+use rv_decode::{decode, encode};
 use std::alloc::Global;
+use std::process::Abort;
 use std::test::Fail;
 
 const CODE: u32 = 0x1_0000;
@@ -195,7 +202,14 @@ fn calls_and_faults(rt: HostRuntime) -> Result<(), Fail> {
         (0x00D5_A023, 0x8000, Stepped::Fault(FaultKind::Store), CODE),
         (0x1005_A52F, 0x8000, Stepped::Fault(FaultKind::Load), CODE),
         (0x18D5_A62F, 0x8000, Stepped::Fault(FaultKind::Store), CODE),
-        // the same two atomics and amoadd.w a2, a3, (a1), misaligned there
+        // sc.w a2, a3, (a1), misaligned where memory is mapped
+        (
+            0x18D5_A62F,
+            DATA + 1,
+            Stepped::Fault(FaultKind::MisalignedAtomic),
+            CODE,
+        ),
+        // the same two atomics and amoadd.w a2, a3, (a1), misaligned where nothing is mapped
         (
             0x1005_A52F,
             0x8002,
@@ -282,5 +296,132 @@ fn changes_words(rt: HostRuntime) -> Result<(), Fail> {
     assert_eq!(rt; it.regs.registers[12], 0xFFFF_FFFF);
     assert_eq!(rt; it.data, Some(1));
     assert_eq!(rt; it.reservation, Some(DATA));
+    Ok(())
+}
+
+/// What qemu-riscv32 gave for a row: how the step ended, `pc`, a2, and the word in memory.
+#[derive(Clone, Copy)]
+struct Want {
+    stepped: Stepped,
+    pc: u32,
+    rd: u32,
+    data: u32,
+}
+
+/// Behind the instruction, with this in a2, and this word in memory.
+fn goes_on(rd: u32, data: u32) -> Want {
+    Want {
+        stepped: Stepped::Next,
+        pc: CODE.wrapping_add(4),
+        rd,
+        data,
+    }
+}
+
+/// The step was as wanted, and the word comes back from its instruction, a FENCE without what is ignored of it.
+fn assert_as_wanted(rt: &impl Abort, word: u32, it: &Done, want: Want) {
+    assert_eq!(rt; it.stepped, want.stepped, "at {word:08X}");
+    assert_eq!(rt; it.regs.pc, want.pc, "at {word:08X}");
+    assert_eq!(rt; it.regs.registers[12], want.rd, "at {word:08X}");
+    assert_eq!(rt; it.data, Some(want.data), "at {word:08X}");
+    let Some(instr) = decode(word) else {
+        panic!(rt; "no instruction: {word:08X}");
+    };
+    let again = if instr == Instr::Fence {
+        0x0000_000F
+    } else {
+        word
+    };
+    assert_eq!(rt; encode(instr), again, "of {word:08X}");
+}
+
+#[test]
+fn computes_as_qemu(rt: HostRuntime) -> Result<(), Fail> {
+    for (word, rs1, rd) in IMMEDIATES {
+        let it = run_one(rt.alloc(), word, [rs1, 0, 9, 0], 0, None)?;
+        assert_as_wanted(&rt, word, &it, goes_on(rd, 0));
+    }
+    for (word, rs1, rs2, rd) in REGISTERS {
+        let it = run_one(rt.alloc(), word, [rs1, rs2, 9, 0], 0, None)?;
+        assert_as_wanted(&rt, word, &it, goes_on(rd, 0));
+    }
+    Ok(())
+}
+
+#[test]
+fn jumps_as_qemu(rt: HostRuntime) -> Result<(), Fail> {
+    for (word, rs1, rd, pc) in JUMPS {
+        let it = run_one(rt.alloc(), word, [rs1, 0, 9, 0], 0, None)?;
+        let want = Want {
+            pc,
+            ..goes_on(rd, 0)
+        };
+        assert_as_wanted(&rt, word, &it, want);
+    }
+    for (word, rs1, rs2, pc) in BRANCHES {
+        let it = run_one(rt.alloc(), word, [rs1, rs2, 9, 0], 0, None)?;
+        let want = Want {
+            pc,
+            ..goes_on(9, 0)
+        };
+        assert_as_wanted(&rt, word, &it, want);
+    }
+    Ok(())
+}
+
+#[test]
+fn loads_and_stores_as_qemu(rt: HostRuntime) -> Result<(), Fail> {
+    for (word, rs1, data, rd) in LOADS {
+        let it = run_one(rt.alloc(), word, [rs1, 0, 9, 0], data, None)?;
+        assert_as_wanted(&rt, word, &it, goes_on(rd, data));
+    }
+    for (word, rs1, rs2, data) in STORES {
+        let it = run_one(rt.alloc(), word, [rs1, rs2, 9, 0], 0x1111_1111, None)?;
+        assert_as_wanted(&rt, word, &it, goes_on(9, data));
+    }
+    Ok(())
+}
+
+#[test]
+fn reserves_as_qemu(rt: HostRuntime) -> Result<(), Fail> {
+    for (word, data, rd) in RESERVING_LOADS {
+        let it = run_one(rt.alloc(), word, [DATA, 0, 9, 0], data, None)?;
+        assert_as_wanted(&rt, word, &it, goes_on(rd, data));
+        assert_eq!(rt; it.reservation, Some(DATA), "at {word:08X}");
+    }
+    for (word, reservation, rs2, rd, data) in CONDITIONALS {
+        let it = run_one(
+            rt.alloc(),
+            word,
+            [DATA, rs2, 9, 0],
+            0x1111_1111,
+            reservation,
+        )?;
+        assert_as_wanted(&rt, word, &it, goes_on(rd, data));
+        assert_eq!(rt; it.reservation, None, "at {word:08X}");
+    }
+    Ok(())
+}
+
+#[test]
+fn changes_words_as_qemu(rt: HostRuntime) -> Result<(), Fail> {
+    for (word, rs2, data, rd, after) in ATOMICS {
+        let it = run_one(rt.alloc(), word, [DATA, rs2, 9, 0], data, None)?;
+        assert_as_wanted(&rt, word, &it, goes_on(rd, after));
+    }
+    Ok(())
+}
+
+#[test]
+fn calls_and_fences_as_qemu(rt: HostRuntime) -> Result<(), Fail> {
+    for (word, rs1, stepped, pc) in OTHERS {
+        let it = run_one(rt.alloc(), word, [rs1, 0, 9, 0], 0, None)?;
+        let want = Want {
+            stepped,
+            pc,
+            ..goes_on(9, 0)
+        };
+        assert_as_wanted(&rt, word, &it, want);
+    }
     Ok(())
 }
