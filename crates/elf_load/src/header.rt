@@ -12,9 +12,10 @@ pub(crate) const HEADER_BYTES: u64 = 32;
 const PT_LOAD: u32 = 1;
 
 const PT_INTERP: u32 = 3;
-/// The least address that a PT_LOAD may have, and the least above all that it may have.
-const LEAST_ADDRESS: u32 = 0x1000;
 
+/// The least address that a PT_LOAD may have.
+const LEAST_ADDRESS: u32 = 0x1000;
+/// The least address above all that it may have.
 const END_OF_ADDRESSES: u64 = 0x7000_0000;
 
 /// A program header (System V ABI, "Program Header"), without its physical address and its alignment.

@@ -105,8 +105,9 @@ impl Image {
     }
 }
 
-/// Reads a static executable for RV32 (System V ABI, "Object Files"; RISC-V ELF psABI). `Memory` comes
-/// only where a growth was refused, and for no file that one of the refusals 1 to 9 applies to.
+/// Reads a static executable for RV32 (System V ABI, "Object Files"; RISC-V ELF psABI). A file that is none is refused
+/// by the lowest fault that applies to it. `Memory` comes only where a growth was refused, and for no file that one of
+/// the refusals 1 to 9 applies to.
 pub fn parse(alloc: Global, elf: &[u8]) -> Result<Image, ElfFault>
     ensures image { IfOk result (λ image. image ≡ elf.now) }
     ensures accepted { OnOk result (refusal elf.now ≡ None) }

@@ -8,11 +8,10 @@ ghost use Rattle.elf_load.specs.Refusals.{limit_refusal};
 
 use crate::fault::ElfFault;
 use crate::header::ProgramHeader;
+use crate::loads::highest_end;
 use rrv_model::limits::{MAX_ELF, PAGE_BYTES};
 use std::alloc::{AllocError, Global};
 
-/// Pages below the end of the addresses that a PT_LOAD may have.
-const PAGES: usize = 0x7_0000;
 /// Pages that the PT_LOADs may touch.
 const MAX_LOADED_PAGES: usize = 16_128;
 
@@ -29,7 +28,8 @@ pub(crate) fn check_limits(
     ensures refused { IfErr result (λ fault. fault ≢ ElfFault.Memory
         → limit_refusal elf.now ≡ Some (number_of fault)) }
 {
-    if elf.len() > MAX_ELF as usize || touched_pages(alloc, found, PAGES)? > MAX_LOADED_PAGES {
+    let pages = pages_to_end(found);
+    if elf.len() > MAX_ELF as usize || touched_pages(alloc, found, pages)? > MAX_LOADED_PAGES {
         return Err(ElfFault::TooLarge);
     }
     if !has_memory(found) {
@@ -43,6 +43,17 @@ fn has_memory(found: &[ProgramHeader]) -> bool
     ensures { result ≡ list_any (λ load. not (is_empty_load load)) found.now }
 {
     found.iter().any(|load| !load.is_empty())
+}
+
+/// The pages from address 0 to the highest end of a PT_LOAD: no page behind them is touched.
+fn pages_to_end(found: &[ProgramHeader]) -> usize
+    requires { list_any leaves_range found.now ≡ false }
+    ensures within { All (λ load. 0 < load.memory_len → load_end load ≤ result * 4096) found.now }
+    ensures all { touched_below result found.now ≡ touched_below 0x70000 found.now }
+{
+    let end = highest_end(found);
+    let pages = end.div_ceil(u64::from(PAGE_BYTES));
+    pages as usize
 }
 
 /// How many of so many pages the PT_LOADs touch.

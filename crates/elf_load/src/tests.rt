@@ -8,6 +8,9 @@ use crate::image::parse;
 use std::alloc::{AllocError, Global};
 use std::test::Fail;
 
+mod mutated;
+mod order;
+
 /// `li a0, 5; li a7, 93; ecall`, loaded with its headers at 0x10000.
 const EXIT_FIVE: [u8; 96] = [
     0x7F, 0x45, 0x4C, 0x46, 1, 1, 1, 0, 0, 0, 0, 0, 0, 0, 0, 0, // identification
@@ -24,6 +27,13 @@ const TABLE_BYTES: usize = 308;
 
 fn fault_of(alloc: Global, elf: &[u8]) -> Option<ElfFault> {
     parse(alloc, elf).err()
+}
+
+/// Puts a byte at a place of a file, where the file has that place.
+fn put(elf: &mut [u8], place: usize, byte: u8) {
+    if place < elf.len() {
+        elf[place] = byte;
+    }
 }
 
 /// Writes a number into a file at a place that has room for it.
