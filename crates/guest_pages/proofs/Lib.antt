@@ -4,3 +4,5 @@ pub mod Facts
 pub mod Missing
 pub mod Ranges
 pub mod Same
+pub mod Kept
+pub mod Changes

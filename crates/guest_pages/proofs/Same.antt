@@ -10,7 +10,7 @@ use Rattle.guest_pages.specs.Space.{page_at, memory_in, cell_in, IsPage, ArePage
 use Rattle.guest_pages.specs.Mapping.{SamePage}
 use Rattle.guest_pages.proofs.Facts.{none_high}
 
-same_cell : (p q : Option Page) (k : ℕ) → SamePage p q → option_map (cell_in k) p ≡ option_map (cell_in k) q
+pub same_cell : (p q : Option Page) (k : ℕ) → SamePage p q → option_map (cell_in k) p ≡ option_map (cell_in k) q
 same_cell None None k h = refl
 same_cell None (Some q) k h = absurd h
 same_cell (Some p) None k h = absurd h
@@ -18,7 +18,7 @@ same_cell (Some p) (Some q) k h =
     ap (λ (b : List ℕ). let c : Cell = record { byte = slice_index b k; permissions = p.permissions } in Some c) h.1
     ∙ ap (λ (r : Permissions). let c : Cell = record { byte = slice_index q.bytes.value k; permissions = r } in Some c) h.0
 
-in_page : (pages : List (ℕ × Page)) (n k : ℕ) → k < 4096 → memory_in pages (n * 4096 + k) ≡ option_map (cell_in k) (page_at pages n)
+pub in_page : (pages : List (ℕ × Page)) (n k : ℕ) → k < 4096 → memory_in pages (n * 4096 + k) ≡ option_map (cell_in k) (page_at pages n)
 unfolding memory_in
 in_page pages n k l =
     let place : (n * 4096 + k) / 4096 ≡ n = omega arith in
@@ -34,12 +34,11 @@ same_memory a b ha hb same = λ i x. at x i where
     | inr w ↦ none_high a ha x (omega arith) ∙ sym (none_high b hb x (omega arith))
   ]
 
-permissions_or : Permissions → Option Cell → Permissions
+abbrev pub permissions_or : Permissions → Option Cell → Permissions
 permissions_or d None = d
 permissions_or d (Some c) = c.permissions
 
 same_from_cells : (n : ℕ) (p q : Option Page) → IfSome p (IsPage n) → IfSome q (IsPage n) → ((k : ℕ) → k < 4096 → option_map (cell_in k) p ≡ option_map (cell_in k) q) → SamePage p q
-unfolding permissions_or
 same_from_cells n None None hp hq e = tt
 same_from_cells n None (Some q) hp hq e = absurd (false≢true (ap is_some (e 0 (omega arith))))
 same_from_cells n (Some p) None hp hq e = absurd (false≢true (sym (ap is_some (e 0 (omega arith)))))

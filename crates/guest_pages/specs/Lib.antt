@@ -1,3 +1,4 @@
 pub mod Pages
 pub mod Space
 pub mod Mapping
+pub mod Snapshots

@@ -1,6 +1,7 @@
 -- What mapping leaves.
-use Rattle.std.specs.Prelude.{◌≡◌, ℕ, zero, suc, ◌+◌, ◌*◌, ◌<◌, ◌≤◌, Bool, ◌||◌, if◌then◌else◌, List, [], ◌∷◌, ◌++◌, length, Option, Some, None, is_some, slice_index, ◌==◌, IsSomeAnd}
+use Rattle.std.specs.Prelude.{◌≡◌, ℕ, zero, suc, ◌+◌, ◌*◌, ◌<◌, ◌≤◌, Bool, ◌||◌, if◌then◌else◌, List, [], ◌∷◌, ◌++◌, length, Option, Some, None, is_some, slice_index, ◌==◌, IsSomeAnd, Contains}
 use Rattle.std.specs.List.{list_any}
+use Rattle.std.specs.List.Sorted.{IsStrictlyIncreasing}
 use Rattle.rrv_model.specs.declared.machine.Permissions.{Permissions}
 use Rattle.rrv_model.specs.Memory.{Memory, Cell, is_within, page_bytes, page_count}
 use Rattle.guest_pages.specs.declared.page.Page.{Page}
@@ -60,3 +61,14 @@ SamePage None None = Unit {0}
 SamePage None (Some q) = ⊥
 SamePage (Some p) None = ⊥
 SamePage (Some p) (Some q) = (p.permissions ≡ q.permissions) × (p.bytes.value ≡ q.bytes.value)
+
+-- so at a number
+abbrev pub SameAt : List (ℕ × Page) → List (ℕ × Page) → ℕ → Type 0
+SameAt pages others q = SamePage (page_at pages q) (page_at others q)
+
+-- the numbers below n that don't have a property, rising
+pub record ListsOthers (P : ℕ → Type 0) (n : ℕ) (numbers : List ℕ) : Type 0 where
+  pub rising : IsStrictlyIncreasing numbers
+  pub below : (q : ℕ) → Contains numbers q → q < n
+  pub fail : (q : ℕ) → Contains numbers q → P q → ⊥
+  pub pass : (q : ℕ) → q < n → (Contains numbers q → ⊥) → P q

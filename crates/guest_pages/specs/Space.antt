@@ -1,5 +1,5 @@
 -- What an address space stands for.
-use Rattle.std.specs.Prelude.{◌≡◌, ℕ, ◌/◌, ◌%◌, ◌<◌, ◌≤◌, Bool, true, false, if◌then◌else◌, List, length, Option, Some, None, IfSome, is_some, IsTrue, slice_index}
+use Rattle.std.specs.Prelude.{◌≡◌, ℕ, ◌/◌, ◌%◌, ◌<◌, ◌≤◌, Bool, true, false, if◌then◌else◌, List, length, Option, Some, None, IfSome, is_some, IsTrue, slice_index, slice_index_or}
 use Rattle.std.specs.Option.{option_map}
 use Rattle.std.specs.Ordering.{nat_cmp}
 use Rattle.std.specs.Map.{lookup, keys_of}
@@ -18,6 +18,8 @@ use Rattle.guest_pages.specs.declared.fault.PageFault.TheVariants as faults
 pub record SpaceValue : Type 0 where
   -- by rising number
   pub pages : List (ℕ × Page)
+  -- those of each live snapshot, by its token's number
+  pub snapshots : List (Option (List (ℕ × Page)))
 
 abbrev pub page_at : List (ℕ × Page) → ℕ → Option Page
 page_at pages n = lookup (is_at (nat_cmp n)) pages
@@ -32,6 +34,17 @@ memory_in pages a = option_map (cell_in (a % page_bytes)) (page_at pages (a / pa
 -- the memory that a space stands for
 abbrev pub memory_of : SpaceValue → Memory
 memory_of s = memory_in s.pages
+
+-- the pages of a live snapshot, by its token's number
+abbrev pub kept_at : List (Option (List (ℕ × Page))) → ℕ → Option (List (ℕ × Page))
+kept_at slots n = slice_index_or slots n None
+
+unfoldable pub snapshots_in : List (Option (List (ℕ × Page))) → ℕ → Option Memory
+snapshots_in slots n = option_map memory_in (kept_at slots n)
+
+-- the memory of each live snapshot, by its token's number
+abbrev pub snapshots_of : SpaceValue → ℕ → Option Memory
+snapshots_of s = snapshots_in s.snapshots
 
 -- ---- what holds of every space
 
@@ -85,12 +98,12 @@ test_of accesses.Execute = can_execute
 abbrev pub present : Memory → ℕ → ℕ → Bool
 present m a count = all_cells is_some m a count
 
--- a store of count bytes from a is refused so: the first refusal that applies to any byte
+-- a store of count bytes from a is refused so: the first refusal that applies to any byte, and Memory where none does
 abbrev pub IsStoreRefusal : Memory → ℕ → ℕ → PageFault → Type 0
 IsStoreRefusal m a count faults.NotMapped = (present m a count ≡ false) × (writable m a count ≡ false)
 IsStoreRefusal m a count faults.NotAllowed = (present m a count ≡ true) × (writable m a count ≡ false)
 IsStoreRefusal m a count faults.TooManyPages = ⊥
-IsStoreRefusal m a count faults.Memory = Unit {0}
+IsStoreRefusal m a count faults.Memory = writable m a count ≡ true
 
 -- so is a load, which takes no memory
 abbrev pub IsLoadRefusal : Memory → ℕ → ℕ → PageFault → Type 0

@@ -1,21 +1,24 @@
 //! The address space.
 
-ghost use Rattle.std.specs.Prelude.{◌≡◌, ℕ, ◌+◌, ◌<◌, ◌≤◌, ◌^◌, OnOk, OnErr, IfErr, IsTrue, IsSome, true, false, length, slice_index, ◌%◌, ◌*◌, ◌↔◌};
+ghost use Rattle.std.specs.Prelude.{◌≡◌, ◌≢◌, ℕ, ◌+◌, ◌<◌, ◌≤◌, ◌^◌, OnOk, OnErr, IfErr, IfOk, IsTrue, IsSome, IsSomeAnd, Some, None, true, false, length, slice_index, ◌%◌, ◌*◌, ◌↔◌};
 ghost use Rattle.std.specs.Int.{w8, w16, w32, to_le_bytes};
-ghost use Rattle.rrv_model.specs.Memory.{all_free, all_mapped, byte_or_zero, bytes_at, highest_free_up_to, mapped, no_memory, page_bytes, protected, readable, unmapped, writable, all_cells, stored, page_count, IsMemory};
-ghost use Rattle.guest_pages.specs.Space.{memory_of, fetched_word, loaded_byte, loaded_half, loaded_word, cell_byte, page_at, page_passes, test_of, present, IsLoadRefusal, IsStoreRefusal};
+ghost use Rattle.rrv_model.specs.Memory.{all_free, all_mapped, byte_or_zero, bytes_at, highest_free_up_to, mapped, no_memory, page_bytes, protected, readable, unmapped, writable, all_cells, stored, page_count, is_mapped, IsMemory};
+ghost use Rattle.guest_pages.specs.Space.{memory_of, memory_in, snapshots_of, fetched_word, loaded_byte, loaded_half, loaded_word, cell_byte, page_at, page_passes, test_of, present, IsLoadRefusal, IsStoreRefusal};
 ghost use Rattle.guest_pages.specs.Mapping.{IsMapRefusal, covered};
+ghost use Rattle.guest_pages.specs.Snapshots.{AreChanges, IsPageOf};
 
 use crate::fault::PageFault;
 use crate::mapping::{
     add_page, add_pages, all_there, clear_pages, count_missing, first_there, join_permissions,
-    list_missing, protect_range, remove_range, same_pages,
+    list_changed, list_missing, protect_range, remove_range, same_pages, view_page,
 };
 use crate::page::{
-    Access, Page, copy_bytes, half_at, put_byte, put_bytes, put_half, put_word, word_at,
+    Access, Page, PageView, copy_bytes, half_at, put_byte, put_bytes, put_half, put_word, word_at,
 };
+use crate::snapshot::{Kept, Snapshot, free_number, keep, kept_under, release};
 use rrv_model::limits::MAX_PAGES;
 use rrv_model::machine::Permissions;
+use rrv_model::refusal::Memory;
 use std::alloc::Global;
 use std::collections::BTreeMap;
 use std::marker::Model;
@@ -25,6 +28,7 @@ use std::marker::Model;
 pub struct Space {
     alloc: Global,
     pages: BTreeMap<u32, Page>,
+    snapshots: Vec<Option<Kept>>,
 }
 
 impl Model for Space {
@@ -32,19 +36,21 @@ impl Model for Space {
 
     ghost Value = { SpaceValue };
 
-    ghost view = { λ s. record { pages = s.pages.entries } };
+    ghost view = { λ s. record { pages = s.pages.entries; snapshots = s.snapshots.items } };
 
     ghost invariant = { λ s. ArePages s.pages.entries };
 }
 
 impl Space {
-    /// A space with nothing mapped, which takes no memory.
+    /// A space with nothing mapped and no snapshot, which takes no memory.
     pub fn new(alloc: Global) -> Space
-        ensures { memory_of result ≡ no_memory }
+        ensures memory { memory_of result ≡ no_memory }
+        ensures snapshots { (n : ℕ) → snapshots_of result n ≡ None }
     {
         Space {
             alloc,
             pages: BTreeMap::new(alloc),
+            snapshots: Vec::new(alloc),
         }
     }
 
@@ -72,6 +78,7 @@ impl Space {
         ensures mapped { OnOk result (memory_of self.new ≡ mapped (page * page_bytes) (count * page_bytes) permissions (memory_of self.old)) }
         ensures refused { IfErr result (IsMapRefusal (mapped (page * page_bytes) (count * page_bytes) permissions (memory_of self.old))) }
         ensures err { OnErr result (self.new ≡ self.old) }
+        ensures snapshots { snapshots_of self.new ≡ snapshots_of self.old }
     {
         let more = count_missing(&self.pages, page, count) as usize;
         if self.pages.len() + more > MAX_PAGES as usize {
@@ -90,7 +97,8 @@ impl Space {
     /// Takes count pages away from a page on; where there is none, nothing happens. It takes no memory.
     pub fn unmap(&mut self, page: u32, count: u32)
         requires { page + count < 2 ^ 32 }
-        ensures { memory_of self.new ≡ unmapped (page * page_bytes) (count * page_bytes) (memory_of self.old) }
+        ensures memory { memory_of self.new ≡ unmapped (page * page_bytes) (count * page_bytes) (memory_of self.old) }
+        ensures snapshots { snapshots_of self.new ≡ snapshots_of self.old }
     {
         remove_range(&mut self.pages, page, count);
     }
@@ -108,6 +116,7 @@ impl Space {
         ensures protected { OnOk result (memory_of self.new ≡ protected (page * page_bytes) (count * page_bytes) permissions (memory_of self.old)) }
         ensures refused { IfErr result (λ fault. (fault ≡ PageFault.NotMapped) × (all_mapped (memory_of self.old) page count ≡ false)) }
         ensures err { OnErr result (self.new ≡ self.old) }
+        ensures snapshots { snapshots_of self.new ≡ snapshots_of self.old }
     {
         if !self.is_mapped(page, count) {
             return Err(PageFault::NotMapped);
@@ -156,6 +165,8 @@ impl Space {
         ensures covered { OnOk result (memory_of self.new ≡ covered page permissions (memory_of self.old)) }
         ensures refused { IfErr result (IsMapRefusal (covered page permissions (memory_of self.old))) }
         ensures err { OnErr result (self.new ≡ self.old) }
+        ensures grows { OnErr result (is_mapped (memory_of self.old) page ≡ false) }
+        ensures snapshots { snapshots_of self.new ≡ snapshots_of self.old }
     {
         if self.pages.contains_key(&page) {
             join_permissions(&mut self.pages, page, permissions);
@@ -359,6 +370,7 @@ impl Space {
         ensures stored { OnOk result (memory_of self.new ≡ stored address (to_le_bytes w8 value) (memory_of self.old)) }
         ensures refused { IfErr result (IsStoreRefusal (memory_of self.old) address 1) }
         ensures err { OnErr result (self.new ≡ self.old) }
+        ensures snapshots { snapshots_of self.new ≡ snapshots_of self.old }
     {
         let Some(page) = self.pages.get_mut(&(address / 4096)) else {
             return Err(PageFault::NotMapped);
@@ -378,6 +390,7 @@ impl Space {
         ensures stored { OnOk result (memory_of self.new ≡ stored address (to_le_bytes w16 value) (memory_of self.old)) }
         ensures refused { IfErr result (IsStoreRefusal (memory_of self.old) address 2) }
         ensures err { OnErr result (self.new ≡ self.old) }
+        ensures snapshots { snapshots_of self.new ≡ snapshots_of self.old }
     {
         let at = (address % 4096) as usize;
         if at > 4094 {
@@ -401,6 +414,7 @@ impl Space {
         ensures stored { OnOk result (memory_of self.new ≡ stored address (to_le_bytes w32 value) (memory_of self.old)) }
         ensures refused { IfErr result (IsStoreRefusal (memory_of self.old) address 4) }
         ensures err { OnErr result (self.new ≡ self.old) }
+        ensures snapshots { snapshots_of self.new ≡ snapshots_of self.old }
     {
         let at = (address % 4096) as usize;
         if at > 4092 {
@@ -424,6 +438,7 @@ impl Space {
         ensures stored { OnOk result (memory_of self.new ≡ stored address bytes.now (memory_of self.old)) }
         ensures refused { IfErr result (IsStoreRefusal (memory_of self.old) address (length bytes.now)) }
         ensures err { OnErr result (self.new ≡ self.old) }
+        ensures snapshots { snapshots_of self.new ≡ snapshots_of self.old }
     {
         if !self.passes(address, bytes.len(), Access::Presence) {
             return Err(PageFault::NotMapped);
@@ -438,7 +453,8 @@ impl Space {
     /// Writes bytes that are there, whatever their permissions, as a loader does. It takes no memory.
     pub fn fill(&mut self, address: u32, bytes: &[u8])
         requires { IsTrue (present (memory_of self.old) address (length bytes.now)) }
-        ensures { memory_of self.new ≡ stored address bytes.now (memory_of self.old) }
+        ensures memory { memory_of self.new ≡ stored address bytes.now (memory_of self.old) }
+        ensures snapshots { snapshots_of self.new ≡ snapshots_of self.old }
     {
         // the proof opens the space here, for what holds of its pages
         let _ = &self.pages;
@@ -448,7 +464,8 @@ impl Space {
     fn fill_pages(&mut self, address: u32, bytes: &[u8])
         requires there { IsTrue (present (memory_of self.old) address (length bytes.now)) }
         requires low { address + length bytes.now ≤ 2 ^ 32 }
-        ensures { memory_of self.new ≡ stored address bytes.now (memory_of self.old) }
+        ensures memory { memory_of self.new ≡ stored address bytes.now (memory_of self.old) }
+        ensures snapshots { snapshots_of self.new ≡ snapshots_of self.old }
     {
         let mut at = u64::from(address);
         let mut rest = bytes;
@@ -465,12 +482,73 @@ impl Space {
         requires low { address < 2 ^ 32 }
         requires there { IsSome (memory_of self.old address) }
         requires fits { address % 4096 + length bytes.now ≤ 4096 }
-        ensures { memory_of self.new ≡ stored address bytes.now (memory_of self.old) }
+        ensures memory { memory_of self.new ≡ stored address bytes.now (memory_of self.old) }
+        ensures snapshots { snapshots_of self.new ≡ snapshots_of self.old }
     {
         let Some(page) = self.pages.get_mut(&((address / 4096) as u32)) else {
             unreachable!();
         };
         put_bytes(&mut page.bytes, (address % 4096) as usize, bytes);
+    }
+
+    /// Keeps the memory as it is, under the token that it gives. Refused where a growth is.
+    pub fn snapshot(&mut self) -> Result<Snapshot, Memory>
+        ensures kept { IfOk result (λ token. snapshots_of self.new token ≡ Some (memory_of self.old)) }
+        ensures fresh { IfOk result (λ token. snapshots_of self.old token ≡ None) }
+        ensures others { IfOk result (λ token. (n : ℕ) → n ≢ token →
+            snapshots_of self.new n ≡ snapshots_of self.old n) }
+        ensures memory { memory_of self.new ≡ memory_of self.old }
+        ensures err { OnErr result (self.new ≡ self.old) }
+    {
+        let kept = Kept::copy(&self.pages)?;
+        let number = free_number(&self.snapshots);
+        keep(&mut self.snapshots, number, kept)?;
+        Ok(Snapshot::new(number))
+    }
+
+    /// Lets a snapshot go, whose token is then spent. It takes no memory.
+    pub fn drop_snapshot(&mut self, snapshot: Snapshot)
+        requires { IsSome (snapshots_of self.old snapshot) }
+        ensures gone { snapshots_of self.new snapshot ≡ None }
+        ensures others { (n : ℕ) → n ≢ snapshot → snapshots_of self.new n ≡ snapshots_of self.old n }
+        ensures memory { memory_of self.new ≡ memory_of self.old }
+    {
+        release(&mut self.snapshots, snapshot.number());
+    }
+
+    /// The numbers of the pages that differ from a live snapshot's in bytes, in permissions or in being mapped, rising.
+    /// Refused where a growth is.
+    pub fn changed_since(&self, snapshot: &Snapshot) -> Result<Vec<u32>, Memory>
+        requires { IsSome (snapshots_of self.now snapshot.now) }
+        ensures { IfOk result (λ numbers. IsSomeAnd (snapshots_of self.now snapshot.now) (λ before.
+            AreChanges before (memory_of self.now) numbers.items)) }
+    {
+        let kept = self.kept(snapshot);
+        let numbers = list_changed(self.alloc, kept.pages(), &self.pages)?;
+        Ok(numbers)
+    }
+
+    /// A page's permissions and bytes, whatever its permissions; None where it isn't mapped. It takes no memory.
+    pub fn page(&self, number: u32) -> Option<PageView<'_>>
+        ensures { IsPageOf (memory_of self.now) number result }
+    {
+        view_page(&self.pages, number)
+    }
+
+    /// A page as a live snapshot has it, as [`Space::page`] reads it.
+    pub fn snapshot_page(&self, snapshot: &Snapshot, number: u32) -> Option<PageView<'_>>
+        requires { IsSome (snapshots_of self.now snapshot.now) }
+        ensures { IsSomeAnd (snapshots_of self.now snapshot.now) (λ before. IsPageOf before number result) }
+    {
+        view_page(self.kept(snapshot).pages(), number)
+    }
+
+    /// What a live snapshot keeps.
+    fn kept(&self, snapshot: &Snapshot) -> &Kept
+        requires { IsSome (snapshots_of self.now snapshot.now) }
+        ensures { snapshots_of self.now snapshot.now ≡ Some (memory_in result.now) }
+    {
+        kept_under(&self.snapshots, snapshot.number())
     }
 
     /// Whether all bytes of a range pass.

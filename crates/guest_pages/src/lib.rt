@@ -1,13 +1,16 @@
-//! A guest's address space: whole pages, each with its permissions.
+//! A guest's address space: whole pages, each with its permissions, and snapshots of them.
 #![tactic(auto)]
 
 mod address_space;
 pub mod fault;
 mod mapping;
 pub mod page;
+mod snapshot;
 
 pub use address_space::Space;
 pub use fault::PageFault;
+pub use page::PageView;
+pub use snapshot::Snapshot;
 
 #[cfg(test)]
 mod tests;

@@ -6,10 +6,11 @@ ghost use Rattle.std.specs.Map.{keys_of};
 ghost use Rattle.std.specs.List.Sorted.{IsStrictlySortedBy};
 ghost use Rattle.rrv_model.specs.Memory.{all_mapped, is_mapped};
 ghost use Rattle.guest_pages.specs.Space.{memory_in, page_at};
-ghost use Rattle.guest_pages.specs.Mapping.{missing, has_number, union, AreProtected, IsClear, IsJoined, SamePage};
+ghost use Rattle.guest_pages.specs.Mapping.{missing, has_number, union, AreProtected, IsClear, IsJoined, SamePage, SameAt, ListsOthers};
+ghost use Rattle.guest_pages.specs.Snapshots.{IsPageOf};
 ghost use Rattle.guest_pages.specs.declared.page.Page.{Page};
 
-use crate::page::Page;
+use crate::page::{Page, PageView};
 use rrv_model::machine::Permissions;
 use std::alloc::{AllocError, Global};
 use std::collections::BTreeMap;
@@ -265,6 +266,17 @@ pub(crate) fn first_there(pages: &BTreeMap<u32, Page>, first: u32, count: u32) -
     None
 }
 
+/// What a reader sees at a number.
+pub(crate) fn view_page(pages: &BTreeMap<u32, Page>, number: u32) -> Option<PageView<'_>>
+    ensures { IsPageOf (memory_in pages.now.entries) number result }
+{
+    let page = pages.get(&number)?;
+    Some(PageView {
+        permissions: page.permissions,
+        bytes: &page.bytes,
+    })
+}
+
 /// Whether two maps have the same pages.
 pub(crate) fn same_pages(pages: &BTreeMap<u32, Page>, others: &BTreeMap<u32, Page>) -> bool
     ensures all { result ≡ true → (q : ℕ) → q < 0x80000 → SamePage (page_at pages.now.entries q) (page_at others.now.entries q) }
@@ -276,6 +288,25 @@ pub(crate) fn same_pages(pages: &BTreeMap<u32, Page>, others: &BTreeMap<u32, Pag
         }
     }
     true
+}
+
+/// The numbers of the pages at which two maps differ, rising.
+pub(crate) fn list_changed(
+    alloc: Global,
+    pages: &BTreeMap<u32, Page>,
+    others: &BTreeMap<u32, Page>,
+) -> Result<Vec<u32>, AllocError>
+    ensures { IfOk result (λ numbers.
+        ListsOthers (SameAt pages.now.entries others.now.entries) 0x80000 numbers.items) }
+{
+    let mut numbers = Vec::new(alloc);
+    for number in 0..0x80000 {
+        if same_at(pages, others, number) {
+            continue;
+        }
+        numbers.push(number)?;
+    }
+    Ok(numbers)
 }
 
 fn same_at(pages: &BTreeMap<u32, Page>, others: &BTreeMap<u32, Page>, number: u32) -> bool

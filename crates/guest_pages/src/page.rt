@@ -6,6 +6,7 @@ ghost use Rattle.guest_pages.specs.Pages.{run, IsWritten};
 ghost use Rattle.guest_pages.specs.Space.{page_passes, test_of};
 
 use rrv_model::machine::Permissions;
+use std::alloc::AllocError;
 
 /// A page of 4,096 bytes.
 #[derive(Drop)]
@@ -14,6 +15,29 @@ pub struct Page {
     pub permissions: Permissions,
     /// Its bytes, by their place in the page.
     pub bytes: Box<[u8; 4096]>,
+}
+
+impl Clone for Page {
+    ghost use Rattle.std.specs.Prelude.{◌≡◌};
+
+    ghost is_clone = { λ p q. (q.permissions ≡ p.permissions) × (q.bytes.value ≡ p.bytes.value) };
+
+    fn clone(&self) -> Result<Page, AllocError> {
+        let bytes = self.bytes.clone()?;
+        Ok(Page {
+            permissions: self.permissions,
+            bytes,
+        })
+    }
+}
+
+/// A page as a reader sees it.
+#[derive(Clone, Copy)]
+pub struct PageView<'a> {
+    /// What may be done with its bytes.
+    pub permissions: Permissions,
+    /// Its bytes, by their place in the page.
+    pub bytes: &'a [u8; 4096],
 }
 
 /// What is asked of a page.

@@ -1,5 +1,9 @@
 //! Calls at values worked by hand.
 
+mod edges;
+mod memory;
+mod snapshots;
+
 use crate::{PageFault, Space};
 use rrv_model::machine::Permissions;
 use std::test::Fail;
@@ -96,6 +100,22 @@ fn the_limit_of_pages(rt: HostRuntime) -> Result<(), Fail> {
     assert_eq!(rt; space.fetch(0x3FFF000), Some(0));
     assert!(rt; space.is_readable(0x1000, 0x3FFF000));
     assert!(rt; !space.is_writable(0x1000, 0x3FFF000));
+    Ok(())
+}
+
+#[test]
+fn the_limit_in_one_mapping(rt: HostRuntime) -> Result<(), Fail> {
+    let mut space = Space::new(rt.alloc());
+    assert_eq!(rt; space.map(1, 16_385, DATA), Err(PageFault::TooManyPages));
+    assert_eq!(rt; space.page_count(), 0);
+    space.map(1, 16_384, DATA)?;
+    assert_eq!(rt; space.page_count(), 16_384);
+    assert_eq!(rt; space.map(0x4000, 2, DATA), Err(PageFault::TooManyPages));
+    space.map(1, 16_384, CONSTANTS)?;
+    space.unmap(1, 1);
+    space.map(0x7_FFFF, 1, DATA)?;
+    assert_eq!(rt; space.map(1, 1, DATA), Err(PageFault::TooManyPages));
+    assert_eq!(rt; space.page_count(), 16_384);
     Ok(())
 }
 

@@ -1,7 +1,8 @@
 use Rattle.std.proofs.Common.{◌≡◌, ◌∙◌, ◌+◌, None, length, sym, ap, arith}
-use Rattle.rrv_model.specs.Memory.{page_count}
+use Rattle.rrv_model.specs.Memory.{page_count, is_mapped}
 use Rattle.guest_pages.specs.Space.{SpaceValue, memory_of, page_at}
 use Rattle.guest_pages.specs.Mapping.{covered}
+use Rattle.guest_pages.proofs.Facts.{is_mapped_in}
 use Rattle.guest_pages.proofs.Missing.{found_page, no_page, joined_pages, covered_joined, page_count_covered, added_pages, covered_added}
 use Rattle.guest_pages.proofs.address_space.Space.cover.Goals as goal
 
@@ -48,3 +49,13 @@ returns-clause-covered c =
     let absent : page_at pages c.args.page ≡ None = no_page (page_at pages c.args.page) (sym c.contains_key.ensures ∙ c.if-contains_key.false) in
     covered_added pages c.add_page.new.pages.entries c.args.permissions c.args.page absent c.in-Ok.ensures.here c.add_page.ensures.others
     ∙ ap (λ (s : SpaceValue). covered c.args.page c.args.permissions (memory_of s)) c.self.view_is
+
+pub returns-then-len-clause-grows : goal.returns-then-len-clause-grows
+returns-then-len-clause-grows c =
+    ap (λ (s : SpaceValue). is_mapped (memory_of s) c.args.page) (sym c.self.view_is)
+    ∙ is_mapped_in c.self.inside.pages.entries c.args.page ∙ sym c.contains_key.ensures ∙ c.if-contains_key.false
+
+pub returns-in_default-clause-grows : goal.returns-in_default-clause-grows
+returns-in_default-clause-grows c =
+    ap (λ (s : SpaceValue). is_mapped (memory_of s) c.args.page) (sym c.self.view_is)
+    ∙ is_mapped_in c.self.inside.pages.entries c.args.page ∙ sym c.contains_key.ensures ∙ c.if-contains_key.false

@@ -8,7 +8,7 @@ use Rattle.guest_pages.proofs.address_space.Space.store_byte.Goals as goal
 
 pub returns-then-not-page-clause-err : goal.returns-then-not-page-clause-err
 returns-then-not-page-clause-err c =
-    ap (λ (pages : List (ℕ × Page)). let s : SpaceValue = record { pages = pages } in s)
+    ap (λ (pages : List (ℕ × Page)). let s : SpaceValue = record { pages = pages; snapshots = c.self.inside.snapshots.items } in s)
     (written_back c.self.inside.pages.entries _ (c.args.address / 4096) c.in-Some.page.now (c.get_mut.follows.holds _).0 c.in-Some.ensures.value)
     ∙ c.self.view_is
 

@@ -9,8 +9,8 @@ invariant_of-self c =
     let r = c.remove_range.ensures in
     fewer_pages c.self.inside.pages.entries c.remove_range.new.pages.entries c.args.page c.args.count c.self.invariant r.removed r.below r.above r.ordered r.len
 
-pub returns : goal.returns
-returns c =
+pub returns-clause-memory : goal.returns-clause-memory
+returns-clause-memory c =
     let r = c.remove_range.ensures in
     unmapped_in c.self.inside.pages.entries c.remove_range.new.pages.entries c.args.page c.args.count r.removed r.below r.above
     ∙ ap (λ (s : SpaceValue). unmapped (c.args.page * page_bytes) (c.args.count * page_bytes) (memory_of s)) c.self.view_is

@@ -1,0 +1,21 @@
+use Rattle.std.proofs.Common.{ℕ, None, IsSome, ◌∙◌, ap, sym, subst}
+use Rattle.guest_pages.specs.Space.{SpaceValue, snapshots_of, kept_at}
+use Rattle.guest_pages.proofs.Kept.{live_kept, memory_kept, still_kept}
+use Rattle.guest_pages.proofs.address_space.Space.drop_snapshot.Goals as goal
+
+pub release-requires : goal.release-requires
+release-requires c =
+    subst (λ (n : ℕ). IsSome (kept_at c.self.inside.snapshots.items n)) (sym c.number.ensures)
+    (live_kept c.self.inside.snapshots.items c.args.snapshot
+    (subst (λ (s : SpaceValue). IsSome (snapshots_of s c.args.snapshot)) (sym c.self.view_is) c.requires))
+
+pub returns-clause-gone : goal.returns-clause-gone
+returns-clause-gone c =
+    memory_kept c.release.new.slots.items c.args.snapshot None
+    (ap (kept_at c.release.new.slots.items) (sym c.number.ensures) ∙ c.release.ensures.gone)
+
+pub returns-clause-others : goal.returns-clause-others
+returns-clause-others c = λ n apart.
+    still_kept c.self.inside.snapshots.items c.release.new.slots.items n
+    (c.release.ensures.others n (λ e. apart (e ∙ c.number.ensures)))
+    ∙ ap (λ (s : SpaceValue). snapshots_of s n) c.self.view_is
