@@ -1,0 +1,11 @@
+use Rattle.std.proofs.Common.{refl, sym, ◌∙◌, ap}
+use Rattle.guest_threads.specs.Threads.{ThreadsValue, is_full, thread_map}
+use Rattle.std.specs.FinMap.{len}
+use Rattle.guest_threads.proofs.Rules.{moved, keeps_spawned, room_left}
+use Rattle.guest_threads.proofs.threads.Threads.spawn.Goals as goal
+
+pub invariant_of-self : goal.invariant_of-self
+invariant_of-self c =
+    let full = ap (λ (v : ThreadsValue). is_full v) c.self.view_is ∙ sym c.is_full.ensures ∙ c.if-is_full.false in
+    let room = room_left (len (thread_map c.self.inside.threads.entries)) c.self.inside.next_tid full in
+    moved c.in-Ok.ensures.added refl (keeps_spawned _ _ _ c.args.thread c.self.invariant room.0 room.1 c.requires.fits c.requires.runs)

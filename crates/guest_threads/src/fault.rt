@@ -1,0 +1,17 @@
+//! Why a call on threads refuses.
+
+use thiserror::Error;
+
+/// Why a call on a guest's threads was refused. All is then as before.
+#[derive(Clone, Copy, Debug, PartialEq, Eq, Error)]
+pub enum ThreadFault {
+    /// As many threads live as a guest may have, or no tid is left.
+    #[error("too many threads")]
+    TooMany,
+    /// No such thread runs.
+    #[error("no such thread")]
+    NotThere,
+    /// A growth was refused.
+    #[error("out of memory")]
+    Memory,
+}

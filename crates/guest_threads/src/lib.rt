@@ -1,0 +1,12 @@
+//! The threads of a guest: by tid, with the waiting order and the next tid.
+#![tactic(auto)]
+
+mod by_tid;
+mod changes;
+mod fault;
+#[cfg(test)]
+mod tests;
+mod threads;
+
+pub use fault::ThreadFault;
+pub use threads::Threads;
