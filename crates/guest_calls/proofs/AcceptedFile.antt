@@ -73,6 +73,10 @@ at_most limit n test = grind (arith, nat_tests)
 at_least : (limit n : ℕ) → nat_lt n limit ≡ false → limit ≤ n
 at_least limit n test = grind (arith, nat_tests)
 
+is_true : (b : Bool) → not b ≡ false → b ≡ true
+is_true true e = refl
+is_true false e = cc
+
 -- the number of the first test that is true
 abbrev first_true : List Bool → ℕ → Option ℕ
 first_true [] n = None
@@ -121,4 +125,5 @@ is_accepted file none =
       short = at_most 2_097_152 (length file) (false_left (nat_lt 2_097_152 (length file)) (nat_lt 16_128 (touched_below 0x70000 (loads file))) limits);
       good = are_loads file (loads file) from10.0 from10.1.0 from10.1.1.0;
       pages = at_most 16_128 (touched_below 0x70000 (loads file)) (false_right (nat_lt 2_097_152 (length file)) (nat_lt 16_128 (touched_below 0x70000 (loads file))) limits);
+      fills = is_true (list_any (λ h. not (is_empty_load h)) (loads file)) from10.1.1.1.1.1.0;
     }

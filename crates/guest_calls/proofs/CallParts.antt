@@ -1,5 +1,5 @@
 -- What calls leave, put together from their parts.
-use Rattle.std.proofs.Common.{◌≡◌, ℕ, ◌^◌, ◌<◌, ◌≤◌, ◌≢◌, Bool, true, false, cond, nat_eq, List, [], ◌∷◌, All, lit<, take, filter, find, fold, Option, Some, None, Result, Ok, Err, IfOk, refl, sym, ◌∙◌, ap, subst, arith}
+use Rattle.std.proofs.Common.{◌≡◌, ℕ, ◌^◌, ◌<◌, ◌≤◌, ◌≢◌, Bool, true, false, cond, nat_eq, List, [], ◌∷◌, All, lit<, take, filter, find, fold, Option, Some, None, Result, Ok, Err, IfOk, OnOk, refl, sym, ◌∙◌, ap, subst, arith}
 use Rattle.std.proofs.lemmas.Bool.Decides.{nat_tests}
 use Rattle.std.proofs.lemmas.List.Elements.{All-cons}
 use Rattle.std.specs.FinMap.{remove, len}
@@ -8,12 +8,14 @@ use Rattle.rrv_model.specs.declared.record.Written.{Written}
 use Rattle.rrv_model.specs.declared.record.CallRecord.{CallRecord}
 use Rattle.rrv_model.specs.Memory.{Memory, stored, bytes_at}
 use Rattle.rrv_model.specs.State.{State, thread_at, register}
-use Rattle.rrv_model.specs.CallRows.{answers, change_thread, range, with_memory, waits_at, waiters, woken, wakes, leaves, ends, clears, Row, Answers, NoResult, Call, row_of, call_of, write_row, exit_row, exit_group_row, set_tid_address_row, fails, argument}
+use Rattle.rrv_model.specs.CallRows.{answers, change_thread, range, with_memory, waits_at, waiters, woken, wakes, leaves, ends, clears, Row, Answers, NoResult, Call, row_of, call_of, write_row, writev_row, exit_row, exit_group_row, set_tid_address_row, brk_row, munmap_row, mmap_row, mprotect_row, fails, argument}
 use Rattle.rrv_model.specs.Calls.{Silence, write_all, writes, results, call_row, carried_out}
 use Rattle.rrv_model.specs.RecordText.{HasCallText}
 use Rattle.rrv_model.specs.Output.{put_out}
 use Rattle.guest_calls.specs.declared.syscall.Syscall.{Syscall}
 use Rattle.guest_calls.specs.declared.syscall.Syscall.TheVariants as syscalls
+use Rattle.guest_calls.specs.declared.put.Put.{Put}
+use Rattle.guest_calls.specs.Guest.{chunks_of}
 use Rattle.guest_calls.specs.Carries.{Carries, IsNumber}
 
 -- ---- records
@@ -105,12 +107,17 @@ carries_clearing a tid status bytes old mid new r is m n kept = record {
 
 abbrev pub row_for : Syscall → ℕ → State → Thread → Row
 row_for syscalls.Write tid s t = write_row s t
+row_for syscalls.Writev tid s t = writev_row s t
 row_for syscalls.Exit tid s t = exit_row tid s t
 row_for syscalls.ExitGroup tid s t = exit_group_row t
 row_for syscalls.SetTidAddress tid s t = set_tid_address_row tid t
 row_for syscalls.SchedYield tid s t = answers 0
 row_for syscalls.Getpid tid s t = answers 1
 row_for syscalls.Gettid tid s t = answers tid
+row_for syscalls.Brk tid s t = brk_row s t
+row_for syscalls.Munmap tid s t = munmap_row s t
+row_for syscalls.Mmap tid s t = mmap_row s t
+row_for syscalls.Mprotect tid s t = mprotect_row s t
 row_for syscalls.Other tid s t = fails 38
 
 abbrev row_at : ℕ → ℕ → State → Thread → Row
@@ -119,12 +126,17 @@ row_at n tid s t = row_of (carried_out (call_of n)) tid s t
 row_is : (sys : Syscall) (n tid : ℕ) (s : State) (t : Thread) → IsNumber sys n → row_for sys tid s t ≡ row_at n tid s t
 unfolding row_of
 row_is syscalls.Write n tid s t e = ap (λ n. row_at n tid s t) (sym e)
+row_is syscalls.Writev n tid s t e = ap (λ n. row_at n tid s t) (sym e)
 row_is syscalls.Exit n tid s t e = ap (λ n. row_at n tid s t) (sym e)
 row_is syscalls.ExitGroup n tid s t e = ap (λ n. row_at n tid s t) (sym e)
 row_is syscalls.SetTidAddress n tid s t e = ap (λ n. row_at n tid s t) (sym e)
 row_is syscalls.SchedYield n tid s t e = ap (λ n. row_at n tid s t) (sym e)
 row_is syscalls.Getpid n tid s t e = ap (λ n. row_at n tid s t) (sym e)
 row_is syscalls.Gettid n tid s t e = ap (λ n. row_at n tid s t) (sym e)
+row_is syscalls.Brk n tid s t e = ap (λ n. row_at n tid s t) (sym e)
+row_is syscalls.Munmap n tid s t e = ap (λ n. row_at n tid s t) (sym e)
+row_is syscalls.Mmap n tid s t e = ap (λ n. row_at n tid s t) (sym e)
+row_is syscalls.Mprotect n tid s t e = ap (λ n. row_at n tid s t) (sym e)
 row_is syscalls.Other n tid s t e = ap (λ (call : Call). row_of call tid s t) (sym e)
 
 pub carries_at : (sys : Syscall) (tid : ℕ) (s : State) (t : Thread) (r : CallRecord) (new : State) → IsNumber sys (register t.regs 17) →
@@ -135,6 +147,12 @@ carries_at sys tid s t r new e p = subst (λ (row : Row). Carries row tid s r ne
 
 pub quiet_number : (m : Memory) (t : Thread) (n count : ℕ) → register t.regs 17 ≡ n → n ≢ 64 → n ≢ 66 → [] ≡ put_out m t count
 quiet_number m t n count e a b = grind (arith, nat_tests)
+
+-- a call of another number puts nothing out
+pub quiet_call : {E : Type 0} (r : Result CallRecord E) (put : Option Put) (m : Memory) (t : Thread) (n : ℕ) → OnOk r (put ≡ None) → register t.regs 17 ≡ n → n ≢ 64 → n ≢ 66 →
+    IfOk r (λ q. chunks_of put ≡ put_out m t q.result)
+quiet_call (Ok q) put m t n none e a b = ap chunks_of none ∙ quiet_number m t n q.result e a b
+quiet_call (Err x) put m t n none e a b = tt
 
 pub quiet_count : (m : Memory) (t : Thread) (count : ℕ) → 65_536 < count → [] ≡ put_out m t count
 quiet_count m t count a = grind (arith, nat_tests)

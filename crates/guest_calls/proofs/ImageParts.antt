@@ -1,10 +1,10 @@
 -- Parts of an image: some of its loads, some of their pages.
-use Rattle.std.proofs.Common.{ℕ, ◌/◌, ◌≤◌, ◌&&◌, if◌then◌else◌, List, [], ◌∷◌, length, Some, None}
+use Rattle.std.proofs.Common.{◌≡◌, ℕ, ◌/◌, ◌≤◌, true, not, ◌&&◌, if◌then◌else◌, List, [], ◌∷◌, length, Some, None}
 use Rattle.std.specs.Prelude.{nat_le, nat_lt}
 use Rattle.std.specs.List.{list_any}
 use Rattle.rrv_model.specs.declared.machine.Permissions.{Permissions}
 use Rattle.rrv_model.specs.Memory.{Memory, stored, page_bytes}
-use Rattle.rrv_model.specs.Elf.{Header, touches, touched_below, loads}
+use Rattle.rrv_model.specs.Elf.{Header, touches, touched_below, loads, is_empty_load}
 use Rattle.rrv_model.specs.Opening.{loaded_byte, page_permissions}
 use Rattle.guest_pages.specs.Mapping.{covered_cell}
 use Rattle.guest_calls.specs.Loading.{IsLoad, covered_load, file_bytes}
@@ -34,3 +34,4 @@ pub record IsAccepted (file : List ℕ) : Type 0 where
   pub short : length file ≤ 2_097_152
   pub good : AreLoads file (loads file)
   pub pages : touched_below 0x70000 (loads file) ≤ 16_128
+  pub fills : list_any (λ h. not (is_empty_load h)) (loads file) ≡ true

@@ -15,3 +15,5 @@ pub mod PageCounts
 pub mod PageWalk
 pub mod StackPlaces
 pub mod StackStores
+pub mod Places
+pub mod Buffers

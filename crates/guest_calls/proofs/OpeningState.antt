@@ -1,9 +1,10 @@
 -- The opening state is a state.
-use Rattle.std.proofs.Common.{◌≡◌, ℕ, ◌+◌, ◌*◌, ◌^◌, ◌<◌, ◌≤◌, max, Bool, true, false, cond, ◌==◌, if◌then◌else◌, List, [], ◌∷◌, drop, Option, Some, None, slice_index, arith, refl, ap, sym, ◌∙◌, subst, get_or}
+use Rattle.std.proofs.Common.{◌≡◌, ℕ, ◌+◌, ◌*◌, ◌^◌, ◌<◌, ◌≤◌, max, Bool, true, false, not, ◌||◌, cond, ◌==◌, if◌then◌else◌, List, [], ◌∷◌, drop, Option, Some, None, slice_index, arith, refl, ap, sym, ◌∙◌, subst, get_or}
 use Rattle.std.specs.Prelude.{All, fold, replicate, slice_set, IfSome, IsSome}
 use Rattle.std.specs.FinMap.{FinMap, get, insert, empty, len, get-insert, get-empty, len-insert, len-empty}
 use Rattle.std.specs.Ordering.{nat_cmp, eq_by_cmp}
 use Rattle.std.specs.Cmp.{unsigned_tied}
+use Rattle.std.specs.List.{list_any}
 use Rattle.std.specs.Int.{w32, from_le_bytes}
 use Rattle.std.proofs.lemmas.Cmp.{nat_cmp_total}
 use Rattle.std.proofs.lemmas.List.{get_or-drop}
@@ -12,7 +13,7 @@ use Rattle.std.proofs.lemmas.Bool.Decides.{nat_tests}
 use Rattle.rrv_model.specs.declared.machine.Thread.{Thread}
 use Rattle.rrv_model.specs.Memory.{Memory, page_bytes, pages_for}
 use Rattle.rrv_model.specs.State.{State, IsState, IsThread, AreRegs, IsWaiting}
-use Rattle.rrv_model.specs.Elf.{Header, loads, load_end, refusal, elf_entry}
+use Rattle.rrv_model.specs.Elf.{Header, loads, load_end, refusal, elf_entry, is_empty_load}
 use Rattle.rrv_model.specs.Opening.{opening_state, opening_thread, opening_memory, image_break, stack_pointer, IsName}
 use Rattle.guest_calls.specs.Loading.{IsLoad}
 use Rattle.guest_calls.proofs.ImageParts.{AreLoads, IsAccepted}
@@ -92,11 +93,54 @@ low_break : (file : List ℕ) (hs : List Header) (end : ℕ) → AreLoads file h
 low_break file [] end good low = low
 low_break file (h ∷ hs) end good low = low_break file hs (if h.memory_len == 0 then end else max end (load_end h)) good.1 (break_step file h end good.0 low)
 
+break_grows : (hs : List Header) (end : ℕ) → end ≤ fold (λ end h. if h.memory_len == 0 then end else max end (load_end h)) end hs
+break_grows [] end = omega arith
+break_grows (h ∷ hs) end =
+    let rest = break_grows hs (if h.memory_len == 0 then end else max end (load_end h)) in
+    let here : end ≤ (if h.memory_len == 0 then end else max end (load_end h)) = grind (arith, nat_tests) in
+    omega (arith, rest, here)
+
+filled_break : (file : List ℕ) (h : Header) (end : ℕ) → IsLoad file h → not (is_empty_load h) ≡ true → 0x1000 ≤ (if h.memory_len == 0 then end else max end (load_end h))
+filled_break file h end good fills =
+    let some : 0 < h.memory_len = grind (arith, nat_tests) in
+    let low = good.low some in
+    grind (arith, nat_tests)
+
+-- a load that has a byte ends above the first page
+high_break : (file : List ℕ) (hs : List Header) (end : ℕ) → AreLoads file hs → list_any (λ h. not (is_empty_load h)) hs ≡ true →
+    0x1000 ≤ fold (λ end h. if h.memory_len == 0 then end else max end (load_end h)) end hs
+high_break file [] end good fills = cc
+high_break file (h ∷ hs) end good fills =
+    by_first (not (is_empty_load h)) refl fills (λ some. high_break file hs (if h.memory_len == 0 then end else max end (load_end h)) good.1 some) where
+      by_first : (b : Bool) → not (is_empty_load h) ≡ b → (b || list_any (λ h. not (is_empty_load h)) hs) ≡ true →
+          (list_any (λ h. not (is_empty_load h)) hs ≡ true →
+          0x1000 ≤ fold (λ end h. if h.memory_len == 0 then end else max end (load_end h)) (if h.memory_len == 0 then end else max end (load_end h)) hs) →
+          0x1000 ≤ fold (λ end h. if h.memory_len == 0 then end else max end (load_end h)) (if h.memory_len == 0 then end else max end (load_end h)) hs
+      by_first true e some behind =
+          let here = filled_break file h end good.0 e in
+          let rest = break_grows hs (if h.memory_len == 0 then end else max end (load_end h)) in
+          omega (arith, here, rest)
+      by_first false e some behind = behind some
+
+rounded_up : (n : ℕ) → 0x1000 ≤ n → 0x1000 ≤ pages_for n * page_bytes
+rounded_up n high = omega arith
+
+high_image_break : (file : List ℕ) → IsAccepted file → 0x1000 ≤ image_break file
+high_image_break file accepted = rounded_up _ (high_break file (loads file) 0 accepted.good accepted.fills)
+
 whole_pages : (n : ℕ) → n ≤ 0x70000000 → pages_for n * page_bytes ≤ 0x70000000
 whole_pages n low = omega arith
 
 low_image_break : (file : List ℕ) → IsAccepted file → image_break file ≤ 0x70000000
 low_image_break file accepted = whole_pages _ (low_break file (loads file) 0 accepted.good (omega arith))
+
+-- the opening's breaks
+pub low_breaks : (file : List ℕ) (opening_break program_break : ℕ) → refusal file ≡ None → opening_break ≡ image_break file → program_break ≡ image_break file →
+    (0x1000 ≤ opening_break) × (opening_break ≤ program_break) × (program_break ≤ 0x70000000)
+low_breaks file opening_break program_break none opening_is program_is =
+    let low = low_image_break file (is_accepted file none) in
+    let high = high_image_break file (is_accepted file none) in
+    (omega arith, omega arith, omega arith)
 
 -- ---- the state
 

@@ -34,10 +34,15 @@ CallAsks s tid (Some t) = Asks (call_row s tid t)
 -- the number is that of the call; any other is one that is not carried out
 abbrev pub IsNumber : Syscall → ℕ → Type 0
 IsNumber syscalls.Write n = n ≡ 64
+IsNumber syscalls.Writev n = n ≡ 66
 IsNumber syscalls.Exit n = n ≡ 93
 IsNumber syscalls.ExitGroup n = n ≡ 94
 IsNumber syscalls.SetTidAddress n = n ≡ 96
 IsNumber syscalls.SchedYield n = n ≡ 124
 IsNumber syscalls.Getpid n = n ≡ 172
 IsNumber syscalls.Gettid n = n ≡ 178
+IsNumber syscalls.Brk n = n ≡ 214
+IsNumber syscalls.Munmap n = n ≡ 215
+IsNumber syscalls.Mmap n = n ≡ 222
+IsNumber syscalls.Mprotect n = n ≡ 226
 IsNumber syscalls.Other n = carried_out (call_of n) ≡ Other

@@ -4,3 +4,4 @@ pub mod Runs
 pub mod HartRuns
 pub mod Carries
 pub mod Loading
+pub mod Buffers

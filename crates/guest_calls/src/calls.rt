@@ -22,9 +22,13 @@ use rrv_model::refusal::Memory;
 use std::alloc::Global;
 
 /// The numbers of errors (Linux man pages, errno(3)).
-const BAD_DESCRIPTOR: u32 = 9;
+pub(crate) const BAD_DESCRIPTOR: u32 = 9;
 
-const BAD_ADDRESS: u32 = 14;
+pub(crate) const NO_MEMORY: u32 = 12;
+
+pub(crate) const BAD_ADDRESS: u32 = 14;
+
+pub(crate) const INVALID: u32 = 22;
 
 const NO_SUCH_CALL: u32 = 38;
 
@@ -32,7 +36,7 @@ const NO_SUCH_CALL: u32 = 38;
 const NUMBER: usize = 17;
 
 /// The result of a call that failed.
-fn failure(errno: u32) -> u32
+pub(crate) fn failure(errno: u32) -> u32
     requires { 1 ≤ errno }
     ensures { result + errno ≡ 2 ^ 32 }
 {
@@ -55,7 +59,7 @@ fn cleared_word(alloc: Global, address: u32) -> Result<Items<Written>, Memory>
 }
 
 /// What a call puts out; nothing where there is no byte.
-fn put_of(descriptor: u32, bytes: Vec<u8>) -> Option<Put>
+pub(crate) fn put_of(descriptor: u32, bytes: Vec<u8>) -> Option<Put>
     ensures { chunks_of result
         ≡ (if length bytes.items == 0 then [] else record { descriptor = descriptor; bytes = bytes.items } ∷ []) }
 {
@@ -69,7 +73,8 @@ fn put_of(descriptor: u32, bytes: Vec<u8>) -> Option<Put>
 }
 
 impl Guest {
-    /// Makes the call of a running thread, whose `pc` is past its ECALL. Where a growth is refused, all is as before.
+    /// Makes the call of a running thread, whose `pc` is past its ECALL. Where a growth is refused, all is as before,
+    /// and the outside was not asked.
     pub fn call<O: Outside>(
         &mut self,
         alloc: Global,
@@ -84,6 +89,7 @@ impl Guest {
             ≡ put_out_by (thread_at (state_of self.old) tid) (state_of self.old).memory r.result) }
         ensures refused { OnErr result (self.new ≡ self.old) }
         ensures ran { self.new.ran ≡ self.old.ran }
+        ensures refused_unasked { OnErr result (outside.new ≡ outside.old) }
         ensures unasked { ¬ CallAsks (state_of self.old) tid (thread_at (state_of self.old) tid) → outside.new ≡ outside.old }
     {
         let thread = self.running_thread(tid);
@@ -112,18 +118,23 @@ impl Guest {
     {
         match syscall_of(thread.regs.registers[NUMBER]) {
             Syscall::Write => self.write(alloc, tid, thread),
+            Syscall::Writev => self.writev(alloc, tid, thread),
             Syscall::Exit => self.exit(alloc, tid, thread),
             Syscall::ExitGroup => Ok(self.exit_group(alloc, tid, thread)),
             Syscall::SetTidAddress => Ok(self.set_tid_address(alloc, tid, thread)),
             Syscall::SchedYield => Ok(self.answer(alloc, tid, 0)),
             Syscall::Getpid => Ok(self.answer(alloc, tid, 1)),
             Syscall::Gettid => Ok(self.answer(alloc, tid, tid)),
+            Syscall::Brk => self.brk(alloc, tid, thread),
+            Syscall::Munmap => Ok(self.munmap(alloc, tid, thread)),
+            Syscall::Mmap => self.mmap(alloc, tid, thread),
+            Syscall::Mprotect => Ok(self.mprotect(alloc, tid, thread)),
             Syscall::Other => Ok(self.answer(alloc, tid, failure(NO_SUCH_CALL))),
         }
     }
 
     /// Answers a value, and does nothing else.
-    fn answer(&mut self, alloc: Global, tid: u32, value: u32) -> CallRecord
+    pub(crate) fn answer(&mut self, alloc: Global, tid: u32, value: u32) -> CallRecord
         ensures carries { Carries (answers value) tid (state_of self.old) result (state_of self.new) }
         ensures text { HasCallText result }
         ensures value { result.result ≡ value }

@@ -2,6 +2,7 @@
 
 ghost use Rattle.std.specs.Prelude.{◌≡◌, ◌↔◌, ◌≤◌, ℕ, IsTrue, IfOk, Contains, Some, None};
 ghost use Rattle.std.specs.List.Sorted.{IsStrictlyIncreasing};
+ghost use Rattle.rrv_model.specs.Memory.{page_count, IsMemory};
 ghost use Rattle.rrv_model.specs.State.{thread_at, IsRunning, IsThread};
 ghost use Rattle.guest_pages.specs.Space.{memory_of};
 
@@ -50,9 +51,10 @@ impl Model for Guest {
       put = g.put;
     } };
 
-    ghost use Rattle.std.specs.Prelude.{◌<◌, ◌^◌};
+    ghost use Rattle.std.specs.Prelude.{◌<◌, ◌≤◌, ◌^◌};
 
-    ghost invariant = { λ g. g.ran < 2 ^ 64 };
+    ghost invariant = { λ g. (g.ran < 2 ^ 64) × (0x1000 ≤ g.opening_break) × (g.opening_break ≤ g.program_break)
+        × (g.program_break ≤ 0x70000000) };
 }
 
 impl Guest {
@@ -72,9 +74,13 @@ impl Guest {
         self.ran
     }
 
-    /// The end of the program's data, in bytes.
+    /// The end of the program's data, an address. It never lies below the one at the opening, which lies above the
+    /// first page, nor above 0x70000000.
     pub fn program_break(&self) -> u32
-        ensures { result ≡ (state_of self.now).program_break }
+        ensures value { result ≡ (state_of self.now).program_break }
+        ensures lowest { 0x1000 ≤ (state_of self.now).opening_break }
+        ensures low { (state_of self.now).opening_break ≤ (state_of self.now).program_break }
+        ensures high { (state_of self.now).program_break ≤ 0x70000000 }
     {
         self.program_break
     }
@@ -84,6 +90,14 @@ impl Guest {
         ensures { result ≡ (state_of self.now).reservation }
     {
         self.reservation
+    }
+
+    /// How many pages are mapped. That the memory is one that a guest may have is told here, too.
+    pub fn page_count(&self) -> u32
+        ensures count { result ≡ page_count (state_of self.now).memory }
+        ensures is_memory { IsMemory (state_of self.now).memory }
+    {
+        self.space.page_count()
     }
 
     /// The guest's memory.

@@ -4,6 +4,8 @@
 mod calls;
 mod changes;
 mod guest;
+mod memory_calls;
+mod memory_changes;
 mod opening;
 mod outside;
 mod put;
@@ -13,6 +15,7 @@ mod syscall;
 #[cfg(test)]
 mod tests;
 mod threads;
+mod writev;
 
 pub use guest::Guest;
 pub use outside::Outside;

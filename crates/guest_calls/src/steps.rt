@@ -51,6 +51,7 @@ impl Guest {
         requires { IsRunning (thread_at (state_of self.old) tid) }
         ensures step { IfOk result (λ stepped. StepDoes stepped tid (state_of self.old) (state_of self.new)) }
         ensures ran { OnOk result (self.new.ran ≡ counted self.old.ran 1) }
+        ensures ran_before_call { IfOk result (λ stepped. stepped ≡ Stepped.Call → self.new.ran_before_call ≡ self.old.ran) }
         ensures refused { OnErr result (state_of self.new ≡ state_of self.old) }
         ensures refused_ran { OnErr result (self.new.ran ≡ self.old.ran) }
         ensures takes { OnErr result (ThreadMayTakeMemory (state_of self.old) tid) }

@@ -6,12 +6,17 @@ ghost use Rattle.guest_calls.specs.Carries.{IsNumber};
 #[derive(Clone, Copy, Debug, PartialEq, Eq)]
 pub(crate) enum Syscall {
     Write,
+    Writev,
     Exit,
     ExitGroup,
     SetTidAddress,
     SchedYield,
     Getpid,
     Gettid,
+    Brk,
+    Munmap,
+    Mmap,
+    Mprotect,
     Other,
 }
 
@@ -21,12 +26,17 @@ pub(crate) fn syscall_of(number: u32) -> Syscall
 {
     match number {
         64 => Syscall::Write,
+        66 => Syscall::Writev,
         93 => Syscall::Exit,
         94 => Syscall::ExitGroup,
         96 => Syscall::SetTidAddress,
         124 => Syscall::SchedYield,
         172 => Syscall::Getpid,
         178 => Syscall::Gettid,
+        214 => Syscall::Brk,
+        215 => Syscall::Munmap,
+        222 => Syscall::Mmap,
+        226 => Syscall::Mprotect,
         _ => Syscall::Other,
     }
 }

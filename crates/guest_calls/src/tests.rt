@@ -1,10 +1,14 @@
 //! Small guests, each up to its first call. Results are negated errno values of Linux (man pages, errno(3)).
 
+ghost use Rattle.std.specs.Prelude.{◌≡◌, ◌≤◌, ◌<◌};
+ghost use Rattle.rrv_model.specs.State.{IsThread};
+
 use crate::guest::Guest;
 use crate::outside::Outside;
 use crate::run::RunEnd;
 use elf_load::image::parse;
-use rrv_model::machine::GuestEnd;
+use rrv_model::machine::{GuestEnd, Thread};
+use rrv_model::record::CallRecord;
 use std::alloc::Global;
 use std::process::Abort;
 use std::test::Fail;
@@ -45,7 +49,7 @@ fn a7(n: u32) -> u32 {
 
 /// An outside that has nothing.
 #[derive(Drop)]
-struct Nothing;
+pub(crate) struct Nothing;
 
 impl Outside for Nothing {
     fn read(&mut self, _: &mut [u8]) -> usize {
@@ -59,8 +63,8 @@ impl Outside for Nothing {
     }
 }
 
-/// A guest of these instructions.
-fn guest_of(alloc: Global, code: [u32; 8]) -> Result<Guest, Fail> {
+/// A guest of these instructions: its break stands at 0x11000, and 257 pages are mapped.
+pub(crate) fn guest_of(alloc: Global, code: [u32; 8]) -> Result<Guest, Fail> {
     let mut elf = Vec::with_capacity(alloc, 116)?;
     for byte in HEADERS {
         elf.push(byte)?;
@@ -72,6 +76,37 @@ fn guest_of(alloc: Global, code: [u32; 8]) -> Result<Guest, Fail> {
     }
     let image = parse(alloc, &elf)?;
     Ok(Guest::open(alloc, &image, b"a", [7; 16])?)
+}
+
+/// The thread with a register set.
+fn with(thread: Thread, register: usize, value: u32) -> Thread
+    requires fits { IsThread thread }
+    requires register { (1 ≤ register) × (register < 32) }
+    ensures fits { IsThread result }
+    ensures waits { result.waits_at ≡ thread.waits_at }
+{
+    let mut thread = thread;
+    thread.regs.registers[register] = value;
+    thread
+}
+
+/// What the guest's thread 1 is answered to a call of this number, with these arguments.
+pub(crate) fn answer_of<O: Outside>(
+    rt: &impl Abort,
+    alloc: Global,
+    guest: &mut Guest,
+    outside: &mut O,
+    number: u32,
+    arguments: [u32; 4],
+) -> Result<CallRecord, Fail> {
+    assert!(rt; guest.is_running(1));
+    assert!(rt; guest.ended().is_none());
+    let thread = with(guest.running_thread(1), 17, number);
+    let thread = with(with(thread, 10, arguments[0]), 11, arguments[1]);
+    let thread = with(with(thread, 12, arguments[2]), 13, arguments[3]);
+    guest.threads.set(1, thread);
+    assert!(rt; guest.is_running(1));
+    Ok(guest.call(alloc, 1, outside)?)
 }
 
 /// The guest behind its first call, and what that answered.

@@ -1,11 +1,11 @@
 -- The calls that are carried out ask nobody, so their records are determined by the state.
-use Rattle.std.proofs.Common.{◌≡◌, ℕ, Bool, true, false, cond, refl, sym, ◌∙◌, subst, arith}
+use Rattle.std.proofs.Common.{◌≡◌, ℕ, Bool, true, false, cond, Option, Some, None, refl, sym, ◌∙◌, subst, arith}
 use Rattle.std.proofs.lemmas.Bool.{false≢true}
 use Rattle.std.proofs.lemmas.Bool.Decides.{nat_tests}
 use Rattle.rrv_model.specs.declared.machine.Thread.{Thread}
 use Rattle.rrv_model.specs.declared.record.CallRecord.{CallRecord}
 use Rattle.rrv_model.specs.State.{State, register}
-use Rattle.rrv_model.specs.CallRows.{Row, Answers, NoResult, AsksInput, AsksRandom, AsksTime, Call, Read, Write, Writev, Exit, ExitGroup, SetTidAddress, Futex, SchedYield, Getpid, Gettid, Brk, Munmap, Clone, Mmap, Mprotect, Getrandom, ClockGettime, Other, call_of, row_of}
+use Rattle.rrv_model.specs.CallRows.{Row, Answers, NoResult, AsksInput, AsksRandom, AsksTime, Call, Read, Write, Writev, Exit, ExitGroup, SetTidAddress, Futex, SchedYield, Getpid, Gettid, Brk, Munmap, Clone, Mmap, Mprotect, Getrandom, ClockGettime, Other, call_of, row_of, fails, maps_at, mmap_place}
 use Rattle.rrv_model.specs.Calls.{Answer, Calls, Records, call_row, carried_out}
 use Rattle.rrv_model.proofs.CallLaws.{same_thread}
 
@@ -20,11 +20,15 @@ either : (b : Bool) (x y : Row) → asks x ≡ false → asks y ≡ false → as
 either true x y p q = p
 either false x y p q = q
 
+maps_asks_nobody : (s : State) (t : Thread) (place : Option ℕ) → asks (maps_at s t place) ≡ false
+maps_asks_nobody s t None = refl
+maps_asks_nobody s t (Some page) = grind (arith, nat_tests, either)
+
 asks_nobody : (call : Call) (tid : ℕ) (s : State) (t : Thread) → asks (row_of (carried_out call) tid s t) ≡ false
 unfolding row_of
 asks_nobody Read tid s t = refl
 asks_nobody Write tid s t = grind (arith, nat_tests, either)
-asks_nobody Writev tid s t = refl
+asks_nobody Writev tid s t = grind (arith, nat_tests, either)
 asks_nobody Exit tid s t = grind (arith, nat_tests, either)
 asks_nobody ExitGroup tid s t = refl
 asks_nobody SetTidAddress tid s t = refl
@@ -32,11 +36,11 @@ asks_nobody Futex tid s t = refl
 asks_nobody SchedYield tid s t = refl
 asks_nobody Getpid tid s t = refl
 asks_nobody Gettid tid s t = refl
-asks_nobody Brk tid s t = refl
-asks_nobody Munmap tid s t = refl
+asks_nobody Brk tid s t = grind (arith, nat_tests, either)
+asks_nobody Munmap tid s t = grind (arith, nat_tests, either)
 asks_nobody Clone tid s t = refl
-asks_nobody Mmap tid s t = refl
-asks_nobody Mprotect tid s t = refl
+asks_nobody Mmap tid s t = either _ (fails 22) (maps_at s t (mmap_place s t)) refl (maps_asks_nobody s t (mmap_place s t))
+asks_nobody Mprotect tid s t = grind (arith, nat_tests, either)
 asks_nobody Getrandom tid s t = refl
 asks_nobody ClockGettime tid s t = refl
 asks_nobody Other tid s t = refl

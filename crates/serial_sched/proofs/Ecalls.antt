@@ -42,6 +42,11 @@ ecall (Some (Lr ordering rd rs1)) h after e = absurd (called_is _ after e (grind
 ecall (Some (Sc ordering rd rs1 rs2)) h after e = absurd (called_is _ after e (grind (arith, nat_tests, either)))
 ecall (Some (Amo op ordering rd rs1 rs2)) h after e = absurd (called_is _ after e (grind (arith, nat_tests, either)))
 
+-- an ECALL does not fault
+goes : (h : Hart) (kind : FaultKind) → executed (Some Ecall) h ≡ Faulted kind → ⊥
+unfolding executed
+goes h kind e = called_is (Faulted kind) _ e refl
+
 takes_of_word : (r : Result ℕ FaultKind) (h after : Hart) → fetched h.memory h.regs.pc ≡ r → StepOfWord r h (Called after) → MayTakeMemory h
 takes_of_word (Err kind) h after fetches e = absurd (called_is _ after e refl)
 takes_of_word (Ok w) h after fetches p = record {
@@ -50,6 +55,7 @@ takes_of_word (Ok w) h after fetches p = record {
   fetches = fetches;
   stands = subst (λ (i : Option Instr). Decodes w i) (ecall p.0 h after p.2) p.1;
   takes = refl;
+  goes = goes h;
 }
 
 -- a call may find no memory

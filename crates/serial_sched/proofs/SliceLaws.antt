@@ -16,6 +16,8 @@ use Rattle.rrv_model.specs.FrameStep.{Steps, closed, closed_at_end}
 use Rattle.rrv_model.specs.Output.{Chunk, put_out_by}
 use Rattle.rrv_model.specs.RecordText.{HasCallText}
 use Rattle.guest_calls.specs.Runs.{RunsToCall, RunsToFault, before_call}
+use Rattle.guest_calls.specs.Carries.{CallAsks}
+use Rattle.serial_sched.specs.Asking.{FrameAsks}
 use Rattle.serial_sched.specs.Slices.{CanRun, Sliced, IsWhole}
 use Rattle.serial_sched.specs.Follows.{CallPutsAt}
 use Rattle.serial_sched.proofs.Ways.{get-insert_same, running_behind, steps_end_none}
@@ -54,6 +56,14 @@ call_running limit tid count s called p = running_behind p.before tid called p.c
 pub call_runs_on : (limit tid count : ℕ) (s called : State) → RunsToCall limit tid count s called → s.ended ≡ None → called.ended ≡ None
 call_runs_on limit tid count s called p runs =
     ap (λ (x : State). x.ended) p.calls.after_is ∙ steps_end_none (count - 1) tid s p.before p.steps ∙ runs
+
+-- ---- what looks at the outside
+
+pub frame_asks : (limit tid count : ℕ) (s called : State) (r : CallRecord) (f : Frame) → f ≡ record { tid = tid; count = count; end = ends.Call r } →
+    RunsToCall limit tid count s called → CallAsks called tid (thread_at called tid) → FrameAsks f.end s f.tid f.count
+frame_asks limit tid count s called r f e p asks =
+    subst (λ (x : Frame). FrameAsks x.end s x.tid x.count) (sym e)
+    (record { called = called; reaches = record { some = p.some; before = p.before; steps = p.steps; calls = p.calls }; asks = asks })
 
 -- ---- the ends
 

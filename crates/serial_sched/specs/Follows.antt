@@ -1,6 +1,8 @@
 -- Where the steps of a frame lead.
-use Rattle.std.specs.Prelude.{◌≡◌, ℕ, ◌-◌, ◌<◌, ◌≤◌, List}
+use Rattle.std.specs.Prelude.{◌≡◌, ◌≢◌, ℕ, ◌-◌, ◌<◌, ◌≤◌, List, None}
 use Rattle.rrv_model.specs.declared.machine.FaultKind.{FaultKind}
+use Rattle.rrv_model.specs.declared.record.End.TheVariants.{Stuck}
+use Rattle.rrv_model.specs.declared.record.Frame.{Frame}
 use Rattle.rrv_model.specs.State.{State, thread_at}
 use Rattle.rrv_model.specs.Step.{CallsFrom, FaultsFrom}
 use Rattle.rrv_model.specs.FrameStep.{Steps}
@@ -34,6 +36,13 @@ pub record MeetsNoMemory (old : State) (tid count : ℕ) : Type 0 where
   pub done : ℕ
   pub within : done < count
   pub finds : FindsNoMemory old tid done
+
+-- the guest could go on, but one of the frame's instructions finds no memory
+pub record FrameMeetsNoMemory (old : State) (f : Frame) : Type 0 where
+  pub runs : old.ended ≡ None
+  pub limit : f.count ≤ 1_048_576
+  pub meets : MeetsNoMemory old f.tid f.count
+  pub instructions : f.end ≢ Stuck
 
 -- what a call behind so many instructions puts out
 abbrev pub CallPutsAt : State → ℕ → ℕ → ℕ → List Chunk → Type 0

@@ -1,5 +1,5 @@
 -- What the slice of a choice does.
-use Rattle.std.specs.Prelude.{◌≡◌, ℕ, ◌^◌, ◌<◌, ◌≤◌, ◌⊎◌, List, None}
+use Rattle.std.specs.Prelude.{◌≡◌, ℕ, ◌^◌, ◌<◌, ◌≤◌, ◌⊎◌, List, Option, None}
 use Rattle.rrv_model.specs.declared.record.Choice.{Choice}
 use Rattle.rrv_model.specs.declared.record.End.{End}
 use Rattle.rrv_model.specs.declared.record.End.TheVariants.{Preempt, Call, Fault, Stuck}
@@ -9,6 +9,7 @@ use Rattle.rrv_model.specs.Step.{ThreadMayTakeMemory}
 use Rattle.rrv_model.specs.FrameStep.{Steps, FrameStep}
 use Rattle.rrv_model.specs.Output.{Chunk, FramePuts}
 use Rattle.rrv_model.specs.RecordText.{HasFrameText}
+use Rattle.guest_calls.specs.declared.put.Put.{Put}
 use Rattle.guest_calls.specs.Guest.{HasRunning}
 
 -- so many steps of the thread lead to where its next instruction may take memory
@@ -34,6 +35,13 @@ CallPuts Preempt old f chunks = Unit {0}
 CallPuts (Call r) old f chunks = FramePuts old f (Call r) chunks
 CallPuts (Fault kind) old f chunks = Unit {0}
 CallPuts Stuck old f chunks = Unit {0}
+
+-- a frame that ends in no call keeps what the last call put out
+abbrev pub KeepsPut : End → Option Put → Option Put → Type 0
+KeepsPut Preempt old new = new ≡ old
+KeepsPut (Call r) old new = Unit {0}
+KeepsPut (Fault kind) old new = new ≡ old
+KeepsPut Stuck old new = new ≡ old
 
 -- the quantum is within the limits
 abbrev pub IsQuantum : ℕ → Type 0

@@ -8,6 +8,9 @@ use rrv_model::limits::{MAX_QUANTUM, MIN_QUANTUM};
 use rrv_model::record::Choice;
 use std::marker::Model;
 
+#[cfg(test)]
+mod tests;
+
 /// Something that chooses who runs next.
 pub trait Chooser {
     /// It has no choice left.
@@ -17,7 +20,8 @@ pub trait Chooser {
     fn next(&mut self, runnable: &[u32]) -> Option<Choice>
         requires { 1 ≤ length runnable.now }
         ensures fits { IfSome result (λ choice. Contains runnable.now choice.tid × IsQuantum choice.quantum) }
-        ensures done { is_done self.new ↔ (is_done self.old ⊎ IsNone result) };
+        ensures done { is_done self.new ↔ (is_done self.old ⊎ IsNone result) }
+        ensures ended { is_done self.old → IsNone result };
 
     /// Tests whether it has no choice left.
     fn done(&self) -> bool
@@ -136,6 +140,7 @@ impl Chooser for Listed {
         requires { 1 ≤ length runnable.now }
         ensures fits { IfSome result (λ choice. Contains runnable.now choice.tid × IsQuantum choice.quantum) }
         ensures done { IsTrue self.new.done ↔ (IsTrue self.old.done ⊎ IsNone result) }
+        ensures ended { IsTrue self.old.done → IsNone result }
         ensures takes { IfSome result (λ choice. self.old.left ≡ choice ∷ self.new.left) }
         ensures stops { IsNone result → IsFalse self.old.done → IsCutShort runnable.now self.old.left }
         ensures left { IsNone result → self.new.left ≡ self.old.left }

@@ -1,12 +1,13 @@
 //! The slice of a choice.
 
-ghost use Rattle.std.specs.Prelude.{◌≡◌, ◌↔◌, ◌≤◌, ◌<◌, ◌⊎◌, None, IsSome, IfOk, OnOk, OnErr, IsErrOf};
+ghost use Rattle.std.specs.Prelude.{◌≡◌, ◌↔◌, ◌≤◌, ◌<◌, ◌⊎◌, None, IsSome, IfOk, OnOk, OnErr, IsErrOf, IsOkAnd};
 ghost use Rattle.rrv_model.specs.State.{thread_at, IsRunning};
 ghost use Rattle.rrv_model.specs.Step.{ThreadMayTakeMemory};
 ghost use Rattle.rrv_model.specs.FrameStep.{FrameStep, closed};
 ghost use Rattle.rrv_model.specs.RecordText.{HasFrameText};
 ghost use Rattle.guest_calls.specs.Guest.{state_of, counted, chunks_of, HasRunning};
-ghost use Rattle.serial_sched.specs.Slices.{CanRun, CallPuts, FitsChoice, IsLive, IsQuantum, Sliced};
+ghost use Rattle.serial_sched.specs.Asking.{FrameAsks};
+ghost use Rattle.serial_sched.specs.Slices.{CanRun, CallPuts, FitsChoice, IsLive, IsQuantum, KeepsPut, Sliced};
 
 use crate::fault::SliceFault;
 use guest_calls::{Guest, Outside, RunEnd};
@@ -17,7 +18,7 @@ use rrv_model::refusal::Memory;
 use std::alloc::Global;
 
 /// Runs the chosen thread until it has run the quantum, makes a call or faults, or its next instruction finds no memory.
-/// Where no thread runs, whatever the choice, the guest is stuck, which ends it.
+/// Where no thread runs, whatever the choice, the guest is stuck, which ends it. The outside is asked by calls alone.
 pub fn slice<O: Outside>(
     guest: &mut Guest,
     alloc: Global,
@@ -28,9 +29,12 @@ pub fn slice<O: Outside>(
     ensures text { IfOk result (λ f. HasFrameText f.end f.tid f.count) }
     ensures fits { IfOk result (λ f. FitsChoice f.end (state_of guest.old) f choice) }
     ensures puts { IfOk result (λ f. CallPuts f.end (state_of guest.old) f (chunks_of guest.new.put)) }
+    ensures keeps { IfOk result (λ f. KeepsPut f.end guest.old.put guest.new.put) }
     ensures ran { IfOk result (λ f. guest.new.ran ≡ counted guest.old.ran f.count) }
+    ensures unasked { IfOk result (λ f. ¬ FrameAsks f.end (state_of guest.old) f.tid f.count → outside.new ≡ outside.old) }
     ensures ended { IsErrOf result SliceFault.Ended ↔ IsSome (state_of guest.old).ended }
-    ensures stuck { (state_of guest.old).ended ≡ None → ¬ HasRunning (state_of guest.old) → IfOk result (λ f. f.end ≡ End.Stuck) }
+    ensures stuck { (state_of guest.old).ended ≡ None → ¬ HasRunning (state_of guest.old)
+        → IsOkAnd result (λ f. f.end ≡ End.Stuck) }
     ensures bad_quantum { IsErrOf result SliceFault.BadQuantum ↔ (IsLive (state_of guest.old) × ¬ IsQuantum choice.quantum) }
     ensures not_runnable { IsErrOf result SliceFault.NotRunnable
         ↔ (IsLive (state_of guest.old) × IsQuantum choice.quantum
@@ -39,6 +43,7 @@ pub fn slice<O: Outside>(
     ensures refused { OnErr result (state_of guest.new ≡ state_of guest.old) }
     ensures refused_ran { OnErr result (guest.new.ran ≡ guest.old.ran) }
     ensures refused_put { OnErr result (guest.new.put ≡ guest.old.put) }
+    ensures refused_unasked { OnErr result (outside.new ≡ outside.old) }
 {
     if guest.ended().is_some() {
         return Err(SliceFault::Ended);
@@ -62,6 +67,7 @@ fn get_stuck(guest: &mut Guest) -> Frame
     ensures stuck { result ≡ record { tid = 0; count = 0; end = End.Stuck } }
     ensures frame { FrameStep (state_of guest.old) result (state_of guest.new) }
     ensures ran { guest.new.ran ≡ counted guest.old.ran 0 }
+    ensures put { guest.new.put ≡ guest.old.put }
 {
     let _ran = guest.ran();
     guest.close_slice(Some(GuestEnd::Stuck));
@@ -81,11 +87,14 @@ fn run_slice<O: Outside>(
 ) -> Result<Frame, Memory>
     requires { CanRun (state_of guest.old) choice }
     ensures sliced { IfOk result (λ f. Sliced (state_of guest.old) choice f (state_of guest.new) (chunks_of guest.new.put)) }
+    ensures keeps { IfOk result (λ f. KeepsPut f.end guest.old.put guest.new.put) }
     ensures ran { IfOk result (λ f. guest.new.ran ≡ counted guest.old.ran f.count) }
+    ensures unasked { IfOk result (λ f. ¬ FrameAsks f.end (state_of guest.old) f.tid f.count → outside.new ≡ outside.old) }
     ensures memory { OnErr result (ThreadMayTakeMemory (state_of guest.old) choice.tid) }
     ensures refused { OnErr result (state_of guest.new ≡ state_of guest.old) }
     ensures refused_ran { OnErr result (guest.new.ran ≡ guest.old.ran) }
     ensures refused_put { OnErr result (guest.new.put ≡ guest.old.put) }
+    ensures refused_unasked { OnErr result (outside.new ≡ outside.old) }
 {
     let _ran = guest.ran();
     let tid = choice.tid;

@@ -1,4 +1,4 @@
-//! A guest of three instructions, recorded and followed.
+//! Small guests, recorded and followed.
 
 use crate::{FollowFault, SliceFault, follow, slice, steps};
 use elf_load::image::parse;
@@ -18,6 +18,32 @@ const EXIT_FIVE: [u8; 96] = [
     96, 0, 0, 0, 96, 0, 0, 0, 5, 0, 0, 0, 0, 0x10, 0, 0, // sizes, flags, alignment
     0x13, 5, 0x50, 0, 0x93, 8, 0xD0, 5, 0x73, 0, 0, 0,
 ];
+
+/// The headers of a file of 384 bytes: loaded at 0x10000 to be read and run, from its byte 116 on, and its first word once
+/// more at 0x11000, to be read and written.
+const TWO_LOADS: [u8; 116] = [
+    0x7F, 0x45, 0x4C, 0x46, 1, 1, 1, 0, 0, 0, 0, 0, 0, 0, 0, 0, // identification
+    2, 0, 0xF3, 0, 1, 0, 0, 0, // type, machine, version
+    0x74, 0, 1, 0, 52, 0, 0, 0, 0, 0, 0, 0, // entry, e_phoff, e_shoff
+    0, 0, 0, 0, 52, 0, 32, 0, 2, 0, 0, 0, 0, 0, 0, 0, // flags, sizes and counts
+    1, 0, 0, 0, 0, 0, 0, 0, 0, 0, 1, 0, 0, 0, 1, 0, // PT_LOAD, offset, addresses
+    0x80, 1, 0, 0, 0x80, 1, 0, 0, 5, 0, 0, 0, 0, 0x10, 0, 0, // sizes, flags, alignment
+    1, 0, 0, 0, 0, 0, 0, 0, 0, 0x10, 1, 0, 0, 0x10, 1, 0, // PT_LOAD, offset, addresses
+    4, 0, 0, 0, 4, 0, 0, 0, 6, 0, 0, 0, 0, 0x10, 0, 0, // sizes, flags, alignment
+];
+
+/// `lui a1, 0x11`
+const A1_DATA: u32 = 0x0001_15B7;
+/// `nop`
+const NO_OP: u32 = 0x0000_0013;
+/// `lr.w a0, (a1)`
+const RESERVE: u32 = 0x1005_A52F;
+/// `sc.w a2, a3, (a1)`
+const STORE: u32 = 0x18D5_A62F;
+/// `li a7, 124`
+const A7_YIELD: u32 = 0x07C0_0893;
+/// `ecall`
+const ECALL: u32 = 0x0000_0073;
 
 const CHOICE: Choice = Choice {
     tid: 1,
@@ -43,6 +69,32 @@ impl Outside for Nothing {
 fn opened(alloc: Global) -> Result<Guest, Fail> {
     let image = parse(alloc, &EXIT_FIVE)?;
     Ok(Guest::open(alloc, &image, b"five", [0; 16])?)
+}
+
+fn push_word(elf: &mut Vec<u8>, word: u32) -> Result<(), Fail> {
+    elf.extend_from_slice(&word.to_le_bytes())?;
+    Ok(())
+}
+
+/// A guest whose 64th instruction is an LR, and whose next one is an SC to that address, of 0. A call follows.
+fn reserving(alloc: Global) -> Result<Guest, Fail> {
+    let mut elf = Vec::with_capacity(alloc, 384)?;
+    elf.extend_from_slice(&TWO_LOADS)?;
+    push_word(&mut elf, A1_DATA)?;
+    for _ in 0..62 {
+        push_word(&mut elf, NO_OP)?;
+    }
+    for word in [RESERVE, STORE, A7_YIELD, ECALL] {
+        push_word(&mut elf, word)?;
+    }
+    let image = parse(alloc, &elf)?;
+    Ok(Guest::open(alloc, &image, b"lr", [0; 16])?)
+}
+
+/// What the SC answered, and the word that it is to store to.
+fn stored(guest: &Guest) -> Result<(u32, Option<u32>), Fail> {
+    let thread = guest.thread(1).ok_or("no thread 1")?;
+    Ok((thread.regs.registers[12], guest.space().load_word(0x1_1000)))
 }
 
 /// The call that the frame ends in, if it does.
@@ -99,5 +151,37 @@ fn two_steps_and_no_third(rt: HostRuntime) -> Result<(), Fail> {
     steps(&mut guest, 1, 2)?;
     assert_eq!(rt; guest.ran(), 2);
     assert_eq!(rt; steps(&mut guest, 1, 1), Err(FollowFault::GoesNowhere));
+    Ok(())
+}
+
+#[test]
+fn a_slice_ends_with_its_reservation(rt: HostRuntime) -> Result<(), Fail> {
+    let mut guest = reserving(rt.alloc())?;
+    let first = slice(&mut guest, rt.alloc(), CHOICE, &mut Nothing)?;
+    assert_eq!(rt; first.count, 64);
+    assert!(rt; matches!(first.end, End::Preempt));
+    assert_eq!(rt; guest.reservation(), None);
+    let second = slice(&mut guest, rt.alloc(), CHOICE, &mut Nothing)?;
+    assert_eq!(rt; second.count, 3);
+    assert_eq!(rt; call_of(&second).ok_or("no call")?.result, 0);
+    assert_eq!(rt; stored(&guest)?, (1, Some(0x464C_457F)));
+    let mut replayed = reserving(rt.alloc())?;
+    follow(&mut replayed, rt.alloc(), &first)?;
+    follow(&mut replayed, rt.alloc(), &second)?;
+    assert!(rt; replayed.same(&guest));
+    Ok(())
+}
+
+#[test]
+fn a_longer_slice_keeps_its_reservation(rt: HostRuntime) -> Result<(), Fail> {
+    let mut guest = reserving(rt.alloc())?;
+    let choice = Choice {
+        tid: 1,
+        quantum: 128,
+    };
+    let frame = slice(&mut guest, rt.alloc(), choice, &mut Nothing)?;
+    assert_eq!(rt; frame.count, 67);
+    assert_eq!(rt; stored(&guest)?, (0, Some(0)));
+    assert_eq!(rt; guest.page_count(), 258);
     Ok(())
 }

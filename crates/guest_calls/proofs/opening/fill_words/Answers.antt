@@ -14,7 +14,7 @@ fill-requires c =
 pub loop-place-preserved : goal.loop-place-preserved
 loop-place-preserved c =
     words_go_on c.args.address c.args.words.now c.loop-place.place _ c.to_le_bytes.result (memory_of c.args.space.now) (memory_of c.loop-place.space) (memory_of c.fill.new.self)
-    c.loop-place-test.true refl c.to_le_bytes.ensures c.loop-place.invariant c.fill.ensures
+    c.loop-place-test.true refl c.to_le_bytes.ensures c.loop-place.invariant c.fill.ensures.memory
 
 pub returns : goal.returns
 returns c = words_end c.args.address c.args.words.now c.loop-place.place (memory_of c.args.space.now) (memory_of c.loop-place.space) (omega arith) c.loop-place.invariant

@@ -6,7 +6,7 @@ use Rattle.rrv_model.specs.FrameStep.{closed, closed_at_end}
 use Rattle.rrv_model.specs.Output.{Chunk}
 use Rattle.guest_calls.specs.Guest.{GuestValue, state_of, chunks_of}
 use Rattle.guest_calls.specs.Runs.{before_call}
-use Rattle.serial_sched.proofs.SliceLaws.{call_running, call_runs_on, limit_sliced, call_sliced, fault_sliced, short_or_none, refused_call_sliced, refused_call_took, same_sliced}
+use Rattle.serial_sched.proofs.SliceLaws.{call_running, call_runs_on, frame_asks, limit_sliced, call_sliced, fault_sliced, short_or_none, refused_call_sliced, refused_call_took, same_sliced}
 use Rattle.serial_sched.proofs.slices.run_slice.Goals as goal
 
 pub call-requires-clause-running : goal.call-requires-clause-running
@@ -45,6 +45,12 @@ returns-in-Ok-clause-sliced g c =
     (closed after) (state_of c.closed_frame-in-Ok.new.guest) chunks c.closed_frame-in-Ok.ensures.frame c.closed_frame-in-Ok.ensures.closes
     (call_sliced (state_of c.args.guest.now) c.args.choice c.requires count (state_of c.run_thread-run.new.self) after c.in-Ok.ensures.calls.0 c.in-Ok.told
     chunks p c.in-Ok.ensures.calls.1 c.in-Ok.ensures.text (ap chunks_of c.closed_frame-in-Ok.ensures.put ∙ c.in-Ok.ensures.puts))
+
+pub returns-in-Ok-clause-unasked : goal.returns-in-Ok-clause-unasked
+returns-in-Ok-clause-unasked g c =
+    let p = rw c.in-Call.is at c.run_thread-run.ensures.runs in
+    λ no. c.in-Ok.ensures.unasked (λ asks. no (frame_asks c.args.choice.quantum c.args.choice.tid c.run_thread-run.result.count (state_of c.args.guest.now)
+    (state_of c.run_thread-run.new.self) c.in-Ok.told c.closed_frame-in-Ok.result c.closed_frame-in-Ok.ensures.frame p asks))
 
 pub returns-in-Err-clause-sliced : goal.returns-in-Err-clause-sliced
 returns-in-Err-clause-sliced g c =

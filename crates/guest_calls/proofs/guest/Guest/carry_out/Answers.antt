@@ -3,7 +3,7 @@ use Rattle.rrv_model.specs.CallRows.{answers}
 use Rattle.guest_calls.specs.Carries.{Carries}
 use Rattle.guest_calls.specs.declared.syscall.Syscall.TheVariants as syscalls
 use Rattle.guest_calls.specs.Guest.{state_of}
-use Rattle.guest_calls.proofs.CallParts.{carries_at, IfOk-map}
+use Rattle.guest_calls.proofs.CallParts.{carries_at, quiet_call, IfOk-map}
 use Rattle.guest_calls.proofs.guest.Guest.carry_out.Goals as goal
 
 pub returns-in-Write-clause-carries : goal.returns-in-Write-clause-carries
@@ -47,3 +47,38 @@ returns-in-Other-clause-carries c =
     let value : c.failure.result ≡ 2 ^ 32 - 38 = omega (arith, c.failure.ensures) in
     carries_at syscalls.Other c.args.tid (state_of c.args.self.now) c.args.thread.now _ _ number
     (subst (λ n. Carries (answers n) c.args.tid (state_of c.args.self.now) c.answer-in-Other.result (state_of c.answer-in-Other.new.self)) value c.answer-in-Other.ensures.carries)
+
+pub returns-in-Brk-clause-carries : goal.returns-in-Brk-clause-carries
+returns-in-Brk-clause-carries c =
+    let number = rw c.in-Brk.is at c.syscall_of.ensures in
+    IfOk-map _ _ _ (λ r p. carries_at syscalls.Brk c.args.tid (state_of c.args.self.now) c.args.thread.now r _ number p) c.brk.ensures.carries
+
+pub returns-in-Brk-clause-puts : goal.returns-in-Brk-clause-puts
+returns-in-Brk-clause-puts c =
+    let number = rw c.in-Brk.is at c.syscall_of.ensures in
+    quiet_call c.brk.result c.brk.new.self.put (state_of c.args.self.now).memory c.args.thread.now 214 c.brk.ensures.put number (omega arith) (omega arith)
+
+pub returns-in-Munmap-clause-carries : goal.returns-in-Munmap-clause-carries
+returns-in-Munmap-clause-carries c =
+    let number = rw c.in-Munmap.is at c.syscall_of.ensures in
+    carries_at syscalls.Munmap c.args.tid (state_of c.args.self.now) c.args.thread.now _ _ number c.munmap.ensures.carries
+
+pub returns-in-Mmap-clause-carries : goal.returns-in-Mmap-clause-carries
+returns-in-Mmap-clause-carries c =
+    let number = rw c.in-Mmap.is at c.syscall_of.ensures in
+    IfOk-map _ _ _ (λ r p. carries_at syscalls.Mmap c.args.tid (state_of c.args.self.now) c.args.thread.now r _ number p) c.mmap.ensures.carries
+
+pub returns-in-Mmap-clause-puts : goal.returns-in-Mmap-clause-puts
+returns-in-Mmap-clause-puts c =
+    let number = rw c.in-Mmap.is at c.syscall_of.ensures in
+    quiet_call c.mmap.result c.mmap.new.self.put (state_of c.args.self.now).memory c.args.thread.now 222 c.mmap.ensures.put number (omega arith) (omega arith)
+
+pub returns-in-Mprotect-clause-carries : goal.returns-in-Mprotect-clause-carries
+returns-in-Mprotect-clause-carries c =
+    let number = rw c.in-Mprotect.is at c.syscall_of.ensures in
+    carries_at syscalls.Mprotect c.args.tid (state_of c.args.self.now) c.args.thread.now _ _ number c.mprotect.ensures.carries
+
+pub returns-in-Writev-clause-carries : goal.returns-in-Writev-clause-carries
+returns-in-Writev-clause-carries c =
+    let number = rw c.in-Writev.is at c.syscall_of.ensures in
+    IfOk-map _ _ _ (λ r p. carries_at syscalls.Writev c.args.tid (state_of c.args.self.now) c.args.thread.now r _ number p) c.writev.ensures.carries
