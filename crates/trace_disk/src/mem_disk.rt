@@ -2,7 +2,8 @@
 
 ghost use Rattle.std.specs.Prelude.{◌≡◌, ◌≤◌, ◌<◌, ◌+◌, ◌++◌, ◌∷◌, [], max, List, ℕ, length, reverse, take, drop, OnOk, OnErr, IfOk, IsOk, vec_len, vec_capacity, IsTrue, ◌↔◌, ◌⊎◌, get_or};
 ghost use Rattle.rrv_model.specs.CrashModel.{IsTouched, IsCrash};
-ghost use Rattle.rrv_model.specs.DiskCalls.{overwritten, after_write, after_cut, after_sync, one_more, IsCounted};
+ghost use Rattle.rrv_model.specs.DiskCalls.{overwritten, after_write, after_cut, after_sync};
+ghost use Rattle.rrv_model.specs.Failures.{one_more, IsCounted};
 ghost use Rattle.trace_disk.specs.Replay.{replay, empty_disk, started_with, IsFilledCrash};
 
 use crate::{Disk, DiskFailed};
