@@ -1,0 +1,9 @@
+mod Lists
+mod Runs
+mod Stages
+mod Holds
+mod Rows
+mod Always
+mod Recovery
+mod Opening
+mod Sessions

@@ -1,0 +1,271 @@
+-- What recovery gives.
+use Rattle.std.proofs.Common.{◌≡◌, ◌≢◌, ◌⊎◌, inl, inr, ⊎_elim, ℕ, suc, ◌+◌, ◌-◌, ◌<◌, ◌≤◌, List, [], ◌∷◌, ◌++◌, length, map, take, drop, refl, ap, arith, sym, subst, ◌∙◌, append_assoc, length-append, take-append-drop}
+use Rattle.std.specs.Prelude.{◌↔◌, Option, Some, slice_get, IsSomeAnd}
+use Rattle.std.specs.List.{AllByRecursion}
+use Rattle.std.proofs.lemmas.List.{append-nil, map-append, take-append-le}
+use Rattle.rrv_model.specs.declared.record.Item.{Item}
+use Rattle.rrv_model.specs.declared.record.Record.{Record}
+use Rattle.rrv_model.specs.State.{State}
+use Rattle.rrv_model.specs.RecordText.{HasText}
+use Rattle.rrv_model.specs.Recording.{IsRecording, IsNumbered, EndsIn, items_of}
+use Rattle.rrv_model.specs.StoreText.{IsBody, IsSound}
+use Rattle.rrv_model.specs.Recovered.{body_text, of_guest, next_guest, IsRecovered, AreBodyTexts, OpensAtZero}
+use Rattle.rrv_model.proofs.RunLaws.{one_end_state}
+use Rattle.commit_core.specs.Runs.{IsOutput, IsAt, total_of}
+use Rattle.commit_core.specs.World.{World, made, committed, stored_bodies, joined}
+use Rattle.commit_core.specs.Facts.{Replays, Recovers, IsRun}
+use Rattle.commit_core.specs.Sessions.{IsStoreOf}
+use Rattle.commit_core.proofs.Lists.{all_both, all_front, all_back, all_weaker, of_guest-append, none_of_guest, joined-append, joined-push}
+use Rattle.commit_core.proofs.Runs.{output_further, recording_front, below_total, at_total_is_end, items_of-append}
+use Rattle.commit_core.proofs.Holds.{total, IsOwn, Holds}
+use Rattle.commit_core.proofs.Stages.{Outcome, Gives, some_records, outcome_at, sound_outcome, closed_sound, outcome_store_of}
+
+-- ---- numbers of guests
+
+-- each record's guest is below the next one's number
+all_below : (records : List Record) → AllByRecursion (λ (r : Record). r.guest < next_guest records) records
+all_below [] = tt
+all_below (r ∷ records) = (omega arith, all_weaker (λ q. q.guest < next_guest records) (λ q. q.guest < next_guest (r ∷ records)) records (λ q l. omega (arith, l)) (all_below records))
+
+numbered_front : (guest index : ℕ) (xs ys : List Record) → IsNumbered guest index (xs ++ ys) → IsNumbered guest index xs
+numbered_front guest index [] ys h = tt
+numbered_front guest index (x ∷ xs) ys h = (h.0, h.1, numbered_front guest (index + 1) xs ys h.2)
+
+less_or_more : (a b : ℕ) → (a < b) ⊎ (b ≤ a)
+less_or_more a b = grind arith
+
+-- ---- texts of batches
+
+-- batches of records that have texts, none of them empty, are body texts
+batch_texts : (batches : List (List Record)) → AllByRecursion HasText (joined batches) → AllByRecursion IsBody (map body_text batches) → AreBodyTexts (map body_text batches) batches
+batch_texts [] texts sizes = tt
+batch_texts (batch ∷ batches) texts sizes = (
+  record { some = some_records batch sizes.0.0; each = all_front HasText batch (joined batches) texts; spelled = refl },
+  batch_texts batches (all_back HasText batch (joined batches) texts) sizes.1,
+)
+
+texts_both : (bodies more : List (List ℕ)) (batches others : List (List Record)) → AreBodyTexts bodies batches → AreBodyTexts more others → AreBodyTexts (bodies ++ more) (batches ++ others)
+texts_both [] more [] others a b = b
+texts_both [] more (batch ∷ batches) others a b = absurd a
+texts_both (body ∷ bodies) more [] others a b = absurd a
+texts_both (body ∷ bodies) more (batch ∷ batches) others a b = (a.0, texts_both bodies more batches others a.1 b)
+
+-- ---- replaying a beginning of a run
+
+replays_front : (front rest whole : List Record) (number : ℕ) (states : List State) → front ++ rest ≡ whole → front ≢ [] → IsRun number whole states → Replays front whole states
+replays_front [] rest whole number states is some run = absurd (some refl)
+replays_front (x ∷ front) rest whole number states is some run =
+    let k = length front in
+    let whole_is : items_of whole ≡ items_of (x ∷ front) ++ items_of rest = ap items_of (sym is) ∙ items_of-append (x ∷ front) rest in
+    let front_is : take (suc k) whole ≡ x ∷ front =
+    ap (take (suc k)) (sym is) ∙ ap (λ (l : List Record). x ∷ l) (take-append-le k front rest (omega arith) ∙ take_own front) in
+    let had : IsSomeAnd (slice_get states k) (EndsIn (items_of (x ∷ front))) =
+    subst (λ (l : List Record). IsSomeAnd (slice_get states k) (EndsIn (items_of l))) front_is (run.had k (omega (arith, ap length is, length-append (x ∷ front) rest))) in
+    record {
+      recording = recording_front (x ∷ front) rest (subst IsRecording (sym is) run.recording) some;
+      below = λ t s l. subst (λ (w : List Item). IsAt (items_of (x ∷ front)) t s ↔ IsAt w t s) (sym whole_is) (below_total (items_of (x ∷ front)) (items_of rest) t s l);
+      at_total = λ s. subst (λ (n : ℕ). IsAt (items_of (x ∷ front)) (total_of (items_of (x ∷ front))) s ↔ slice_get states n ≡ Some s) (omega arith) (had_state (slice_get states k) had s);
+    }
+  where
+    take_own : (xs : List Record) → take (length xs) xs ≡ xs
+    take_own [] = refl
+    take_own (y ∷ xs) = ap (λ (l : List Record). y ∷ l) (take_own xs)
+
+    some_is : (s t : State) → Some s ≡ Some t → s ≡ t
+    some_is s t e = cc
+
+    had_state : (o : Option State) → IsSomeAnd o (EndsIn (items_of (x ∷ front))) → (s : State)
+        → IsAt (items_of (x ∷ front)) (total_of (items_of (x ∷ front))) s ↔ o ≡ Some s
+    had_state o had s = (
+      λ at. ends_here o had ((at_total_is_end (items_of (x ∷ front)) s).0 at),
+      λ is. (at_total_is_end (items_of (x ∷ front)) s).1 (from_here o had is),
+    )
+      where
+        ends_here : (o : Option State) → IsSomeAnd o (EndsIn (items_of (x ∷ front))) → EndsIn (items_of (x ∷ front)) s → o ≡ Some s
+        ends_here Option.None had ends = absurd had
+        ends_here (Some t) had ends = ap Some (one_end_state (items_of (x ∷ front)) t s had ends)
+
+        from_here : (o : Option State) → IsSomeAnd o (EndsIn (items_of (x ∷ front))) → o ≡ Some s → EndsIn (items_of (x ∷ front)) s
+        from_here Option.None had is = absurd had
+        from_here (Some t) had is = subst (EndsIn (items_of (x ∷ front))) (some_is t s is) had
+
+-- ---- the bodies of before, and batches that the group finished, or had in hand
+
+module _ (w : World) (old : List Record) (holds : Holds w old) (batches : List (List Record)) (rest : List Record)
+    (front : joined batches ++ rest ≡ total w) (bodies : List (List ℕ)) (text : bodies ≡ w.bodies ++ map body_text batches)
+    (sizes : AllByRecursion IsBody (map body_text batches))
+    (enough : (g : ℕ) → g < w.guests → committed (w.first + g) w.flusher ≤ length (of_guest (w.first + g) (joined batches))) where
+  gained : List Record
+  gained = joined batches
+
+  all : List Record
+  all = old ++ gained
+
+  own : AllByRecursion (IsOwn w.first w.guests) (joined batches)
+  own = all_front (IsOwn w.first w.guests) (joined batches) rest (subst (AllByRecursion (IsOwn w.first w.guests)) (sym front) holds.own)
+
+  old_below : AllByRecursion (λ (r : Record). r.guest < w.first) old
+  old_below = subst (λ (n : ℕ). AllByRecursion (λ (r : Record). r.guest < n) old) (sym holds.next) (all_below old)
+
+  split : (h : ℕ) → of_guest h (old ++ joined batches) ≡ of_guest h old ++ of_guest h (joined batches)
+  split h = of_guest-append h old (joined batches)
+
+  -- of a lower number there are the records of before
+  lower : (h : ℕ) → h < w.first → of_guest h (old ++ joined batches) ≡ of_guest h old
+  lower h l = split h
+      ∙ ap (λ (r : List Record). of_guest h old ++ r) (none_of_guest h (joined batches) (all_weaker (IsOwn w.first w.guests) (λ r. r.guest ≢ h) (joined batches) (λ r o e. omega (arith, o.low, e, l)) own))
+      ∙ append-nil (of_guest h old)
+
+  -- of a number of the group or above those of the group alone
+  upper : (h : ℕ) → w.first ≤ h → of_guest h (old ++ joined batches) ≡ of_guest h (joined batches)
+  upper h l = split h
+      ∙ ap (λ (r : List Record). r ++ of_guest h (joined batches)) (none_of_guest h old (all_weaker (λ r. r.guest < w.first) (λ r. r.guest ≢ h) old (λ r b e. omega (arith, b, e, l)) old_below))
+
+  -- which are a beginning of what its recorder sent
+  sent_is : (g : ℕ) → g < w.guests → of_guest (w.first + g) (joined batches) ++ of_guest (w.first + g) rest ≡ (w.recorders g).sent
+  sent_is g l = sym (of_guest-append (w.first + g) (joined batches) rest) ∙ ap (of_guest (w.first + g)) front ∙ (holds.each g l).sent
+
+  made_is : (g : ℕ) → g < w.guests → of_guest (w.first + g) (joined batches) ++ (of_guest (w.first + g) rest ++ (w.recorders g).backlog) ≡ made (w.recorders g)
+  made_is g l = sym (append_assoc (of_guest (w.first + g) (joined batches)) (of_guest (w.first + g) rest) (w.recorders g).backlog)
+      ∙ ap (λ (k : List Record). k ++ (w.recorders g).backlog) (sent_is g l)
+
+  numbered : (h : ℕ) → IsNumbered h 0 (of_guest h (old ++ joined batches))
+  numbered h = ⊎_elim
+      (λ low. subst (IsNumbered h 0) (sym (lower h low)) (holds.recovered.in_order.numbered h))
+      (λ high. subst (IsNumbered h 0) (sym (upper h high)) (⊎_elim (ours high) above (less_or_more h (w.first + w.guests))))
+      (less_or_more h w.first)
+    where
+      ours : w.first ≤ h → h < w.first + w.guests → IsNumbered h 0 (of_guest h (joined batches))
+      ours high l =
+          let g = h - w.first in
+          let is : w.first + g ≡ h = omega (arith, high) in
+          subst (λ (k : ℕ). IsNumbered k 0 (of_guest k (joined batches))) is
+          (numbered_front (w.first + g) 0 (of_guest (w.first + g) (joined batches)) (of_guest (w.first + g) rest ++ (w.recorders g).backlog)
+          (subst (IsNumbered (w.first + g) 0) (sym (made_is g (omega (arith, l, high)))) (holds.each g (omega (arith, l, high))).recorder.numbered))
+
+      above : w.first + w.guests ≤ h → IsNumbered h 0 (of_guest h (joined batches))
+      above l = subst (IsNumbered h 0) (sym (none_of_guest h (joined batches) (all_weaker (IsOwn w.first w.guests) (λ r. r.guest ≢ h) (joined batches) (λ r o e. omega (arith, o.high, e, l)) own))) tt
+
+  pub is_recovered : IsRecovered bodies (old ++ joined batches)
+  is_recovered = record {
+    batches = holds.recovered.batches ++ batches;
+    texts = subst (λ (b : List (List ℕ)). AreBodyTexts b (holds.recovered.batches ++ batches)) (sym text)
+        (texts_both w.bodies (map body_text batches) holds.recovered.batches batches holds.recovered.texts
+        (batch_texts batches (all_weaker (IsOwn w.first w.guests) HasText (joined batches) (λ r o. o.has_text) own) sizes));
+    joined = ap (λ (l : List Record). l ++ joined batches) holds.recovered.joined ∙ sym (joined-append holds.recovered.batches batches);
+    in_order = record {
+      numbered = numbered;
+      opened = all_both OpensAtZero old (joined batches) holds.recovered.in_order.opened (all_weaker (IsOwn w.first w.guests) OpensAtZero (joined batches) (λ r o. o.opens) own);
+    };
+  }
+
+  seen_in : (g : ℕ) → g < w.guests → (w.recorders g).seen ≤ length (of_guest (w.first + g) (joined batches))
+  seen_in g l = let o = holds.each g l in omega (arith, o.seen, holds.counts g l, holds.told g l, enough g l)
+
+  put_out : (g : ℕ) → g < w.guests → IsOutput (w.recorders g).out (of_guest (w.first + g) (joined batches))
+  put_out g l =
+      let n = w.first + g in
+      let seen = (w.recorders g).seen in
+      let ours = of_guest n (joined batches) in
+      let behind = of_guest n rest ++ (w.recorders g).backlog in
+      let same : take seen (made (w.recorders g)) ≡ take seen ours = ap (take seen) (sym (made_is g l)) ∙ take-append-le seen ours behind (seen_in g l) in
+      let whole = take-append-drop seen ours in
+      subst (IsOutput (w.recorders g).out) whole
+      (output_further (w.recorders g).out (take seen ours) (drop seen ours) behind
+      (subst IsRecording (sym (ap (λ (k : List Record). k ++ behind) whole ∙ made_is g l)) (holds.each g l).recorder.recording)
+      (subst (IsOutput (w.recorders g).out) same (holds.each g l).output))
+
+  pub own_from : AllByRecursion (λ (r : Record). w.first ≤ r.guest) (joined batches)
+  own_from = all_weaker (IsOwn w.first w.guests) (λ r. w.first ≤ r.guest) (joined batches) (λ r o. o.low) own
+
+  pub recovers : (content : List ℕ) → IsSound content bodies → Recovers w old content
+  recovers content sound = record {
+    bodies = bodies;
+    records = old ++ joined batches;
+    sound = sound;
+    recovered = is_recovered;
+    beginning = λ g l. (
+      of_guest (w.first + g) rest ++ (w.recorders g).backlog,
+      ap (λ (k : List Record). k ++ (of_guest (w.first + g) rest ++ (w.recorders g).backlog)) (upper (w.first + g) (omega arith)) ∙ made_is g l,
+    );
+    holds = λ g l. omega (arith, seen_in g l, ap length (upper (w.first + g) (omega arith)));
+    output = λ g l. subst (IsOutput (w.recorders g).out) (sym (upper (w.first + g) (omega arith))) (put_out g l);
+    kept = lower;
+    replays = λ g l some.
+        subst (λ (k : List Record). Replays k (made (w.recorders g)) (w.recorders g).states) (sym (upper (w.first + g) (omega arith)))
+        (replays_front (of_guest (w.first + g) (joined batches)) (of_guest (w.first + g) rest ++ (w.recorders g).backlog) (made (w.recorders g)) (w.first + g) (w.recorders g).states
+        (made_is g l) (λ e. some (upper (w.first + g) (omega arith) ∙ e)) (holds.each g l).recorder);
+  }
+
+-- ---- with the finished bodies, and with the one in hand
+
+sizes_behind : (bodies : List (List ℕ)) (batches : List (List Record)) → AllByRecursion IsBody (bodies ++ map body_text batches) → AllByRecursion IsBody (map body_text batches)
+sizes_behind bodies batches all = all_back IsBody bodies (map body_text batches) all
+
+module _ (w : World) (old : List Record) (holds : Holds w old) where
+  front_finished : joined w.flusher.finished ++ ((w.flusher.hand ++ w.flusher.waiting) ++ w.queue) ≡ total w
+  front_finished =
+      sym (append_assoc (joined w.flusher.finished) (w.flusher.hand ++ w.flusher.waiting) w.queue)
+      ∙ ap (λ (l : List Record). l ++ w.queue) (sym (append_assoc (joined w.flusher.finished) w.flusher.hand w.flusher.waiting))
+
+  front_hand : joined (w.flusher.finished ++ w.flusher.hand ∷ []) ++ (w.flusher.waiting ++ w.queue) ≡ total w
+  front_hand =
+      ap (λ (l : List Record). l ++ (w.flusher.waiting ++ w.queue)) (joined-push w.flusher.finished w.flusher.hand)
+      ∙ sym (append_assoc (joined w.flusher.finished ++ w.flusher.hand) w.flusher.waiting w.queue)
+
+  with_hand : w.bodies ++ map body_text (w.flusher.finished ++ w.flusher.hand ∷ []) ≡ stored_bodies w ++ body_text w.flusher.hand ∷ []
+  with_hand = ap (λ (l : List (List ℕ)). w.bodies ++ l) (map-append body_text w.flusher.finished (w.flusher.hand ∷ []))
+      ∙ sym (append_assoc w.bodies (map body_text w.flusher.finished) (body_text w.flusher.hand ∷ []))
+
+  sizes_hand : IsBody (body_text w.flusher.hand) → AllByRecursion IsBody (map body_text (w.flusher.finished ++ w.flusher.hand ∷ []))
+  sizes_hand is = subst (AllByRecursion IsBody) (sym (map-append body_text w.flusher.finished (w.flusher.hand ∷ [])))
+      (all_both IsBody (map body_text w.flusher.finished) (body_text w.flusher.hand ∷ []) (sizes_behind w.bodies w.flusher.finished holds.sizes) (is, tt))
+
+  enough_hand : (g : ℕ) → committed (w.first + g) w.flusher ≤ length (of_guest (w.first + g) (joined (w.flusher.finished ++ w.flusher.hand ∷ [])))
+  enough_hand g = omega (
+    arith,
+    ap length (ap (of_guest (w.first + g)) (joined-push w.flusher.finished w.flusher.hand) ∙ of_guest-append (w.first + g) (joined w.flusher.finished) w.flusher.hand),
+    length-append (of_guest (w.first + g) (joined w.flusher.finished)) (of_guest (w.first + g) w.flusher.hand),
+  )
+
+  pub stored_recovered : IsRecovered (stored_bodies w) (old ++ joined w.flusher.finished)
+  stored_recovered = is_recovered w old holds w.flusher.finished ((w.flusher.hand ++ w.flusher.waiting) ++ w.queue) front_finished (stored_bodies w) refl
+      (sizes_behind w.bodies w.flusher.finished holds.sizes) (λ g l. omega arith)
+
+  pub hand_recovered : IsBody (body_text w.flusher.hand) → IsRecovered (stored_bodies w ++ body_text w.flusher.hand ∷ []) (old ++ joined (w.flusher.finished ++ w.flusher.hand ∷ []))
+  hand_recovered is = is_recovered w old holds (w.flusher.finished ++ w.flusher.hand ∷ []) (w.flusher.waiting ++ w.queue) front_hand
+      (stored_bodies w ++ body_text w.flusher.hand ∷ []) (sym with_hand) (sizes_hand is) (λ g l. enough_hand g)
+
+  pub finished_from : AllByRecursion (λ (r : Record). w.first ≤ r.guest) (joined w.flusher.finished)
+  finished_from = own_from w old holds w.flusher.finished ((w.flusher.hand ++ w.flusher.waiting) ++ w.queue) front_finished (stored_bodies w) refl
+      (sizes_behind w.bodies w.flusher.finished holds.sizes) (λ g l. omega arith)
+
+  pub hand_from : IsBody (body_text w.flusher.hand) → AllByRecursion (λ (r : Record). w.first ≤ r.guest) (joined (w.flusher.finished ++ w.flusher.hand ∷ []))
+  hand_from is = own_from w old holds (w.flusher.finished ++ w.flusher.hand ∷ []) (w.flusher.waiting ++ w.queue) front_hand
+      (stored_bodies w ++ body_text w.flusher.hand ∷ []) (sym with_hand) (sizes_hand is) (λ g l. enough_hand g)
+
+  pub recovers_finished : (content : List ℕ) → IsSound content (stored_bodies w) → Recovers w old content
+  recovers_finished content sound = recovers w old holds w.flusher.finished ((w.flusher.hand ++ w.flusher.waiting) ++ w.queue) front_finished (stored_bodies w) refl
+      (sizes_behind w.bodies w.flusher.finished holds.sizes) (λ g l. omega arith) content sound
+
+  pub recovers_hand : (content : List ℕ) → IsBody (body_text w.flusher.hand) → IsSound content (stored_bodies w ++ body_text w.flusher.hand ∷ []) → Recovers w old content
+  recovers_hand content is sound = recovers w old holds (w.flusher.finished ++ w.flusher.hand ∷ []) (w.flusher.waiting ++ w.queue) front_hand
+      (stored_bodies w ++ body_text w.flusher.hand ∷ []) (sym with_hand) (sizes_hand is) (λ g l. enough_hand g) content sound
+
+-- what every crash leaves
+pub recovers_crash : (w : World) (old : List Record) → Holds w old → (content : List ℕ) → Gives w.disk content → Recovers w old content
+recovers_crash w old holds content gives = by_outcome (outcome_at w.flusher.stage w.disk (stored_bodies w) w.flusher.hand holds.disk content gives)
+  where
+    sound : (o : Outcome (stored_bodies w) (body_text w.flusher.hand) content) → IsSound content (stored_bodies w) ⊎ IsSound content (stored_bodies w ++ body_text w.flusher.hand ∷ [])
+    sound o = sound_outcome (stored_bodies w) (body_text w.flusher.hand) holds.sizes holds.few content o
+
+    by_outcome : Outcome (stored_bodies w) (body_text w.flusher.hand) content → Recovers w old content
+    by_outcome (inl closed) = recovers_finished w old holds content (closed_sound (stored_bodies w) (body_text w.flusher.hand) holds.sizes holds.few content closed)
+    by_outcome (inr ajar) = ⊎_elim (recovers_finished w old holds content) (recovers_hand w old holds content ajar.0.0) (sound (inr ajar))
+
+-- and it is a store whose bodies are as `fine` says, where those are that the group can leave
+pub crash_store_of : (w : World) (old : List Record) → Holds w old → (fine : List (List ℕ) → Type 0) → fine (stored_bodies w)
+    → (IsBody (body_text w.flusher.hand) → fine (stored_bodies w ++ body_text w.flusher.hand ∷ [])) → (content : List ℕ) → Gives w.disk content → IsStoreOf fine content
+crash_store_of w old holds fine are more content gives =
+    outcome_store_of (stored_bodies w) (body_text w.flusher.hand) holds.sizes holds.few fine are (λ can. more can.0)
+    content (outcome_at w.flusher.stage w.disk (stored_bodies w) w.flusher.hand holds.disk content gives)

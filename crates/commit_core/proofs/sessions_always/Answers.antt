@@ -1,0 +1,12 @@
+use Rattle.commit_core.proofs.Opening.{open_end}
+use Rattle.commit_core.proofs.Sessions.{sessions_law}
+use Rattle.commit_core.proofs.sessions_always.Goals as goal
+
+pub returns-clause-grows : goal.returns-clause-grows
+returns-clause-grows c = λ content sessions end can are. (sessions_law content sessions end can are).0
+
+pub returns-clause-opens : goal.returns-clause-opens
+returns-clause-opens c = λ content sessions end left can are crash. (sessions_law content sessions end can are).1 left crash
+
+pub returns-clause-opened : goal.returns-clause-opened
+returns-clause-opened c = λ disk bodies store. open_end disk bodies store

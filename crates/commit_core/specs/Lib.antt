@@ -1,0 +1,5 @@
+pub mod Runs
+pub mod World
+pub mod Events
+pub mod Facts
+pub mod Sessions
