@@ -1,8 +1,6 @@
 -- How a replay goes from record to record.
-use Rattle.std.proofs.Common.{◌≡◌, ℕ, suc, ◌+◌, ◌<◌, ◌≤◌, List, [], ◌∷◌, ◌++◌, length, take, get_or, refl, sym, ◌∙◌, ap, subst, arith, Vec, Option}
-use Rattle.std.specs.declared.alloc.Global.{Global}
-use Rattle.std.specs.List.{AllByRecursion}
-use Rattle.std.specs.Prelude.{All}
+use Rattle.std.proofs.Common.{◌≡◌, ℕ, suc, ◌+◌, ◌<◌, ◌≤◌, List, [], ◌∷◌, ◌++◌, length, take, get_or, refl, sym, ◌∙◌, ap, subst, arith, Option, Some, zero}
+use Rattle.std.specs.Prelude.{All, slice_get}
 use Rattle.std.proofs.Math.Seq.{take-suc}
 use Rattle.std.proofs.lemmas.List.{append-nil, append_assoc, length-take-le, take_all}
 use Rattle.std.proofs.lemmas.List.Elements.{All-push}
@@ -17,17 +15,14 @@ use Rattle.rrv_model.specs.Opening.{Opens}
 use Rattle.rrv_model.specs.Output.{Chunk, FramePuts, PutFrom}
 use Rattle.rrv_model.specs.StateAt.{StateAtFrom, total}
 use Rattle.rrv_model.specs.Recording.{EndsIn, items_of, frames_of, frame_record}
-use Rattle.rrv_model.specs.RecordText.{HasText, record_text}
 use Rattle.rrv_model.proofs.RunLaws.{frames_append, numbered-append, at_total_first, frames-append, items-append}
 use Rattle.rrv_model.proofs.FrameLaws.{one_state_after_frame}
-use Rattle.trace_log.specs.Scan.{texts}
-use Rattle.rrv.specs.Recorded.{IsNextFrame, IsReplayed, OutputOf, PutsByCall, texts_of}
+use Rattle.rrv.specs.Recorded.{IsNextFrame, IsReplayed, OutputOf, PutsByCall}
 use Rattle.serial_sched.specs.Slices.{CallPuts}
 use Rattle.guest_calls.specs.Guest.{chunks_of}
 use Rattle.guest_calls.specs.declared.put.Put.{Put}
 use Rattle.rrv_model.specs.declared.record.End.{End}
 use Rattle.rrv_model.specs.declared.record.End.TheVariants as ends
-use Rattle.rrv.proofs.Gained.{all_append, texts_append}
 
 one_more : (n : ℕ) → n + 1 ≡ suc n
 one_more n = omega arith
@@ -43,23 +38,14 @@ all_next P xs i below all one =
 pub all_of : (P : ℕ → Type 0) (xs : List ℕ) (n : ℕ) → length xs ≤ n → All P (take n xs) → All P xs
 all_of P xs n long all = subst (All P) (take_all n xs long) all
 
--- ---- bodies
+-- ---- the records of a guest
 
-texts_push : (vs : List (Vec ℕ Global)) (v : Vec ℕ Global) → texts (vs ++ v ∷ []) ≡ texts vs ++ v.items ∷ []
-texts_push [] v = refl
-texts_push (u ∷ vs) v = ap (λ rest. u.items ∷ rest) (texts_push vs v)
-
--- one body more that is a record's text
-pub read_one : (bodies : List (Vec ℕ Global)) (place : ℕ) (body : Vec ℕ Global) (records : List Record) (r : Record) → place < length bodies →
-    AllByRecursion HasText records → texts (take place bodies) ≡ texts_of records → HasText r → body ≡ get_or bodies place body → body.items ≡ record_text r →
-    AllByRecursion HasText (records ++ r ∷ []) × (texts (take (place + 1) bodies) ≡ texts_of (records ++ r ∷ []))
-read_one bodies place body records r below all same has_text there text =
-    let longer : take (suc place) bodies ≡ take place bodies ++ body ∷ [] =
-    take-suc bodies place body below ∙ ap (λ v. take place bodies ++ v ∷ []) (sym there) in
-    let next : take (place + 1) bodies ≡ take (suc place) bodies = ap (λ n. take n bodies) (one_more place) in (
-      all_append records r all has_text,
-      ap texts (next ∙ longer) ∙ texts_push (take place bodies) body ∙ ap (λ rest. rest ++ body.items ∷ []) same ∙ ap (λ t. texts_of records ++ t ∷ []) text ∙ sym (texts_append records r),
-    )
+pub take_next : (xs : List Record) (i : ℕ) (x : Record) → slice_get xs i ≡ Some x → take (i + 1) xs ≡ take i xs ++ x ∷ []
+take_next [] i x e = cc
+take_next (y ∷ xs) zero x e = let same : y ≡ x = cc in ap (λ q. q ∷ []) same
+take_next (y ∷ xs) (suc i) x e =
+    let one : suc i + 1 ≡ suc (i + 1) = omega arith in
+    ap (λ n. take n (y ∷ xs)) one ∙ ap (λ rest. y ∷ rest) (take_next xs i x e)
 
 -- ---- records
 

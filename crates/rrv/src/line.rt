@@ -1,6 +1,6 @@
 //! What a line of words asks for.
 
-ghost use Rattle.std.specs.Prelude.{◌≡◌};
+ghost use Rattle.std.specs.Prelude.{◌≡◌, IfOk, length};
 
 use clap::{Arg, ArgAction, Command, Error};
 use std::alloc::{AllocError, Global};
@@ -33,7 +33,10 @@ fn command<'a>(alloc: Global) -> Result<Command<'a>, AllocError> {
 
 /// Reads the words after the program's name. No word at all asks for the demonstration; else a word that the
 /// command line doesn't have, or lacks, and a call for help, are the parser's error, whose text says so.
-pub fn line<'a, S: AsStr>(alloc: Global, words: &'a [S]) -> Result<Request<'a>, Error> {
+pub fn line<'a, S: AsStr>(alloc: Global, words: &'a [S]) -> Result<Request<'a>, Error>
+    ensures none { length words.now ≡ 0 → result ≡ Ok Request.Demonstration }
+    ensures some { IfOk result (λ request. request ≡ Request.Demonstration → length words.now ≡ 0) }
+{
     if words.is_empty() {
         return Ok(Request::Demonstration);
     }

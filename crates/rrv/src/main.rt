@@ -10,23 +10,31 @@ mod run;
 mod text;
 mod trial;
 
-use run::run;
+use run::{report_unread, run};
 use std::process::ExitCode;
 use std::{env, io};
 
-/// Words that can't be read are a bad line.
+/// The words after the program's name.
+fn words_of(rt: &HostRuntime) -> io::Result<Vec<String>> {
+    let words = env::args(rt)?.skip(1).collect(rt.alloc())?;
+    Ok(words)
+}
+
 fn main(rt: HostRuntime) -> ExitCode {
-    let words: Vec<String> = match env::args(&rt) {
-        Ok(words) => match words.skip(1).collect(rt.alloc()) {
-            Ok(words) => words,
-            Err(_) => return ExitCode::from(1),
-        },
-        Err(_) => return ExitCode::from(2),
-    };
     let mut out = rt.stdout();
     let mut err = rt.stderr();
+    let words = match words_of(&rt) {
+        Ok(words) => words,
+        Err(error) => return ExitCode::from(report_unread(&error, &mut err)),
+    };
     ExitCode::from(run(&rt, words.as_slice(), &mut out, &mut err))
 }
 
 #[cfg(test)]
+mod c_program;
+#[cfg(test)]
+mod every_instruction;
+#[cfg(test)]
 mod tests;
+#[cfg(test)]
+mod text_tests;

@@ -1,10 +1,17 @@
 //! Why a line of the program did not do what it asks for.
 
+ghost use Rattle.std.specs.Prelude.{◌≡◌, ◌≢◌};
+ghost use Rattle.std.specs.IoError.{error_kind};
+ghost use Rattle.rrv.specs.declared.refusal.Refusal.TheVariants as refusals;
+
 use elf_load::fault::ElfFault;
+use recover::{OpenFault, ReadFault};
 use rrv_model::refusal::Memory;
 use std::alloc::{AllocError, AllocFailed};
+use std::io;
+use std::io::ErrorKind;
 use thiserror::Error;
-use trace_log::{LogFault, ReopenFault};
+use trace_log::LogFault;
 
 /// Why a line was refused. The text is what the program prints behind `rrv: `.
 #[derive(Debug, Drop, Error)]
@@ -27,6 +34,12 @@ pub enum Refusal {
     /// A segment of the store isn't whole, or holds no record.
     #[error("damaged segment {segment}")]
     Damaged { segment: u32 },
+    /// A newer version wrote the store.
+    #[error("newer version")]
+    NewerVersion,
+    /// The store no longer holds a record that it held.
+    #[error("record {index} unreadable")]
+    Unreadable { index: u32 },
     /// A record doesn't follow from those before it.
     #[error("record {index} does not replay")]
     Mismatch { index: usize },
@@ -42,18 +55,24 @@ pub enum Refusal {
 }
 
 impl From<AllocError> for Refusal {
+    ghost from_gives = { λ _ e. e ≡ refusals.Memory };
+
     fn from(_: AllocError) -> Self {
         Refusal::Memory
     }
 }
 
 impl<T: Drop> From<AllocFailed<T>> for Refusal {
+    ghost from_gives = { λ _ e. e ≡ refusals.Memory };
+
     fn from(_: AllocFailed<T>) -> Self {
         Refusal::Memory
     }
 }
 
 impl From<Memory> for Refusal {
+    ghost from_gives = { λ _ e. e ≡ refusals.Memory };
+
     fn from(_: Memory) -> Self {
         Refusal::Memory
     }
@@ -69,18 +88,50 @@ impl From<LogFault> for Refusal {
     }
 }
 
-impl From<ReopenFault> for Refusal {
-    fn from(fault: ReopenFault) -> Self {
+impl From<OpenFault> for Refusal {
+    fn from(fault: OpenFault) -> Self {
         match fault {
-            ReopenFault::NotAStore => Refusal::NotAStore,
-            ReopenFault::Damaged { segment } => Refusal::Damaged { segment },
-            ReopenFault::DeviceFailed => Refusal::DeviceFailed,
-            ReopenFault::Memory => Refusal::Memory,
+            OpenFault::NotAStore => Refusal::NotAStore,
+            OpenFault::Damaged { segment } => Refusal::Damaged { segment },
+            OpenFault::DeviceFailed => Refusal::DeviceFailed,
+            OpenFault::Memory => Refusal::Memory,
+            OpenFault::NewerVersion => Refusal::NewerVersion,
         }
     }
 }
 
 impl Refusal {
+    /// The refusal of a guest's record of this index.
+    pub fn of_item(index: u32, fault: ReadFault) -> Self {
+        match fault {
+            ReadFault::DeviceFailed => Refusal::DeviceFailed,
+            ReadFault::Damaged => Refusal::Unreadable { index },
+            ReadFault::Memory => Refusal::Memory,
+        }
+    }
+
+    /// The refusal of a file that could not be read: `Memory` where that was for want of memory.
+    pub fn of_read(error: &io::Error) -> Self
+        ensures memory { error_kind error.now ≡ ErrorKind.OutOfMemory → result ≡ Refusal.Memory }
+        ensures other { error_kind error.now ≢ ErrorKind.OutOfMemory → result ≡ Refusal.CannotReadFile }
+    {
+        if error.kind() == ErrorKind::OutOfMemory {
+            return Refusal::Memory;
+        }
+        Refusal::CannotReadFile
+    }
+
+    /// The refusal of a trial, whose disk is in memory: such a disk fails for want of memory alone.
+    pub fn of_trial(self) -> Self
+        ensures memory { self ≡ Refusal.DeviceFailed → result ≡ Refusal.Memory }
+        ensures other { self ≢ Refusal.DeviceFailed → result ≡ self }
+    {
+        match self {
+            Refusal::DeviceFailed => Refusal::Memory,
+            other => other,
+        }
+    }
+
     /// The refusal of a file as the program of this guest.
     pub fn of_elf(guest: u32, fault: ElfFault) -> Self {
         match fault {

@@ -1,5 +1,7 @@
 //! Doing a line of the program.
 
+ghost use Rattle.std.specs.Prelude.{◌≤◌, IfOk, length};
+
 use crate::exit_five::EXIT_FIVE;
 use crate::line::{Request, line};
 use crate::refusal::Refusal;
@@ -10,9 +12,9 @@ use elf_load::image::parse;
 use guest_calls::Put;
 use rrv_model::limits::MAX_ELF;
 use std::convert::AsStr;
-use std::fs;
 use std::io::{Read, Write};
 use std::rt::Files;
+use std::{fs, io};
 
 /// The name of the guest of a trial.
 const NAME: &[u8] = b"g0";
@@ -28,7 +30,9 @@ pub fn run<R: Files + AllocGlobal, S: AsStr, O: Write, E: Write>(
     words: &[S],
     out: &mut O,
     err: &mut E,
-) -> u8 {
+) -> u8
+    ensures { result ≤ 2 }
+{
     let request = match line(rt.alloc(), words) {
         Ok(request) => request,
         Err(error) => return report(&error, out, err),
@@ -42,8 +46,23 @@ pub fn run<R: Files + AllocGlobal, S: AsStr, O: Write, E: Write>(
     }
 }
 
+/// Tells why the words of a line can't be read, and answers the status: 1 for want of memory, else 2.
+pub fn report_unread<E: Write>(error: &io::Error, err: &mut E) -> u8
+    ensures { result ≤ 2 }
+{
+    if error.kind() == io::ErrorKind::OutOfMemory {
+        let memory = Refusal::Memory;
+        let _ = writeln!(err, "rrv: {memory}");
+        return 1;
+    }
+    let _ = writeln!(err, "rrv: {error}");
+    2
+}
+
 /// Tells what the parser of the line says, where that belongs.
-fn report<O: Write, E: Write>(error: &clap::Error, out: &mut O, err: &mut E) -> u8 {
+fn report<O: Write, E: Write>(error: &clap::Error, out: &mut O, err: &mut E) -> u8
+    ensures { result ≤ 2 }
+{
     if error.kind() == ErrorKind::OutOfMemory {
         let memory = Refusal::Memory;
         let _ = writeln!(err, "rrv: {memory}");
@@ -73,13 +92,16 @@ fn perform<R: Files + AllocGlobal, O: Write, E: Write>(
 }
 
 /// The bytes of a file, up to the limit of a program.
-fn read_program<R: Files + AllocGlobal>(rt: &R, path: &str) -> Result<Vec<u8>, Refusal> {
-    let Ok(file) = fs::open(rt, path) else {
-        return Err(Refusal::CannotReadFile);
-    };
+fn read_program<R: Files + AllocGlobal>(rt: &R, path: &str) -> Result<Vec<u8>, Refusal>
+    ensures { IfOk result (λ bytes. length bytes.items ≤ 2_097_152) }
+{
+    let file = fs::open(rt, path).map_err(|error| Refusal::of_read(&error))?;
     let mut bytes = Vec::new(rt.alloc());
     let read = file.take(u64::from(MAX_ELF) + 1).read_to_end(&mut bytes);
-    if read.is_err() || bytes.len() > MAX_ELF as usize {
+    if let Err(error) = read {
+        return Err(Refusal::of_read(&error));
+    }
+    if bytes.len() > MAX_ELF as usize {
         return Err(Refusal::CannotReadFile);
     }
     Ok(bytes)
@@ -93,7 +115,9 @@ fn try_program<R: AllocGlobal, O: Write, E: Write>(
     err: &mut E,
 ) -> Result<(), Refusal> {
     let image = parse(rt.alloc(), program).map_err(|fault| Refusal::of_elf(0, fault))?;
-    let trial = try_image(rt.alloc(), &image, NAME, [0; 16], QUANTUM)?;
+    let trial = try_image(rt.alloc(), &image, NAME, [0; 16], QUANTUM).map_err(
+        |refusal| refusal.of_trial(),
+    )?;
     print_trial(&trial, out, err)
 }
 

@@ -2,7 +2,10 @@
 
 use crate::exit_five::EXIT_FIVE;
 use crate::run::run;
+use std::alloc::{AllocError, Global};
 use std::fs;
+use std::io::{self, Write};
+use std::test::*;
 
 /// The ELF header and the program header of a guest of 128 bytes, all loaded at 0x10000, entry 0x10054.
 const HELLO_HEADERS: [u8; 84] = [
@@ -16,6 +19,45 @@ const HELLO_CODE: [u32; 11] = [
     0xFF010593, 0x000A7537, 0x96850513, 0x00A5A023, 0x00100513, 0x00300613, 0x04000893, 0x00000073,
     0x00000513, 0x05D00893, 0x00000073,
 ];
+
+/// The headers of a guest that is all code, at 0x10054, in a file of that length.
+fn headers_of(len: u8) -> [u8; 84] {
+    let mut headers = HELLO_HEADERS;
+    headers[68] = len;
+    headers[72] = len;
+    headers
+}
+
+/// A guest of these words.
+fn guest_of(alloc: Global, words: &[u32]) -> Result<Vec<u8>, AllocError> {
+    let len = u8::try_from(words.len()).unwrap_or(0);
+    let mut elf = Vec::from_slice(alloc, &headers_of(len.wrapping_mul(4).wrapping_add(84)))?;
+    for word in words {
+        elf.extend_from_slice(&word.to_le_bytes())?;
+    }
+    Ok(elf)
+}
+
+/// A sink that takes so many bytes, and then fails.
+#[derive(Drop)]
+struct Full {
+    left: usize,
+}
+
+impl Write for Full {
+    fn write(&mut self, buf: &[u8]) -> io::Result<usize> {
+        if self.left == 0 {
+            return Err(io::Error::from(io::ErrorKind::StorageFull));
+        }
+        let taken = buf.len().min(self.left);
+        self.left = self.left.saturating_sub(taken);
+        Ok(taken)
+    }
+
+    fn flush(&mut self) -> io::Result<()> {
+        Ok(())
+    }
+}
 
 #[test]
 fn no_word_records_the_demonstration(rt: HostRuntime) {
@@ -41,9 +83,11 @@ fn try_puts_the_output_out(rt: HostRuntime) {
     let mut out = Vec::new(rt.alloc());
     let mut err = Vec::new(rt.alloc());
     let status = run(&rt, &["try", "hello"], &mut out, &mut err);
+    assert!(rt; fs::remove_file(&rt, "hello").is_ok());
     assert_eq!(rt; status, 0);
     let want: &[u8] =
-        b"hi\n0 opening name=g0 elf=128\n1 call tid=1 count=8 result=00000003 written=0\n2 call tid=1 count=3 result=00000000 written=0\nok records=3 instructions=11 end exited 0\n";
+        b"hi\n0 opening name=g0 elf=128\n1 call tid=1 count=8 result=00000003 written=0\n\
+        2 call tid=1 count=3 result=00000000 written=0\nok records=3 instructions=11 end exited 0\n";
     assert!(rt; out.as_slice() == want);
     assert!(rt; err.is_empty());
 }
@@ -57,13 +101,18 @@ fn bad_files_are_refused_by_name(rt: HostRuntime) {
     assert!(rt; fs::write(&rt, "cut51", &EXIT_FIVE[..51]).is_ok());
     assert!(rt; fs::write(&rt, "cut83", &EXIT_FIVE[..83]).is_ok());
     assert!(rt; fs::write(&rt, "cut95", &EXIT_FIVE[..95]).is_ok());
-    let cases: [(&str, &[u8]); 6] = [
+    let mut compressed = EXIT_FIVE;
+    compressed[36] = 1;
+    assert!(rt; fs::write(&rt, "compressed", &compressed).is_ok());
+    let cases: [(&str, &[u8]); 8] = [
         ("empty", b"rrv: guest 0: elf refusal 1\n"),
         ("text", b"rrv: guest 0: elf refusal 2\n"),
         ("cut51", b"rrv: guest 0: elf refusal 1\n"),
         ("cut83", b"rrv: guest 0: elf refusal 8\n"),
         ("cut95", b"rrv: guest 0: elf refusal 10\n"),
+        ("compressed", b"rrv: guest 0: elf refusal 7\n"),
         ("missing", b"rrv: cannot read file\n"),
+        (".", b"rrv: cannot read file\n"),
     ];
     for (file, want) in cases {
         let mut out = Vec::new(rt.alloc());
@@ -72,6 +121,9 @@ fn bad_files_are_refused_by_name(rt: HostRuntime) {
         assert_eq!(rt; status, 1, "{file}");
         assert!(rt; err.as_slice() == want, "{file}");
         assert!(rt; out.is_empty(), "{file}");
+    }
+    for file in ["empty", "text", "cut51", "cut83", "cut95", "compressed"] {
+        assert!(rt; fs::remove_file(&rt, file).is_ok(), "{file}");
     }
 }
 
@@ -86,4 +138,64 @@ fn bad_lines_end_with_two_and_help_with_zero(rt: HostRuntime) {
     assert!(rt; !err.is_empty());
     assert_eq!(rt; run(&rt, &["--help"], &mut out, &mut err), 0);
     assert!(rt; !out.is_empty());
+}
+
+#[test]
+fn a_file_above_the_limit_is_not_read(rt: HostRuntime) -> Result<(), Fail> {
+    let large = vec![in rt.alloc(); 0u8; 2_097_153]?;
+    assert!(rt; fs::write(&rt, "large", large.as_slice()).is_ok());
+    let mut out = Vec::new(rt.alloc());
+    let mut err = Vec::new(rt.alloc());
+    let status = run(&rt, &["try", "large"], &mut out, &mut err);
+    assert!(rt; fs::remove_file(&rt, "large").is_ok());
+    assert_eq!(rt; status, 1);
+    assert_eq!(rt; err.as_slice(), b"rrv: cannot read file\n".as_slice());
+    assert!(rt; out.is_empty());
+    Ok(())
+}
+
+#[test]
+fn frames_that_end_in_faults_and_preemptions(rt: HostRuntime) -> Result<(), Fail> {
+    // EBREAK; a word of zeros; and a loop of 65,536 turns of two instructions between one before and two behind it.
+    let guests: [(&[u32], &[u8]); 3] = [
+        (
+            &[0x00100073],
+            b"0 opening name=g0 elf=88\n1 fault tid=1 count=1 kind=2\nok records=2 instructions=1 end faulted 2\n",
+        ),
+        (
+            &[0],
+            b"0 opening name=g0 elf=88\n1 fault tid=1 count=1 kind=1\nok records=2 instructions=1 end faulted 1\n",
+        ),
+        (
+            &[0x00010537, 0xFFF50513, 0xFE051EE3, 0x05D00893, 0x00000073],
+            b"0 opening name=g0 elf=104\n1 preempt tid=1 count=50000\n2 preempt tid=1 count=50000\n\
+            3 call tid=1 count=31075 result=00000000 written=0\nok records=4 instructions=131075 end exited 0\n",
+        ),
+    ];
+    for (words, want) in guests {
+        let elf = guest_of(rt.alloc(), words)?;
+        assert!(rt; fs::write(&rt, "guest", elf.as_slice()).is_ok());
+        let mut out = Vec::new(rt.alloc());
+        let mut err = Vec::new(rt.alloc());
+        let status = run(&rt, &["try", "guest"], &mut out, &mut err);
+        assert!(rt; fs::remove_file(&rt, "guest").is_ok());
+        assert_eq!(rt; status, 0);
+        assert_eq!(rt; out.as_slice(), want);
+        assert!(rt; err.is_empty());
+    }
+    Ok(())
+}
+
+#[test]
+fn output_that_fails_is_told(rt: HostRuntime) {
+    let words: [&str; 0] = [];
+    for left in [0, 1, 25, 100] {
+        let mut out = Full { left };
+        let mut err = Vec::new(rt.alloc());
+        assert_eq!(rt; run(&rt, words.as_slice(), &mut out, &mut err), 1, "{left}");
+        assert!(rt;
+            err.as_slice() == b"rrv: output failed\n".as_slice(),
+            "{left}"
+        );
+    }
 }

@@ -10,13 +10,14 @@ ghost use Rattle.rrv.specs.Recorded.{IsFirst, OutputOf, chunks_in, opening_of};
 
 use crate::recording::record_guest;
 use crate::refusal::Refusal;
-use crate::replay::{Replayed, read_bodies, replay};
+use crate::replay::{Replayed, read_guest, replay};
 use elf_load::image::Image;
 use guest_calls::Guest;
+use recover::open;
 use rrv_model::record::Record;
 use std::alloc::Global;
 use trace_disk::MemDisk;
-use trace_log::{Log, reopen};
+use trace_log::Log;
 
 /// A guest as it was recorded, the records that its store was found to hold, and the guest as they replay it.
 #[derive(Drop)]
@@ -48,11 +49,12 @@ pub fn try_image(
         Err((_, fault)) => return Err(Refusal::from(fault)),
     };
     let recorded = record_guest(alloc, &mut log, 0, image, name, random, quantum)?;
-    let (_, bodies) = match reopen(alloc, log.close()) {
+    let (log, lists) = match open(alloc, log.close()) {
         Ok(opened) => opened,
         Err((_, fault)) => return Err(Refusal::from(fault)),
     };
-    let records = read_bodies(alloc, &bodies)?;
+    let mut disk = log.close();
+    let records = read_guest(alloc, &lists, &mut disk, 0)?;
     let replayed = replay(alloc, &records)?;
     Ok(Trial {
         recorded,

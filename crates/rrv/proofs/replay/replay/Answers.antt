@@ -1,10 +1,18 @@
 use Rattle.std.proofs.Common.{rules}
 use Rattle.guest_calls.specs.Guest.{chunks_of, state_of}
 use Rattle.rrv.specs.Recorded.{chunks_in}
+use Rattle.std.proofs.lemmas.Result.{err_from_is_err_and}
 use Rattle.rrv.proofs.Replayed.{replayed_at}
+use Rattle.rrv.proofs.Stopped.{refused_at}
 use Rattle.rrv.proofs.replay.replay.Goals as goal
 
 pub loop-index-preserved : goal.loop-index-preserved
-loop-index-preserved c = rw c.in_ok-keep.ensures (replayed_at c.in-Some.first.now.guest c.args.records.now c.loop-index.index c.index-records-index.result
+loop-index-preserved c = rw c.in_ok-keep.ensures.kept (replayed_at c.in-Some.first.now.guest c.args.records.now c.loop-index.index c.index-records-index.result
     (state_of c.loop-index.guest) (state_of c.follow_record.new.guest) (chunks_in c.loop-index.output.items) (chunks_of c.in_ok-put.put)
-    (search rules) c.index-records-index.is c.loop-index.invariant c.in_ok-put.ensures)
+    (search rules) c.index-records-index.is c.loop-index.invariant c.in_ok-put.ensures.next)
+
+pub returns-in_err-put-clause-refused : goal.returns-in_err-put-clause-refused
+returns-in_err-put-clause-refused c =
+    let p = err_from_is_err_and c.from_residual-in_err-put.result c.from_residual-in_err-put.ensures.1 in
+    rw (p.1, p.2) (refused_at c.in_err-put.field-0.0 c.in-Some.first.now.guest c.args.records.now c.loop-index.index c.index-records-index.result
+    (state_of c.loop-index.guest) (chunks_in c.loop-index.output.items) (search rules) c.index-records-index.is c.loop-index.invariant c.in_err-put.ensures.refused)

@@ -1,0 +1,142 @@
+-- Where a replay stops no longer recording begins.
+use Rattle.std.proofs.Common.{◌≡◌, ℕ, zero, suc, ◌+◌, ◌<◌, List, [], ◌∷◌, ◌++◌, length, take, get_or, refl, sym, ◌∙◌, ap, subst, arith}
+use Rattle.std.specs.Prelude.{slice_get, IsSomeAnd}
+use Rattle.std.proofs.Math.Seq.{take-suc}
+use Rattle.std.proofs.lemmas.List.{length-take-le}
+use Rattle.rrv_model.specs.declared.record.Frame.{Frame}
+use Rattle.rrv_model.specs.declared.record.Item.{Item}
+use Rattle.rrv_model.specs.declared.record.Item.TheVariants as items
+use Rattle.rrv_model.specs.declared.record.Opening.{Opening}
+use Rattle.rrv_model.specs.declared.record.Part.{Part}
+use Rattle.rrv_model.specs.declared.record.Record.{Record}
+use Rattle.rrv_model.specs.State.{State}
+use Rattle.rrv_model.specs.FrameStep.{FrameStep}
+use Rattle.rrv_model.specs.StateAt.{StateAtFrom, total}
+use Rattle.rrv_model.specs.Output.{Chunk}
+use Rattle.rrv_model.specs.Recording.{IsNumbered, IsRecording, ItemsFollow, Starts, EndsIn, items_of, frames_of, base_after, row_after}
+use Rattle.rrv_model.proofs.FrameLaws.{one_state_after_frame}
+use Rattle.rrv_model.proofs.RunLaws.{at_total_first, items-append}
+use Rattle.rrv.specs.declared.refusal.Refusal.{Refusal}
+use Rattle.rrv.specs.declared.refusal.Refusal.TheVariants as refusals
+use Rattle.rrv.specs.Recorded.{IsReplayed}
+use Rattle.rrv.specs.Refused.{IsPart, LeadsNowhere, RefusesOpening, RefusesFirst, RefusesRecord, RefusesReplay, StopsAt}
+
+-- what an item at the end of a recording says of the state before it
+GoesOn : Item → State → Type 0
+GoesOn (items.Opening o) last = ⊥
+GoesOn (items.Frame f) last = (new : State) × FrameStep last f new
+GoesOn (items.Part p) last = Unit {0}
+
+end_goes_on : (base : State) (parts : List Part) (s last : State) (it : Item) → last ≡ s → ItemsFollow base parts s (it ∷ []) → GoesOn it last
+unfolding GoesOn
+end_goes_on base parts s last (items.Opening o) same h = absurd h
+end_goes_on base parts s last (items.Frame f) same h = (h.0, subst (λ (m : State). FrameStep m f h.0) (sym same) h.1)
+end_goes_on base parts s last (items.Part p) same h = tt
+
+follow_goes_on : (base : State) (parts : List Part) (rest : List Item) (s last : State) (it : Item) → ItemsFollow base parts s (rest ++ it ∷ []) →
+    StateAtFrom s (frames_of rest) (total (frames_of rest)) last → GoesOn it last
+follow_goes_on base parts [] s last it h at = end_goes_on base parts s last it at.1 h
+follow_goes_on base parts (items.Opening o ∷ rest) s last it h at = absurd h
+follow_goes_on base parts (items.Frame g ∷ rest) s last it h at =
+    let open_ = at_total_first s g (frames_of rest) last at in
+    let e : open_.0 ≡ h.0 = one_state_after_frame s g open_.0 h.0 open_.1 h.1 in
+    follow_goes_on base [] rest h.0 last it h.2 (subst (λ (m : State). StateAtFrom m (frames_of rest) (total (frames_of rest)) last) e open_.2)
+follow_goes_on base parts (items.Part p ∷ rest) s last it h at =
+    follow_goes_on (base_after p.rest base s) (row_after p.rest (parts ++ p ∷ [])) rest s last it h.1 at
+
+start_goes_on : (rest : List Item) (last : State) (it : Item) → Starts (rest ++ it ∷ []) → EndsIn rest last → GoesOn it last
+start_goes_on [] last it h at = absurd at
+start_goes_on (items.Opening o ∷ rest) last it h at =
+    let e : at.0 ≡ h.0 = at.1.state_is ∙ sym h.1.state_is in
+    follow_goes_on h.0 [] rest h.0 last it h.2 (subst (λ (m : State). StateAtFrom m (frames_of rest) (total (frames_of rest)) last) e at.2)
+start_goes_on (items.Frame g ∷ rest) last it h at = absurd at
+start_goes_on (items.Part p ∷ rest) last it h at = absurd at
+
+numbered_end : (guest index : ℕ) (records : List Record) (r : Record) → IsNumbered guest index (records ++ r ∷ []) → (r.guest ≡ guest) × (r.index ≡ index + length records)
+numbered_end guest index [] r h = (h.0, omega (arith, h.1))
+numbered_end guest index (q ∷ records) r h =
+    let behind = numbered_end guest (index + 1) records r h.2 in
+    (behind.0, omega (arith, behind.1))
+
+-- a list that isn't empty is one guest's
+one_guest : (guest other : ℕ) (records : List Record) (r : Record) (s : State) → EndsIn (items_of records) s → IsNumbered guest 0 records → IsNumbered other 0 (records ++ r ∷ []) → other ≡ guest
+one_guest guest other [] r s ends h k = absurd ends
+one_guest guest other (q ∷ records) r s ends h k = sym k.0 ∙ h.0
+
+found : (records : List Record) (index : ℕ) (r : Record) → index < length records → r ≡ get_or records index r → IsPart r.item → IsSomeAnd (slice_get records index) (λ q. IsPart q.item)
+found [] index r below there part = absurd (omega arith)
+found (q ∷ records) zero r below there part = subst (λ (p : Record). IsPart p.item) there part
+found (q ∷ records) (suc index) r below there part = found records index r (omega arith) there part
+
+-- what goes on from a state and leads nowhere is a part
+only_part : (it : Item) (guest index : ℕ) (r : Record) (s : State) → r.item ≡ it → GoesOn it s → r.guest ≡ guest → r.index ≡ index → LeadsNowhere guest index r s → IsPart it
+unfolding GoesOn
+only_part (items.Opening o) guest index r s is goes of_guest at_index nowhere = absurd goes
+only_part (items.Frame f) guest index r s is goes of_guest at_index nowhere = absurd (nowhere f goes.0 of_guest at_index is goes.1)
+only_part (items.Part p) guest index r s is goes of_guest at_index nowhere = tt
+
+pub stops_at : (guest : ℕ) (records : List Record) (index : ℕ) (r : Record) (s : State) (chunks : List Chunk) → index < length records → r ≡ get_or records index r →
+    IsReplayed guest (take index records) s chunks → LeadsNowhere guest index r s → StopsAt index records
+stops_at guest records index r s chunks below there h nowhere =
+    let before = take index records in
+    let len : length before ≡ index = length-take-le index records (omega arith) in
+    let one_more : index + 1 ≡ suc index = omega arith in
+    let longer : take (index + 1) records ≡ before ++ r ∷ [] =
+    ap (λ n. take n records) one_more ∙ take-suc records index r below ∙ ap (λ q. before ++ q ∷ []) (sym there) in
+    record {
+      within = below;
+      before = h.recording;
+      stops = λ more.
+          let all : IsRecording (before ++ r ∷ []) = subst IsRecording longer more in
+          let same : all.guest ≡ guest = one_guest guest all.guest before r s h.ends h.numbered all.numbered in
+          let at_end = numbered_end all.guest 0 before r all.numbered in
+          let starts : Starts (items_of before ++ r.item ∷ []) = subst Starts (items-append before r) all.starts in
+          let part : IsPart r.item = only_part r.item guest index r s refl (start_goes_on (items_of before) s r.item starts h.ends) (at_end.0 ∙ same) (omega (arith, at_end.1, len)) nowhere in
+          found records index r below there part;
+    }
+
+pub refused_at : (e : Refusal) (guest : ℕ) (records : List Record) (index : ℕ) (r : Record) (s : State) (chunks : List Chunk) → index < length records → r ≡ get_or records index r →
+    IsReplayed guest (take index records) s chunks → RefusesRecord e guest index r s → RefusesReplay e records
+refused_at (refusals.Mismatch place) guest records index r s chunks below there h refuses =
+    subst (λ n. StopsAt n records) (sym refuses.0) (stops_at guest records index r s chunks below there h refuses.1)
+refused_at refusals.Memory guest records index r s chunks below there h refuses = tt
+refused_at refusals.BadOpening guest records index r s chunks below there h refuses = absurd refuses
+refused_at refusals.CannotReadFile guest records index r s chunks below there h refuses = absurd refuses
+refused_at (refusals.Elf g f) guest records index r s chunks below there h refuses = absurd refuses
+refused_at refusals.DeviceFailed guest records index r s chunks below there h refuses = absurd refuses
+refused_at refusals.StoreFull guest records index r s chunks below there h refuses = absurd refuses
+refused_at refusals.NotAStore guest records index r s chunks below there h refuses = absurd refuses
+refused_at (refusals.Damaged n) guest records index r s chunks below there h refuses = absurd refuses
+refused_at refusals.OutputFailed guest records index r s chunks below there h refuses = absurd refuses
+refused_at refusals.NewerVersion guest records index r s chunks below there h refuses = absurd refuses
+refused_at (refusals.Unreadable at) guest records index r s chunks below there h refuses = absurd refuses
+
+-- the first record's refusal is that of the list
+pub refused_first : (e : Refusal) (records : List Record) (first : Record) (rest : List Record) → records ≡ first ∷ rest → RefusesFirst e first → RefusesReplay e records
+refused_first refusals.BadOpening records first rest is refuses = λ h. refuses (subst (λ (rs : List Record). IsRecording (take 1 rs)) is h)
+refused_first refusals.Memory records first rest is refuses = tt
+refused_first (refusals.Mismatch place) records first rest is refuses = absurd refuses
+refused_first refusals.CannotReadFile records first rest is refuses = absurd refuses
+refused_first (refusals.Elf g f) records first rest is refuses = absurd refuses
+refused_first refusals.DeviceFailed records first rest is refuses = absurd refuses
+refused_first refusals.StoreFull records first rest is refuses = absurd refuses
+refused_first refusals.NotAStore records first rest is refuses = absurd refuses
+refused_first (refusals.Damaged n) records first rest is refuses = absurd refuses
+refused_first refusals.OutputFailed records first rest is refuses = absurd refuses
+refused_first refusals.NewerVersion records first rest is refuses = absurd refuses
+refused_first (refusals.Unreadable at) records first rest is refuses = absurd refuses
+
+-- an opening that is refused makes no recording
+pub refused_opening : (e : Refusal) (r : Record) (o : Opening) → r.item ≡ items.Opening o → RefusesOpening e o → RefusesFirst e r
+refused_opening refusals.BadOpening r o is refuses = λ h. let starts : Starts (items.Opening o ∷ []) = subst (λ (it : Item). Starts (it ∷ [])) is h.starts in refuses starts.0 starts.1
+refused_opening refusals.Memory r o is refuses = tt
+refused_opening (refusals.Mismatch place) r o is refuses = absurd refuses
+refused_opening refusals.CannotReadFile r o is refuses = absurd refuses
+refused_opening (refusals.Elf g f) r o is refuses = absurd refuses
+refused_opening refusals.DeviceFailed r o is refuses = absurd refuses
+refused_opening refusals.StoreFull r o is refuses = absurd refuses
+refused_opening refusals.NotAStore r o is refuses = absurd refuses
+refused_opening (refusals.Damaged n) r o is refuses = absurd refuses
+refused_opening refusals.OutputFailed r o is refuses = absurd refuses
+refused_opening refusals.NewerVersion r o is refuses = absurd refuses
+refused_opening (refusals.Unreadable at) r o is refuses = absurd refuses

@@ -1,0 +1,14 @@
+use Rattle.std.proofs.Common.{◌≡◌, ◌++◌, ◌∷◌, [], List, take, ap, sym, ◌∙◌, arith}
+use Rattle.std.proofs.lemmas.List.{take_all}
+use Rattle.rrv_model.specs.declared.record.Record.{Record}
+use Rattle.rrv_model.specs.Recovered.{of_guest}
+use Rattle.rrv.proofs.Replayed.{take_next}
+use Rattle.rrv.proofs.replay.read_guest.Goals as goal
+
+pub loop-index-preserved : goal.loop-index-preserved
+loop-index-preserved g c =
+    c.in_ok-push.ensures.items ∙ ap (λ (l : List Record). l ++ c.in-Ok.entry ∷ []) c.loop-index.invariant
+    ∙ sym (take_next (of_guest c.args.guest c.args.lists.now) c.loop-index.index c.in-Ok.entry c.in-Ok.ensures.record)
+
+pub returns : goal.returns
+returns g c = c.loop-index.invariant ∙ take_all c.loop-index.index (of_guest c.args.guest c.args.lists.now) (omega (arith, c.len-index-end.ensures.count, c.loop-index-test.false))

@@ -1,0 +1,63 @@
+#!/usr/bin/env python3
+"""Prints what ../src/every_instruction.rt holds: the guest of every_instruction.S, and what it puts out under qemu-riscv32.
+
+Needs riscv64-unknown-elf-gcc and qemu-riscv32. Run in this folder.
+"""
+
+import signal
+import struct
+import subprocess
+import tempfile
+
+LAYOUT = """
+PHDRS { code PT_LOAD FILEHDR PHDRS FLAGS(5); data PT_LOAD FLAGS(6); }
+SECTIONS {
+  . = 0x10000 + SIZEOF_HEADERS;
+  .text : { *(.text) } :code
+  . = 0x11000;
+  .bss : { *(.bss) } :data
+  /DISCARD/ : { *(.riscv.attributes) }
+}
+"""
+
+
+def ran(program):
+    """Answers how a program ended, what it wrote, and how many instructions it ran."""
+    run = subprocess.run(["qemu-riscv32", program], stdout=subprocess.PIPE)
+    trace = subprocess.run(["qemu-riscv32", "-singlestep", "-d", "nochain,exec", program], capture_output=True)
+    return run.returncode, run.stdout, trace.stderr.count(b"Trace ")
+
+
+def made(at):
+    with open(f"{at}/layout", "w") as file:
+        file.write(LAYOUT)
+    flags = "-march=rv32ima_zifencei -mabi=ilp32 -nostdlib -static -s -Wl,--build-id=none,-z,max-page-size=4096".split()
+    words = ["riscv64-unknown-elf-gcc", *flags, "every_instruction.S", "-T", f"{at}/layout", "-o", f"{at}/guest"]
+    subprocess.run(words, check=True)
+    with open(f"{at}/guest", "rb") as file:
+        return file.read()
+
+
+def array(name, data):
+    return f"const {name}: [u8; {len(data)}] = [{', '.join(f'0x{it:02X}' for it in data)}];"
+
+
+def main():
+    with tempfile.TemporaryDirectory() as at:
+        guest = made(at)
+        status, output, count = ran(f"{at}/guest")
+        assert status == 0 and len(output) == 248
+        # the last word of the first LOAD, an ECALL, as EBREAK
+        last = struct.unpack_from("<I", guest, 52 + 16)[0] - 4
+        assert guest[last : last + 4] == bytes.fromhex("73000000")
+        with open(f"{at}/guest", "r+b") as file:
+            file.seek(last)
+            file.write(bytes.fromhex("73001000"))
+        stopped, again, again_count = ran(f"{at}/guest")
+        assert stopped == -signal.SIGTRAP and again == output and again_count == count
+    print(f"{len(guest)} bytes, {count} instructions, the last at {last}")
+    print(array("GUEST", guest))
+    print(array("OUTPUT", output))
+
+
+main()
