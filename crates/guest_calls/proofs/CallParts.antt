@@ -9,6 +9,7 @@ use Rattle.rrv_model.specs.declared.record.CallRecord.{CallRecord}
 use Rattle.rrv_model.specs.Memory.{Memory, stored, bytes_at}
 use Rattle.rrv_model.specs.State.{State, thread_at, register}
 use Rattle.rrv_model.specs.CallRows.{answers, change_thread, range, with_memory, waits_at, waiters, woken, wakes, leaves, ends, clears, Row, Answers, NoResult, Call, row_of, call_of, write_row, writev_row, exit_row, exit_group_row, set_tid_address_row, brk_row, munmap_row, mmap_row, mprotect_row, fails, argument}
+use Rattle.rrv_model.specs.CallRows as calls
 use Rattle.rrv_model.specs.Calls.{Silence, write_all, writes, results, call_row, carried_out}
 use Rattle.rrv_model.specs.RecordText.{HasCallText}
 use Rattle.rrv_model.specs.Output.{put_out}
@@ -17,6 +18,7 @@ use Rattle.guest_calls.specs.declared.syscall.Syscall.TheVariants as syscalls
 use Rattle.guest_calls.specs.declared.put.Put.{Put}
 use Rattle.guest_calls.specs.Guest.{chunks_of}
 use Rattle.guest_calls.specs.Carries.{Carries, IsNumber}
+use Rattle.guest_calls.specs.Growth.{MayGrow}
 
 -- ---- records
 
@@ -142,6 +144,43 @@ row_is syscalls.Other n tid s t e = ap (λ (call : Call). row_of call tid s t) (
 pub carries_at : (sys : Syscall) (tid : ℕ) (s : State) (t : Thread) (r : CallRecord) (new : State) → IsNumber sys (register t.regs 17) →
     Carries (row_for sys tid s t) tid s r new → Carries (call_row s tid t) tid s r new
 carries_at sys tid s t r new e p = subst (λ (row : Row). Carries row tid s r new) (row_is sys (register t.regs 17) tid s t e) p
+
+-- ---- growth by number
+
+abbrev pub call_for : Syscall → Call
+call_for syscalls.Write = calls.Write
+call_for syscalls.Writev = calls.Writev
+call_for syscalls.Exit = calls.Exit
+call_for syscalls.ExitGroup = calls.ExitGroup
+call_for syscalls.SetTidAddress = calls.SetTidAddress
+call_for syscalls.SchedYield = calls.SchedYield
+call_for syscalls.Getpid = calls.Getpid
+call_for syscalls.Gettid = calls.Gettid
+call_for syscalls.Brk = calls.Brk
+call_for syscalls.Munmap = calls.Munmap
+call_for syscalls.Mmap = calls.Mmap
+call_for syscalls.Mprotect = calls.Mprotect
+call_for syscalls.Other = calls.Other
+
+call_is : (sys : Syscall) (n : ℕ) → IsNumber sys n → call_for sys ≡ carried_out (call_of n)
+call_is syscalls.Write n e = ap (λ n. carried_out (call_of n)) (sym e)
+call_is syscalls.Writev n e = ap (λ n. carried_out (call_of n)) (sym e)
+call_is syscalls.Exit n e = ap (λ n. carried_out (call_of n)) (sym e)
+call_is syscalls.ExitGroup n e = ap (λ n. carried_out (call_of n)) (sym e)
+call_is syscalls.SetTidAddress n e = ap (λ n. carried_out (call_of n)) (sym e)
+call_is syscalls.SchedYield n e = ap (λ n. carried_out (call_of n)) (sym e)
+call_is syscalls.Getpid n e = ap (λ n. carried_out (call_of n)) (sym e)
+call_is syscalls.Gettid n e = ap (λ n. carried_out (call_of n)) (sym e)
+call_is syscalls.Brk n e = ap (λ n. carried_out (call_of n)) (sym e)
+call_is syscalls.Munmap n e = ap (λ n. carried_out (call_of n)) (sym e)
+call_is syscalls.Mmap n e = ap (λ n. carried_out (call_of n)) (sym e)
+call_is syscalls.Mprotect n e = ap (λ n. carried_out (call_of n)) (sym e)
+call_is syscalls.Other n e = sym e
+
+-- a call that may grow, by its number
+pub grows_at : (sys : Syscall) (tid : ℕ) (s : State) (t : Thread) → IsNumber sys (register t.regs 17) →
+    MayGrow (call_for sys) tid s t → MayGrow (carried_out (call_of (register t.regs 17))) tid s t
+grows_at sys tid s t e p = subst (λ (call : Call). MayGrow call tid s t) (call_is sys (register t.regs 17) e) p
 
 -- ---- output
 

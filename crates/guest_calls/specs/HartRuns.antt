@@ -2,7 +2,7 @@
 use Rattle.std.specs.Prelude.{◌≡◌, ℕ, zero, suc, ◌-◌, ◌<◌, ◌≤◌}
 use Rattle.rrv_model.specs.declared.machine.FaultKind.{FaultKind}
 use Rattle.rrv_model.specs.State.{AreRegs}
-use Rattle.rrv_model.specs.Step.{Hart, HartStep, Next, Called, Faulted, MayTakeMemory}
+use Rattle.rrv_model.specs.Step.{Hart, HartStep, Next, Called, Faulted, MayStore}
 use Rattle.guest_calls.specs.declared.run.Run.{Run}
 use Rattle.guest_calls.specs.declared.run.RunEnd.{RunEnd}
 use Rattle.guest_calls.specs.declared.run.RunEnd.TheVariants.{Limit, Call, Fault, Memory}
@@ -29,7 +29,7 @@ pub record HartRunsToFault (limit count : ℕ) (kind : FaultKind) (old new : Har
 pub record HartRunsToMemory (limit count : ℕ) (old new : Hart) : Type 0 where
   pub within : count < limit
   pub steps : HartSteps count old new
-  pub takes : MayTakeMemory new
+  pub takes : MayStore new
 
 abbrev pub HartRunsTo : RunEnd → ℕ → ℕ → Hart → Hart → Type 0
 HartRunsTo Limit limit count old new = (count ≡ limit) × HartSteps limit old new

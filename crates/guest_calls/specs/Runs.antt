@@ -3,7 +3,7 @@ use Rattle.std.specs.Prelude.{◌≡◌, ℕ, ◌-◌, ◌<◌, ◌≤◌}
 use Rattle.rrv_model.specs.declared.machine.FaultKind.{FaultKind}
 use Rattle.rrv_model.specs.Words.{minus}
 use Rattle.rrv_model.specs.State.{State}
-use Rattle.rrv_model.specs.Step.{CallsFrom, FaultsFrom, StepsTo, ThreadMayTakeMemory}
+use Rattle.rrv_model.specs.Step.{CallsFrom, FaultsFrom, StepsTo, ThreadMayStore}
 use Rattle.rrv_model.specs.CallRows.{change_thread}
 use Rattle.rrv_model.specs.FrameStep.{Steps}
 use Rattle.rv_machine.specs.declared.Stepped.{Stepped}
@@ -32,11 +32,11 @@ pub record RunsToFault (limit tid count : ℕ) (kind : FaultKind) (old new : Sta
   pub steps : Steps (count - 1) tid old new
   pub faults : FaultsFrom new tid kind
 
--- the next instruction, which is not counted, found no memory
+-- the next instruction, which stores and is not counted, found no memory
 pub record RunsToMemory (limit tid count : ℕ) (old new : State) : Type 0 where
   pub within : count < limit
   pub steps : Steps count tid old new
-  pub takes : ThreadMayTakeMemory new tid
+  pub takes : ThreadMayStore new tid
 
 abbrev pub RunsTo : RunEnd → ℕ → ℕ → ℕ → State → State → Type 0
 RunsTo Limit limit tid count old new = (count ≡ limit) × Steps limit tid old new

@@ -1,14 +1,16 @@
 //! A guest's calls, a function a row.
 
-ghost use Rattle.std.specs.Prelude.{◌≡◌, [], ◌∷◌, Some, None, MatchOption, IsTrue, IfOk, OnOk, OnErr, length, if◌then◌else◌, ◌==◌, ◌+◌, ◌≤◌, ◌^◌};
-ghost use Rattle.rrv_model.specs.Memory.{writable};
+ghost use Rattle.std.specs.Prelude.{◌≡◌, [], ◌∷◌, Some, None, MatchOption, true, IsTrue, IfOk, OnOk, OnErr, length, if◌then◌else◌, ◌==◌, ◌+◌, ◌≤◌, ◌^◌};
+ghost use Rattle.rrv_model.specs.Memory.{readable, writable, bytes_at};
 ghost use Rattle.rrv_model.specs.State.{thread_at, register, IsRunning};
-ghost use Rattle.rrv_model.specs.CallRows.{NoResult, range, answers, leaves, wakes, write_row, exit_row, exit_group_row, set_tid_address_row};
-ghost use Rattle.rrv_model.specs.Calls.{call_row};
+ghost use Rattle.rrv_model.specs.CallRows.{NoResult, range, answers, call_of, clears, leaves, wakes, write_row, exit_row, exit_group_row, set_tid_address_row};
+ghost use Rattle.rrv_model.specs.Calls.{call_row, carried_out};
 ghost use Rattle.rrv_model.specs.RecordText.{HasCallText};
 ghost use Rattle.rrv_model.specs.Output.{put_out, put_out_by};
+ghost use Rattle.guest_pages.specs.Space.{snapshots_of};
 ghost use Rattle.guest_calls.specs.Guest.{state_of, chunks_of};
 ghost use Rattle.guest_calls.specs.Carries.{Carries, CallDoes, CallAsks};
+ghost use Rattle.guest_calls.specs.Growth.{CallMayGrow, MayGrow, PutsBytes};
 
 use crate::guest::Guest;
 use crate::outside::Outside;
@@ -87,8 +89,10 @@ impl Guest {
         ensures text { IfOk result HasCallText }
         ensures puts { IfOk result (λ r. chunks_of self.new.put
             ≡ put_out_by (thread_at (state_of self.old) tid) (state_of self.old).memory r.result) }
+        ensures memory { OnErr result (CallMayGrow (state_of self.old) tid (thread_at (state_of self.old) tid)) }
         ensures refused { OnErr result (self.new ≡ self.old) }
         ensures ran { self.new.ran ≡ self.old.ran }
+        ensures snapshots { snapshots_of self.new.space ≡ snapshots_of self.old.space }
         ensures refused_unasked { OnErr result (outside.new ≡ outside.old) }
         ensures unasked { ¬ CallAsks (state_of self.old) tid (thread_at (state_of self.old) tid) → outside.new ≡ outside.old }
     {
@@ -113,8 +117,10 @@ impl Guest {
             Carries (call_row (state_of self.old) tid thread.now) tid (state_of self.old) r (state_of self.new)) }
         ensures text { IfOk result HasCallText }
         ensures puts { IfOk result (λ r. chunks_of self.new.put ≡ put_out (state_of self.old).memory thread.now r.result) }
+        ensures memory { OnErr result (MayGrow (carried_out (call_of (register thread.now.regs 17))) tid (state_of self.old) thread.now) }
         ensures refused { OnErr result (self.new ≡ self.old) }
         ensures ran { self.new.ran ≡ self.old.ran }
+        ensures snapshots { snapshots_of self.new.space ≡ snapshots_of self.old.space }
     {
         match syscall_of(thread.regs.registers[NUMBER]) {
             Syscall::Write => self.write(alloc, tid, thread),
@@ -140,6 +146,7 @@ impl Guest {
         ensures value { result.result ≡ value }
         ensures put { self.new.put ≡ None }
         ensures ran { self.new.ran ≡ self.old.ran }
+        ensures snapshots { snapshots_of self.new.space ≡ snapshots_of self.old.space }
     {
         self.set_result(tid, value);
         self.put = None;
@@ -149,6 +156,16 @@ impl Guest {
         }
     }
 
+    /// Bytes that can be read.
+    fn readable_bytes(&self, alloc: Global, address: u32, count: u32) -> Result<Vec<u8>, Memory>
+        requires { readable (state_of self.now).memory address count ≡ true }
+        ensures { IfOk result (λ bytes. bytes.items ≡ bytes_at (state_of self.now).memory address count) }
+    {
+        let mut bytes = vec![in alloc; 0u8; count as usize]?;
+        self.space.load(address, bytes.as_mut_slice()).unwrap();
+        Ok(bytes)
+    }
+
     /// write(fd, buf, len)
     fn write(&mut self, alloc: Global, tid: u32, thread: &Thread) -> Result<CallRecord, Memory>
         requires { register thread.now.regs 17 ≡ 64 }
@@ -156,8 +173,10 @@ impl Guest {
             Carries (write_row (state_of self.old) thread.now) tid (state_of self.old) r (state_of self.new)) }
         ensures text { IfOk result HasCallText }
         ensures puts { IfOk result (λ r. chunks_of self.new.put ≡ put_out (state_of self.old).memory thread.now r.result) }
+        ensures memory { OnErr result (PutsBytes (state_of self.old) thread.now) }
         ensures refused { OnErr result (self.new ≡ self.old) }
         ensures ran { self.new.ran ≡ self.old.ran }
+        ensures snapshots { snapshots_of self.new.space ≡ snapshots_of self.old.space }
     {
         let descriptor = thread.regs.registers[10];
         let address = thread.regs.registers[11];
@@ -166,10 +185,13 @@ impl Guest {
             return Ok(self.answer(alloc, tid, failure(BAD_DESCRIPTOR)));
         }
         let count = len.min(MAX_TRANSFER);
-        let mut bytes = vec![in alloc; 0u8; count as usize]?;
-        if self.space.load(address, bytes.as_mut_slice()).is_err() {
+        if !self.space.is_readable(address, count) {
             return Ok(self.answer(alloc, tid, failure(BAD_ADDRESS)));
         }
+        if count == 0 {
+            return Ok(self.answer(alloc, tid, 0));
+        }
+        let bytes = self.readable_bytes(alloc, address, count)?;
         let record = self.answer(alloc, tid, count);
         self.put = put_of(descriptor, bytes);
         Ok(record)
@@ -182,8 +204,10 @@ impl Guest {
         ensures value { IfOk result (λ r. r.result ≡ 0) }
         ensures text { IfOk result HasCallText }
         ensures put { OnOk result (self.new.put ≡ None) }
+        ensures memory { OnErr result (IsTrue (clears (state_of self.old) thread.now)) }
         ensures refused { OnErr result (self.new ≡ self.old) }
         ensures ran { self.new.ran ≡ self.old.ran }
+        ensures snapshots { snapshots_of self.new.space ≡ snapshots_of self.old.space }
     {
         let status = thread.regs.registers[10];
         if self.clears(thread) {
@@ -214,6 +238,7 @@ impl Guest {
         ensures put { OnOk result (self.new.put ≡ None) }
         ensures refused { OnErr result (self.new ≡ self.old) }
         ensures ran { self.new.ran ≡ self.old.ran }
+        ensures snapshots { snapshots_of self.new.space ≡ snapshots_of self.old.space }
     {
         let written = cleared_word(alloc, clear)?;
         self.clear_word(clear)?;
@@ -230,6 +255,7 @@ impl Guest {
         ensures value { result.result ≡ 0 }
         ensures put { self.new.put ≡ None }
         ensures ran { self.new.ran ≡ self.old.ran }
+        ensures snapshots { snapshots_of self.new.space ≡ snapshots_of self.old.space }
     {
         self.end(thread.regs.registers[10]);
         self.put = None;
@@ -246,6 +272,7 @@ impl Guest {
         ensures value { result.result ≡ tid }
         ensures put { self.new.put ≡ None }
         ensures ran { self.new.ran ≡ self.old.ran }
+        ensures snapshots { snapshots_of self.new.space ≡ snapshots_of self.old.space }
     {
         self.set_clear(tid, thread.regs.registers[10]);
         self.set_result(tid, tid);

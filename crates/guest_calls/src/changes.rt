@@ -6,6 +6,7 @@ ghost use Rattle.rrv_model.specs.Memory.{writable, stored};
 ghost use Rattle.rrv_model.specs.State.{thread_at, IsThread};
 ghost use Rattle.rrv_model.specs.CallRows.{change_thread, set_register, waits_at, woken, wakes, leaves, clears, ends, with_memory};
 ghost use Rattle.rrv_model.specs.Calls.{results};
+ghost use Rattle.guest_pages.specs.Space.{snapshots_of};
 ghost use Rattle.guest_calls.specs.Guest.{state_of};
 
 use crate::guest::Guest;
@@ -35,6 +36,7 @@ impl Guest {
     pub(crate) fn set_result(&mut self, tid: u32, value: u32)
         ensures state { state_of self.new ≡ results tid value (state_of self.old) }
         ensures ran { self.new.ran ≡ self.old.ran }
+        ensures snapshots { snapshots_of self.new.space ≡ snapshots_of self.old.space }
     {
         if let Some(thread) = self.threads.get(tid) {
             self.threads.set(tid, with_result(thread, value));
@@ -45,6 +47,7 @@ impl Guest {
     pub(crate) fn set_clear(&mut self, tid: u32, address: u32)
         ensures state { state_of self.new ≡ change_thread tid (λ t. record t { clear = address }) (state_of self.old) }
         ensures ran { self.new.ran ≡ self.old.ran }
+        ensures snapshots { snapshots_of self.new.space ≡ snapshots_of self.old.space }
     {
         if let Some(mut thread) = self.threads.get(tid) {
             thread.clear = address;
@@ -65,6 +68,7 @@ impl Guest {
         ensures state { OnOk result (state_of self.new
             ≡ with_memory (stored address (to_le_bytes w32 0) (state_of self.old).memory) (state_of self.old)) }
         ensures ran { OnOk result (self.new.ran ≡ self.old.ran) }
+        ensures snapshots { snapshots_of self.new.space ≡ snapshots_of self.old.space }
         ensures refused { OnErr result (self.new ≡ self.old) }
     {
         match self.space.store_word(address, 0) {
@@ -99,6 +103,7 @@ impl Guest {
     fn wake(&mut self, tid: u32)
         ensures state { state_of self.new ≡ woken (state_of self.old) tid }
         ensures ran { self.new.ran ≡ self.old.ran }
+        ensures snapshots { snapshots_of self.new.space ≡ snapshots_of self.old.space }
     {
         take_out(&mut self.waiting, tid);
         if let Some(mut thread) = self.threads.get(tid) {
@@ -111,6 +116,7 @@ impl Guest {
     pub(crate) fn wake_first(&mut self, address: u32)
         ensures state { state_of self.new ≡ wakes address 1 (state_of self.old) }
         ensures ran { self.new.ran ≡ self.old.ran }
+        ensures snapshots { snapshots_of self.new.space ≡ snapshots_of self.old.space }
     {
         if let Some(tid) = self.first_waiter(address) {
             self.wake(tid);
@@ -121,6 +127,7 @@ impl Guest {
     pub(crate) fn end(&mut self, status: u32)
         ensures state { state_of self.new ≡ ends status (state_of self.old) }
         ensures ran { self.new.ran ≡ self.old.ran }
+        ensures snapshots { snapshots_of self.new.space ≡ snapshots_of self.old.space }
     {
         self.ended = Some(GuestEnd::Exited((status % 256) as u8));
     }
@@ -129,6 +136,7 @@ impl Guest {
     pub(crate) fn leave(&mut self, tid: u32, status: u32)
         ensures state { state_of self.new ≡ leaves tid status (state_of self.old) }
         ensures ran { self.new.ran ≡ self.old.ran }
+        ensures snapshots { snapshots_of self.new.space ≡ snapshots_of self.old.space }
     {
         self.threads.remove(tid);
         if self.threads.is_empty() {

@@ -1,10 +1,10 @@
 //! A guest, and what it tells.
 
-ghost use Rattle.std.specs.Prelude.{◌≡◌, ◌↔◌, ◌≤◌, ℕ, IsTrue, IfOk, Contains, Some, None};
+ghost use Rattle.std.specs.Prelude.{◌≡◌, ◌↔◌, ◌≤◌, ℕ, IsTrue, IfOk, OnErr, Contains, Some, None};
 ghost use Rattle.std.specs.List.Sorted.{IsStrictlyIncreasing};
 ghost use Rattle.rrv_model.specs.Memory.{page_count, IsMemory};
 ghost use Rattle.rrv_model.specs.State.{thread_at, IsRunning, IsThread};
-ghost use Rattle.guest_pages.specs.Space.{memory_of};
+ghost use Rattle.guest_pages.specs.Space.{snapshots_of};
 
 use crate::put::Put;
 use crate::threads::Threads;
@@ -100,9 +100,9 @@ impl Guest {
         self.space.page_count()
     }
 
-    /// The guest's memory.
+    /// The guest's memory, with its snapshots.
     pub fn space(&self) -> &Space
-        ensures { memory_of result.now ≡ (state_of self.now).memory }
+        ensures { result.now ≡ self.now.space }
     {
         &self.space
     }
@@ -150,6 +150,7 @@ impl Guest {
     pub fn running(&self, alloc: Global) -> Result<Vec<u32>, Memory>
         ensures rising { IfOk result (λ tids. IsStrictlyIncreasing tids.items) }
         ensures running { IfOk result (λ tids. (tid : ℕ) → Contains tids.items tid ↔ IsRunning (thread_at (state_of self.now) tid)) }
+        ensures memory { OnErr result (HasRunning (state_of self.now)) }
     {
         self.threads.running(alloc)
     }
@@ -168,6 +169,7 @@ impl Guest {
     pub fn close_slice(&mut self, end: Option<GuestEnd>)
         ensures state { state_of self.new ≡ closed_by end (state_of self.old) }
         ensures ran { self.new.ran ≡ self.old.ran }
+        ensures snapshots { snapshots_of self.new.space ≡ snapshots_of self.old.space }
         ensures put { self.new.put ≡ self.old.put }
     {
         self.reservation = None;

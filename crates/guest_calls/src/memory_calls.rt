@@ -4,8 +4,10 @@ ghost use Rattle.std.specs.Prelude.{◌≡◌, ◌&&◌, ◌||◌, ◌==◌, ◌
 ghost use Rattle.rrv_model.specs.Memory.{highest_free_up_to, page_bytes, pages_for};
 ghost use Rattle.rrv_model.specs.CallRows.{argument, has_flag, brk_row, munmap_row, mmap_row, mmap_place, mprotect_row};
 ghost use Rattle.rrv_model.specs.RecordText.{HasCallText};
+ghost use Rattle.guest_pages.specs.Space.{snapshots_of};
 ghost use Rattle.guest_calls.specs.Guest.{state_of};
 ghost use Rattle.guest_calls.specs.Carries.{Carries};
+ghost use Rattle.guest_calls.specs.Growth.{RaisesBreak, Succeeds};
 
 use crate::calls::{INVALID, NO_MEMORY, failure};
 use crate::guest::Guest;
@@ -62,8 +64,10 @@ impl Guest {
             Carries (brk_row (state_of self.old) thread.now) tid (state_of self.old) r (state_of self.new)) }
         ensures text { IfOk result HasCallText }
         ensures put { OnOk result (self.new.put ≡ None) }
+        ensures memory { OnErr result (RaisesBreak (state_of self.old) thread.now) }
         ensures refused { OnErr result (self.new ≡ self.old) }
         ensures ran { self.new.ran ≡ self.old.ran }
+        ensures snapshots { snapshots_of self.new.space ≡ snapshots_of self.old.space }
     {
         let address = thread.regs.registers[10];
         if address < self.opening_break || HIGHEST_BREAK < address {
@@ -91,6 +95,7 @@ impl Guest {
         ensures text { HasCallText result }
         ensures put { self.new.put ≡ None }
         ensures ran { self.new.ran ≡ self.old.ran }
+        ensures snapshots { snapshots_of self.new.space ≡ snapshots_of self.old.space }
     {
         let address = thread.regs.registers[10];
         let len = thread.regs.registers[11];
@@ -141,8 +146,10 @@ impl Guest {
             Carries (mmap_row (state_of self.old) thread.now) tid (state_of self.old) r (state_of self.new)) }
         ensures text { IfOk result HasCallText }
         ensures put { OnOk result (self.new.put ≡ None) }
+        ensures memory { OnErr result (Succeeds (mmap_row (state_of self.old) thread.now)) }
         ensures refused { OnErr result (self.new ≡ self.old) }
         ensures ran { self.new.ran ≡ self.old.ran }
+        ensures snapshots { snapshots_of self.new.space ≡ snapshots_of self.old.space }
     {
         if !is_mapping(thread) {
             return Ok(self.answer(alloc, tid, failure(INVALID)));
@@ -164,6 +171,7 @@ impl Guest {
         ensures text { HasCallText result }
         ensures put { self.new.put ≡ None }
         ensures ran { self.new.ran ≡ self.old.ran }
+        ensures snapshots { snapshots_of self.new.space ≡ snapshots_of self.old.space }
     {
         let address = thread.regs.registers[10];
         let pages = pages_for(thread.regs.registers[11]);

@@ -3,6 +3,7 @@
 ghost use Rattle.std.specs.Prelude.{◌≡◌, ◌+◌, ◌*◌, ◌/◌, ◌%◌, ◌^◌, ◌<◌, ◌≤◌, not, nat_lt, if◌then◌else◌, IsTrue, IsFalse, IfOk, OnErr};
 ghost use Rattle.rrv_model.specs.Memory.{all_mapped, mapped, unmapped, protected, page_bytes, page_count, pages_for};
 ghost use Rattle.rrv_model.specs.CallRows.{page_limit, permissions_of, with_memory};
+ghost use Rattle.guest_pages.specs.Space.{snapshots_of};
 ghost use Rattle.guest_calls.specs.Guest.{state_of};
 
 use crate::guest::Guest;
@@ -45,8 +46,10 @@ impl Guest {
         ensures state { IfOk result (λ fits. IsTrue fits → state_of self.new
             ≡ with_memory (mapped (page * page_bytes) (count * page_bytes) permissions (state_of self.old).memory) (state_of self.old)) }
         ensures full { IfOk result (λ fits. IsFalse fits → self.new ≡ self.old) }
+        ensures memory { OnErr result (page_count (mapped (page * page_bytes) (count * page_bytes) permissions (state_of self.old).memory) ≤ page_limit) }
         ensures refused { OnErr result (self.new ≡ self.old) }
         ensures ran { self.new.ran ≡ self.old.ran }
+        ensures snapshots { snapshots_of self.new.space ≡ snapshots_of self.old.space }
     {
         match self.space.map(page, count, permissions) {
             Ok(()) => {
@@ -64,6 +67,7 @@ impl Guest {
         ensures state { state_of self.new
             ≡ with_memory (unmapped (page * page_bytes) (count * page_bytes) (state_of self.old).memory) (state_of self.old) }
         ensures ran { self.new.ran ≡ self.old.ran }
+        ensures snapshots { snapshots_of self.new.space ≡ snapshots_of self.old.space }
     {
         self.space.unmap(page, count);
     }
@@ -77,6 +81,7 @@ impl Guest {
             ≡ with_memory (protected (page * page_bytes) (count * page_bytes) permissions (state_of self.old).memory) (state_of self.old) }
         ensures refused { IsFalse result → self.new ≡ self.old }
         ensures ran { self.new.ran ≡ self.old.ran }
+        ensures snapshots { snapshots_of self.new.space ≡ snapshots_of self.old.space }
     {
         self.space.protect(page, count, permissions).is_ok()
     }
@@ -87,6 +92,7 @@ impl Guest {
         requires high { address ≤ 0x70000000 }
         ensures state { state_of self.new ≡ record (state_of self.old) { program_break = address } }
         ensures ran { self.new.ran ≡ self.old.ran }
+        ensures snapshots { snapshots_of self.new.space ≡ snapshots_of self.old.space }
     {
         self.program_break = address;
     }

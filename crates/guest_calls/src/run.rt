@@ -2,7 +2,7 @@
 
 ghost use Rattle.std.specs.Prelude.{◌≡◌};
 ghost use Rattle.rrv_model.specs.State.{AreRegs};
-ghost use Rattle.guest_pages.specs.Space.{memory_of};
+ghost use Rattle.guest_pages.specs.Space.{memory_of, snapshots_of};
 ghost use Rattle.rv_machine.specs.Outcome.{hart};
 ghost use Rattle.guest_calls.specs.HartRuns.{HartRuns};
 
@@ -42,6 +42,7 @@ pub(crate) fn run_hart(
     ensures regs { AreRegs regs.new }
     ensures runs { HartRuns limit (hart regs.old (memory_of space.old) reservation.old) result
         (hart regs.new (memory_of space.new) reservation.new) }
+    ensures snapshots { snapshots_of space.new ≡ snapshots_of space.old }
 {
     for count in 0..limit {
         match step(regs, space, reservation) {

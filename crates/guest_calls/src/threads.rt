@@ -1,6 +1,6 @@
 //! The threads of a guest, by tid.
 
-ghost use Rattle.std.specs.Prelude.{◌≡◌, ◌↔◌, ℕ, ◌≤◌, IsTrue, IsSome, IfSome, OnSome, IfOk, Contains, is_none};
+ghost use Rattle.std.specs.Prelude.{◌≡◌, ◌↔◌, ℕ, ◌≤◌, IsTrue, IsSome, IfSome, OnSome, IfOk, OnErr, Contains, is_none};
 ghost use Rattle.std.specs.List.{list_any};
 ghost use Rattle.std.specs.List.Sorted.{IsStrictlyIncreasing};
 ghost use Rattle.std.specs.Map.{values_of};
@@ -33,7 +33,8 @@ impl Model for Threads {
 
 /// The tids of the threads that run, rising.
 fn running_keys(alloc: Global, threads: &BTreeMap<u32, Thread>) -> Result<Vec<u32>, Memory>
-    ensures { IfOk result (λ tids. tids.items ≡ running_in threads.now.entries) }
+    ensures tids { IfOk result (λ tids. tids.items ≡ running_in threads.now.entries) }
+    ensures memory { OnErr result ((tid : ℕ) × Contains (running_in threads.now.entries) tid) }
 {
     let mut tids = Vec::new(alloc);
     for (tid, thread) in threads {
@@ -118,6 +119,7 @@ impl Threads {
     pub(crate) fn running(&self, alloc: Global) -> Result<Vec<u32>, Memory>
         ensures rising { IfOk result (λ tids. IsStrictlyIncreasing tids.items) }
         ensures running { IfOk result (λ tids. (tid : ℕ) → Contains tids.items tid ↔ IsRunning (get (thread_map self.now) tid)) }
+        ensures memory { OnErr result ((tid : ℕ) × IsRunning (get (thread_map self.now) tid)) }
     {
         let _ordered = self.threads.len();
         let tids = running_keys(alloc, &self.threads)?;

@@ -7,9 +7,11 @@ ghost use Rattle.rrv_model.specs.Step.{word_at};
 ghost use Rattle.rrv_model.specs.CallRows.{all_readable, buffers_at, clipped, total_len, writev_row};
 ghost use Rattle.rrv_model.specs.Output.{put_out};
 ghost use Rattle.rrv_model.specs.RecordText.{HasCallText};
+ghost use Rattle.guest_pages.specs.Space.{snapshots_of};
 ghost use Rattle.guest_calls.specs.Buffers.{joined};
 ghost use Rattle.guest_calls.specs.Guest.{state_of, chunks_of};
 ghost use Rattle.guest_calls.specs.Carries.{Carries};
+ghost use Rattle.guest_calls.specs.Growth.{ReadsBuffers};
 
 use crate::calls::{BAD_ADDRESS, BAD_DESCRIPTOR, INVALID, failure, put_of};
 use crate::guest::Guest;
@@ -56,6 +58,7 @@ impl Guest {
         requires readable { readable (state_of self.now).memory address (8 * count) ≡ true }
         ensures buffers { IfOk result (λ buffers. buffers.items ≡ buffers_at (state_of self.now).memory address count) }
         ensures count { IfOk result (λ buffers. vec_len buffers ≡ count) }
+        ensures some { OnErr result (1 ≤ count) }
     {
         let mut buffers = Vec::new(alloc);
         let _memory = self.page_count();
@@ -94,7 +97,8 @@ impl Guest {
 
     /// The first 65,536 bytes of the buffers; None where one of them can't be read.
     fn joined(&self, alloc: Global, buffers: &[(u32, u32)]) -> Result<Option<Vec<u8>>, Memory>
-        ensures { IfOk result (λ found. MatchOption found
+        ensures some { OnErr result (1 ≤ length buffers.now) }
+        ensures bytes { IfOk result (λ found. MatchOption found
             (all_readable (state_of self.now).memory (clipped 65_536 buffers.now) ≡ false)
             (λ bytes. (all_readable (state_of self.now).memory (clipped 65_536 buffers.now) ≡ true)
             × (bytes.items ≡ joined (state_of self.now).memory (clipped 65_536 buffers.now))
@@ -124,8 +128,10 @@ impl Guest {
             Carries (writev_row (state_of self.old) thread.now) tid (state_of self.old) r (state_of self.new)) }
         ensures text { IfOk result HasCallText }
         ensures puts { IfOk result (λ r. chunks_of self.new.put ≡ put_out (state_of self.old).memory thread.now r.result) }
+        ensures memory { OnErr result (ReadsBuffers (state_of self.old) thread.now) }
         ensures refused { OnErr result (self.new ≡ self.old) }
         ensures ran { self.new.ran ≡ self.old.ran }
+        ensures snapshots { snapshots_of self.new.space ≡ snapshots_of self.old.space }
     {
         let descriptor = thread.regs.registers[10];
         let address = thread.regs.registers[11];

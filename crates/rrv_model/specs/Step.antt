@@ -290,6 +290,26 @@ may_take_memory (Lr ordering rd rs1) = Bool.false
 may_take_memory (Sc ordering rd rs1 rs2) = Bool.true
 may_take_memory (Amo op ordering rd rs1 rs2) = Bool.true
 
+-- the instruction stores where it doesn't fault; an SC only where its address is reserved (section 8.2)
+abbrev pub may_store : Instr → Hart → Bool
+may_store (Lui rd immediate) h = Bool.false
+may_store (Auipc rd immediate) h = Bool.false
+may_store (Jal rd offset) h = Bool.false
+may_store (Jalr rd rs1 immediate) h = Bool.false
+may_store (Branch test rs1 rs2 offset) h = Bool.false
+may_store (Load kind rd rs1 immediate) h = Bool.false
+may_store (Store kind rs1 rs2 immediate) h = Bool.true
+may_store (OpImm op rd rs1 immediate) h = Bool.false
+may_store (Shift op rd rs1 amount) h = Bool.false
+may_store (Op op rd rs1 rs2) h = Bool.false
+may_store Fence h = Bool.false
+may_store FenceI h = Bool.false
+may_store Ecall h = Bool.false
+may_store Ebreak h = Bool.false
+may_store (Lr ordering rd rs1) h = Bool.false
+may_store (Sc ordering rd rs1 rs2) h = is_reserved h.reservation (register h.regs rs1)
+may_store (Amo op ordering rd rs1 rs2) h = Bool.true
+
 -- the hart's next instruction is a STORE, SC, AMO or ECALL
 pub record MayTakeMemory (h : Hart) : Type 0 where
   pub word : ℕ
@@ -300,9 +320,20 @@ pub record MayTakeMemory (h : Hart) : Type 0 where
   -- and does not fault
   pub goes : (kind : FaultKind) → executed (Some instr) h ≡ Faulted kind → ⊥
 
+-- and it stores
+pub record MayStore (h : Hart) : Type 0 where
+  pub next : MayTakeMemory h
+  pub stores : may_store next.instr h ≡ Bool.true
+
 -- so is the next instruction of a thread
 pub record ThreadMayTakeMemory (s : State) (tid : ℕ) : Type 0 where
   pub thread : Thread
   pub there : thread_at s tid ≡ Some thread
   pub running : thread.waits_at ≡ None
   pub next : MayTakeMemory (hart_of s thread)
+
+pub record ThreadMayStore (s : State) (tid : ℕ) : Type 0 where
+  pub thread : Thread
+  pub there : thread_at s tid ≡ Some thread
+  pub running : thread.waits_at ≡ None
+  pub next : MayStore (hart_of s thread)

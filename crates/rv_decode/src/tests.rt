@@ -215,5 +215,6 @@ fn words_in_no_row(rt: HostRuntime) {
 #[test]
 fn laws_hold(rt: HostRuntime) {
     laws::one_answer();
-    assert_eq!(rt; laws::decode_encoded(Instr::Ecall), Some(Instr::Ecall));
+    laws::decode_encoded();
+    assert_eq!(rt; decode(encode(Instr::Ecall)), Some(Instr::Ecall));
 }

@@ -2,7 +2,7 @@
 
 ghost use Rattle.std.specs.Prelude.{◌≡◌, IfOk, OnErr, true};
 ghost use Rattle.rrv_model.specs.State.{AreRegs};
-ghost use Rattle.rrv_model.specs.Step.{may_take_memory};
+ghost use Rattle.rrv_model.specs.Step.{may_store, may_take_memory};
 ghost use Rattle.rv_machine.specs.Outcome.{hart, DoesNotFault, Executes};
 ghost use Rattle.guest_pages.specs.Space.{memory_of, snapshots_of};
 
@@ -28,6 +28,7 @@ pub(crate) fn execute(
     ensures refused { OnErr result (hart regs.new (memory_of space.new) reservation.new
         ≡ hart regs.old (memory_of space.old) reservation.old) }
     ensures takes { OnErr result (may_take_memory instr ≡ true) }
+    ensures stores { OnErr result (may_store instr (hart regs.old (memory_of space.old) reservation.old) ≡ true) }
     ensures goes { OnErr result (DoesNotFault instr (hart regs.old (memory_of space.old) reservation.old)) }
     ensures regs { AreRegs regs.new }
     ensures snapshots { snapshots_of space.new ≡ snapshots_of space.old }

@@ -26,7 +26,7 @@ fill-requires c =
     let m1 = memory_of c.fill_words.new.space in
     let at = c.name_at.ensures in
     let top = name_in_stack c.args.name.now c.requires.name in
-    let has1 = has_stack_still _ _ m m1 (has_bare c.args.image.now m c.requires.bare) c.fill_words.ensures in
+    let has1 = has_stack_still _ _ m m1 (has_bare c.args.image.now m c.requires.bare) c.fill_words.ensures.memory in
     present_on_stack m1 c.name_at.result (length c.args.name.now) has1 (omega (arith, at, top)) (omega (arith, at, top))
 
 pub fill-requires-2 : goal.fill-requires-2
@@ -34,7 +34,7 @@ fill-requires-2 c =
     let m = memory_of c.args.space.now in
     let m1 = memory_of c.fill_words.new.space in
     let m2 = memory_of c.fill.new.self in
-    let has1 = has_stack_still _ _ m m1 (has_bare c.args.image.now m c.requires.bare) c.fill_words.ensures in
+    let has1 = has_stack_still _ _ m m1 (has_bare c.args.image.now m c.requires.bare) c.fill_words.ensures.memory in
     let has2 = has_stack_still _ _ m1 m2 has1 c.fill.ensures.memory in
     present_on_stack m2 0x7FFFFFEF 1 has2 (omega arith) (omega arith)
 
@@ -44,14 +44,14 @@ fill-requires-3 c =
     let m1 = memory_of c.fill_words.new.space in
     let m2 = memory_of c.fill.new.self in
     let m3 = memory_of c.fill-2.new.self in
-    let has1 = has_stack_still _ _ m m1 (has_bare c.args.image.now m c.requires.bare) c.fill_words.ensures in
+    let has1 = has_stack_still _ _ m m1 (has_bare c.args.image.now m c.requires.bare) c.fill_words.ensures.memory in
     let has2 = has_stack_still _ _ m1 m2 has1 c.fill.ensures.memory in
     let has3 = has_stack_still 0x7FFFFFEF (0 ∷ []) m2 m3 has2 c.fill-2.ensures.memory in
     let sixteen = c.told-random in
     present_on_stack m3 0x7FFFFFF0 (length c.args.random.now) has3 (omega arith) (omega (arith, sixteen))
 
-pub returns : goal.returns
-returns c =
+pub returns-clause-memory : goal.returns-clause-memory
+returns-clause-memory c =
     stack_filled c.args.image.now c.args.name.now c.args.random.now c.stack_pointer.result c.name_at.result c.stack_words.result
     (memory_of c.args.space.now) (memory_of c.fill_words.new.space) (memory_of c.fill.new.self) (memory_of c.fill-2.new.self) (memory_of c.fill-3.new.self)
-    c.requires.name c.requires.bare c.stack_pointer.ensures c.stack_words.ensures c.name_at.ensures c.fill_words.ensures c.fill.ensures.memory c.fill-2.ensures.memory c.fill-3.ensures.memory
+    c.requires.name c.requires.bare c.stack_pointer.ensures c.stack_words.ensures c.name_at.ensures c.fill_words.ensures.memory c.fill.ensures.memory c.fill-2.ensures.memory c.fill-3.ensures.memory

@@ -1,11 +1,12 @@
+use Rattle.std.proofs.Common.{refl, ◌∙◌}
 use Rattle.guest_calls.proofs.HartSteps.{no_steps, one_more, to_fault}
 use Rattle.guest_calls.proofs.run.run_hart.Goals as goal
 
 pub loop-count-init : goal.loop-count-init
-loop-count-init c = (c.requires, no_steps _)
+loop-count-init c = (c.requires, no_steps _, refl)
 
 pub loop-count-preserved : goal.loop-count-preserved
-loop-count-preserved c = let e = rw c.in-Ok-Next.field-0-is at c.in-Ok-Next.ensures.step in (c.step.ensures.regs, one_more _ _ _ _ c.loop-count.invariant.1 e)
+loop-count-preserved c = let e = rw c.in-Ok-Next.field-0-is at c.in-Ok-Next.ensures.step in (c.step.ensures.regs, one_more _ _ _ _ c.loop-count.invariant.1 e, c.step.ensures.snapshots ∙ c.loop-count.invariant.2)
 
 pub returns-in-Ok-Fault-clause-runs : goal.returns-in-Ok-Fault-clause-runs
 returns-in-Ok-Fault-clause-runs c =

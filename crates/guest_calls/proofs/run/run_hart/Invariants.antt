@@ -1,5 +1,6 @@
+use Rattle.std.proofs.Common.{◌≡◌}
 use Rattle.rrv_model.specs.State.{AreRegs}
-use Rattle.guest_pages.specs.Space.{memory_of}
+use Rattle.guest_pages.specs.Space.{memory_of, snapshots_of}
 use Rattle.rv_machine.specs.Outcome.{hart}
 use Rattle.guest_calls.specs.HartRuns.{HartSteps}
 use Rattle.guest_calls.proofs.run.run_hart.Given as goal
@@ -7,3 +8,4 @@ use Rattle.guest_calls.proofs.run.run_hart.Given as goal
 abbrev pub invariant-loop-count : goal.invariant-loop-count
 invariant-loop-count l = AreRegs l.regs × HartSteps l.count
     (hart l.fn.regs (memory_of l.fn.space) l.fn.reservation) (hart l.regs (memory_of l.space) l.reservation)
+    × (snapshots_of l.space ≡ snapshots_of l.fn.space)

@@ -3,4 +3,4 @@ use Rattle.std.proofs.Common.{Some}
 use Rattle.rv_decode.proofs.laws.decode_encoded.Goals as goal
 
 pub returns : goal.returns
-returns c = c.one_answer.ensures c.encode.result c.decode.result (Some c.args.instr) c.decode.ensures.decodes c.encode.ensures.stands
+returns c = λ w i o stands decodes. c.one_answer.ensures w o (Some i) decodes stands

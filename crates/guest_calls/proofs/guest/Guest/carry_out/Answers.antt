@@ -1,9 +1,10 @@
 use Rattle.std.proofs.Common.{◌≡◌, ◌-◌, ◌^◌, subst, arith}
+use Rattle.std.proofs.lemmas.Result.{on_err_weaker}
 use Rattle.rrv_model.specs.CallRows.{answers}
 use Rattle.guest_calls.specs.Carries.{Carries}
 use Rattle.guest_calls.specs.declared.syscall.Syscall.TheVariants as syscalls
 use Rattle.guest_calls.specs.Guest.{state_of}
-use Rattle.guest_calls.proofs.CallParts.{carries_at, quiet_call, IfOk-map}
+use Rattle.guest_calls.proofs.CallParts.{carries_at, grows_at, quiet_call, IfOk-map}
 use Rattle.guest_calls.proofs.guest.Guest.carry_out.Goals as goal
 
 pub returns-in-Write-clause-carries : goal.returns-in-Write-clause-carries
@@ -82,3 +83,28 @@ pub returns-in-Writev-clause-carries : goal.returns-in-Writev-clause-carries
 returns-in-Writev-clause-carries c =
     let number = rw c.in-Writev.is at c.syscall_of.ensures in
     IfOk-map _ _ _ (λ r p. carries_at syscalls.Writev c.args.tid (state_of c.args.self.now) c.args.thread.now r _ number p) c.writev.ensures.carries
+
+pub returns-in-Write-clause-memory : goal.returns-in-Write-clause-memory
+returns-in-Write-clause-memory c =
+    let number = rw c.in-Write.is at c.syscall_of.ensures in
+    on_err_weaker c.write.result (λ p. grows_at syscalls.Write c.args.tid (state_of c.args.self.now) c.args.thread.now number p) c.write.ensures.memory
+
+pub returns-in-Writev-clause-memory : goal.returns-in-Writev-clause-memory
+returns-in-Writev-clause-memory c =
+    let number = rw c.in-Writev.is at c.syscall_of.ensures in
+    on_err_weaker c.writev.result (λ p. grows_at syscalls.Writev c.args.tid (state_of c.args.self.now) c.args.thread.now number p) c.writev.ensures.memory
+
+pub returns-in-Exit-clause-memory : goal.returns-in-Exit-clause-memory
+returns-in-Exit-clause-memory c =
+    let number = rw c.in-Exit.is at c.syscall_of.ensures in
+    on_err_weaker c.exit.result (λ p. grows_at syscalls.Exit c.args.tid (state_of c.args.self.now) c.args.thread.now number p) c.exit.ensures.memory
+
+pub returns-in-Brk-clause-memory : goal.returns-in-Brk-clause-memory
+returns-in-Brk-clause-memory c =
+    let number = rw c.in-Brk.is at c.syscall_of.ensures in
+    on_err_weaker c.brk.result (λ p. grows_at syscalls.Brk c.args.tid (state_of c.args.self.now) c.args.thread.now number p) c.brk.ensures.memory
+
+pub returns-in-Mmap-clause-memory : goal.returns-in-Mmap-clause-memory
+returns-in-Mmap-clause-memory c =
+    let number = rw c.in-Mmap.is at c.syscall_of.ensures in
+    on_err_weaker c.mmap.result (λ p. grows_at syscalls.Mmap c.args.tid (state_of c.args.self.now) c.args.thread.now number p) c.mmap.ensures.memory

@@ -11,8 +11,8 @@ loop-buffer-init c = (
   omega (arith, c.new-bytes.ensures.len),
 )
 
-pub returns-then-not-appended : goal.returns-then-not-appended
-returns-then-not-appended c =
+pub returns-then-not-appended-clause-bytes : goal.returns-then-not-appended-clause-bytes
+returns-then-not-appended-clause-bytes c =
     let m = (state_of c.args.self.now).memory in
     let b = get_or c.args.buffers.now c.loop-buffer.buffer-index (0, 0) in
     let count = c.min-count.result in

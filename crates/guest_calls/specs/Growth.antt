@@ -1,0 +1,66 @@
+-- Which calls may take memory.
+use Rattle.std.specs.Prelude.{◌≡◌, ℕ, ◌-◌, ◌*◌, ◌^◌, ◌<◌, ◌≤◌, IsTrue, Option, Some, None}
+use Rattle.rrv_model.specs.declared.machine.Thread.{Thread}
+use Rattle.rrv_model.specs.Memory.{readable, pages_for}
+use Rattle.rrv_model.specs.State.{State, register}
+use Rattle.rrv_model.specs.CallRows.{Row, Answers, NoResult, AsksInput, AsksRandom, AsksTime, Call, Read, Write, Writev, Exit, ExitGroup, SetTidAddress, Futex, SchedYield, Getpid, Gettid, Brk, Munmap, Clone, Mmap, Mprotect, Getrandom, ClockGettime, Other, argument, call_of, clears, is_output, row_of, write_row, brk_row, mmap_row}
+use Rattle.rrv_model.specs.Calls.{carried_out}
+
+-- the call answers no error number (Linux man pages, intro(2): those are -4095 to -1)
+abbrev pub Succeeds : Row → Type 0
+Succeeds (Answers result written change) = result < 2 ^ 32 - 4095
+Succeeds (NoResult written change) = Unit {0}
+Succeeds (AsksInput a count) = Unit {0}
+Succeeds (AsksRandom a count) = Unit {0}
+Succeeds (AsksTime a) = Unit {0}
+
+-- it answers this
+abbrev pub AnswersWith : ℕ → Row → Type 0
+AnswersWith n (Answers result written change) = result ≡ n
+AnswersWith n (NoResult written change) = ⊥
+AnswersWith n (AsksInput a count) = ⊥
+AnswersWith n (AsksRandom a count) = ⊥
+AnswersWith n (AsksTime a) = ⊥
+
+-- a write that puts some bytes out
+pub record PutsBytes (s : State) (t : Thread) : Type 0 where
+  pub some : 1 ≤ argument t 2
+  pub succeeds : Succeeds (write_row s t)
+
+-- a writev to an output whose list of buffers isn't empty, isn't too long and can be read
+pub record ReadsBuffers (s : State) (t : Thread) : Type 0 where
+  pub output : IsTrue (is_output (argument t 0))
+  pub some : 1 ≤ argument t 2
+  pub most : argument t 2 ≤ 1024
+  pub listed : IsTrue (readable s.memory (argument t 1) (8 * argument t 2))
+
+-- a brk that raises the break by pages
+pub record RaisesBreak (s : State) (t : Thread) : Type 0 where
+  pub pages : pages_for s.program_break < pages_for (argument t 0)
+  pub answers : AnswersWith (argument t 0) (brk_row s t)
+
+-- the call puts bytes out, clears a word or maps pages; the others take no memory
+abbrev pub MayGrow : Call → ℕ → State → Thread → Type 0
+MayGrow Read tid s t = Succeeds (row_of Read tid s t)
+MayGrow Write tid s t = PutsBytes s t
+MayGrow Writev tid s t = ReadsBuffers s t
+MayGrow Exit tid s t = IsTrue (clears s t)
+MayGrow ExitGroup tid s t = ⊥
+MayGrow SetTidAddress tid s t = ⊥
+MayGrow Futex tid s t = Succeeds (row_of Futex tid s t)
+MayGrow SchedYield tid s t = ⊥
+MayGrow Getpid tid s t = ⊥
+MayGrow Gettid tid s t = ⊥
+MayGrow Brk tid s t = RaisesBreak s t
+MayGrow Munmap tid s t = ⊥
+MayGrow Clone tid s t = Succeeds (row_of Clone tid s t)
+MayGrow Mmap tid s t = Succeeds (mmap_row s t)
+MayGrow Mprotect tid s t = ⊥
+MayGrow Getrandom tid s t = Succeeds (row_of Getrandom tid s t)
+MayGrow ClockGettime tid s t = Succeeds (row_of ClockGettime tid s t)
+MayGrow Other tid s t = ⊥
+
+-- the call that the thread makes may take memory
+abbrev pub CallMayGrow : State → ℕ → Option Thread → Type 0
+CallMayGrow s tid None = ⊥
+CallMayGrow s tid (Some t) = MayGrow (carried_out (call_of (register t.regs 17))) tid s t
