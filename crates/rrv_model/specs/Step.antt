@@ -320,10 +320,15 @@ pub record MayTakeMemory (h : Hart) : Type 0 where
   -- and does not fault
   pub goes : (kind : FaultKind) → executed (Some instr) h ≡ Faulted kind → ⊥
 
--- and it stores
+-- the hart's next instruction stores
 pub record MayStore (h : Hart) : Type 0 where
-  pub next : MayTakeMemory h
-  pub stores : may_store next.instr h ≡ Bool.true
+  pub word : ℕ
+  pub instr : Instr
+  pub fetches : fetched h.memory h.regs.pc ≡ Ok word
+  pub stands : Stands word instr
+  pub stores : may_store instr h ≡ Bool.true
+  -- and does not fault
+  pub goes : (kind : FaultKind) → executed (Some instr) h ≡ Faulted kind → ⊥
 
 -- so is the next instruction of a thread
 pub record ThreadMayTakeMemory (s : State) (tid : ℕ) : Type 0 where
