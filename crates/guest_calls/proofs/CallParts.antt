@@ -1,5 +1,5 @@
 -- What calls leave, put together from their parts.
-use Rattle.std.proofs.Common.{◌≡◌, ℕ, ◌^◌, ◌<◌, ◌≤◌, ◌≢◌, Bool, true, false, cond, nat_eq, List, [], ◌∷◌, All, lit<, take, filter, find, fold, Option, Some, None, Result, Ok, Err, IfOk, OnOk, refl, sym, ◌∙◌, ap, subst, arith}
+use Rattle.std.proofs.Common.{◌≡◌, ℕ, ◌^◌, ◌<◌, ◌≤◌, ◌≢◌, Bool, true, false, cond, nat_eq, ◌==◌, if◌then◌else◌, length, List, [], ◌∷◌, All, lit<, take, filter, find, fold, Option, Some, None, Result, Ok, Err, IfOk, OnOk, refl, sym, ◌∙◌, ap, subst, arith}
 use Rattle.std.proofs.lemmas.Bool.Decides.{nat_tests}
 use Rattle.std.proofs.lemmas.List.Elements.{All-cons}
 use Rattle.std.specs.FinMap.{remove, len}
@@ -12,7 +12,8 @@ use Rattle.rrv_model.specs.CallRows.{answers, change_thread, range, with_memory,
 use Rattle.rrv_model.specs.CallRows as calls
 use Rattle.rrv_model.specs.Calls.{Silence, write_all, writes, results, call_row, carried_out}
 use Rattle.rrv_model.specs.RecordText.{HasCallText}
-use Rattle.rrv_model.specs.Output.{put_out}
+use Rattle.rrv_model.specs.Output.{Chunk, put_out}
+use Rattle.guest_pages.proofs.Cells.{length_bytes_at}
 use Rattle.guest_calls.specs.declared.syscall.Syscall.{Syscall}
 use Rattle.guest_calls.specs.declared.syscall.Syscall.TheVariants as syscalls
 use Rattle.guest_calls.specs.declared.put.Put.{Put}
@@ -202,6 +203,16 @@ quiet_none m t count a = grind (arith, nat_tests)
 pub put_out_write : (m : Memory) (t : Thread) (count : ℕ) → register t.regs 17 ≡ 64 → 0 < count → count ≤ 65_536 →
     record { descriptor = argument t 0; bytes = bytes_at m (argument t 1) count } ∷ [] ≡ put_out m t count
 put_out_write m t count e a b = grind (arith, nat_tests)
+
+-- what a write of some bytes puts out
+pub write_puts : (m : Memory) (t : Thread) (bytes : List ℕ) (count result : ℕ) (put : List Chunk) → register t.regs 17 ≡ 64 →
+    bytes ≡ bytes_at m (argument t 1) count → 0 < count → count ≤ 65_536 → result ≡ count →
+    put ≡ (if length bytes == 0 then [] else record { descriptor = argument t 0; bytes = bytes } ∷ []) → put ≡ put_out m t result
+write_puts m t bytes count result put number are some most is told =
+    let len : length bytes ≡ count = ap length are ∙ length_bytes_at m (argument t 1) count in
+    let full : put ≡ record { descriptor = argument t 0; bytes = bytes } ∷ [] = grind (arith, nat_tests) in
+    full ∙ ap (λ (bytes : List ℕ). record { descriptor = argument t 0; bytes = bytes } ∷ []) are
+    ∙ put_out_write m t count number some most ∙ ap (put_out m t) (sym is)
 
 -- the thread that isn't there isn't changed
 pub changed_nowhere : (tid : ℕ) (change : Thread → Thread) (s : State) → thread_at s tid ≡ None → change_thread tid change s ≡ s

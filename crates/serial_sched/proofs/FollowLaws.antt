@@ -12,11 +12,11 @@ use Rattle.rrv_model.specs.FrameStep.{Steps, FrameStep, FrameStepBy, EndsInCall,
 use Rattle.rrv_model.specs.Output.{Chunk, put_out_by}
 use Rattle.guest_calls.specs.declared.run.RunEnd.{RunEnd}
 use Rattle.guest_calls.specs.declared.run.RunEnd.TheVariants as ends
+use Rattle.guest_calls.specs.Growth.{CallMayGrow}
 use Rattle.guest_calls.specs.Runs.{RunsTo, RunsToCall}
 use Rattle.serial_sched.specs.Slices.{CallPuts}
-use Rattle.serial_sched.specs.Follows.{CallPutsAt, Reaches, ReachesCall, ReachesFault, MeetsNoMemory}
+use Rattle.serial_sched.specs.Follows.{CallMeetsNoMemory, CallPutsAt, EndMeetsNoMemory, FrameMeetsNoMemory, Reaches, ReachesCall, ReachesFault}
 use Rattle.serial_sched.proofs.Ways.{reached, one_run_end, one_called}
-use Rattle.serial_sched.proofs.Ecalls.{call_may_take}
 use Rattle.serial_sched.proofs.Determined.{one_call_record}
 use Rattle.serial_sched.proofs.SliceLaws.{call_puts}
 
@@ -77,11 +77,11 @@ call_followed tid count q r answer old called after e run calls = record {
   new_is = refl;
 }
 
--- a call finds no memory at its ECALL
-pub call_meets : (limit tid count : ℕ) (old called : State) → RunsToCall limit tid count old called → MeetsNoMemory old tid count
-call_meets limit tid count old called p =
-    let some = p.some in
-    record { done = count - 1; within = omega arith; finds = record { last = p.before; steps = p.steps; takes = call_may_take p.before tid called p.calls } }
+-- a call finds no memory
+pub call_meets : (limit tid count : ℕ) (old called : State) → RunsToCall limit tid count old called → CallMayGrow called tid (thread_at called tid) →
+    CallMeetsNoMemory old tid count
+call_meets limit tid count old called p grows =
+    record { called = called; reaches = record { some = p.some; before = p.before; steps = p.steps; calls = p.calls }; grows = grows }
 
 pub call_put : (tid count : ℕ) (q r : CallRecord) (answer : Answer) (old called after : State) (chunks : List Chunk) → q ≡ r → RunsToCall count tid count old called →
     Calls called tid answer q after → chunks ≡ put_out_by (thread_at called tid) called.memory q.result → CallPutsAt old tid count r.result chunks
@@ -94,6 +94,11 @@ pub frame_followed : (old new : State) (f : Frame) (end : End) → f.end ≡ end
     FrameStep old f new
 frame_followed old new f end e runs limit goes =
     record { runs = runs; limit = limit; goes = subst (λ (x : End). FrameStepBy x old f.tid f.count new) (sym e) goes }
+
+pub frame_meets : (old : State) (f : Frame) (end : End) → f.end ≡ end → old.ended ≡ None → f.count ≤ 1_048_576 → EndMeetsNoMemory end old f.tid f.count →
+    FrameMeetsNoMemory old f
+frame_meets old f end e runs limit meets =
+    record { runs = runs; limit = limit; meets = subst (λ (x : End). EndMeetsNoMemory x old f.tid f.count) (sym e) meets }
 
 pub frame_leads : (old new : State) (f : Frame) (end : End) → f.end ≡ end → FrameStep old f new → FrameStepBy end old f.tid f.count new
 frame_leads old new f end e p = subst (λ (x : End). FrameStepBy x old f.tid f.count new) e p.goes

@@ -9,7 +9,7 @@ use Rattle.rrv_model.specs.declared.record.End.TheVariants as ends
 use Rattle.rrv_model.specs.declared.record.Frame.{Frame}
 use Rattle.rrv_model.specs.Words.{minus}
 use Rattle.rrv_model.specs.State.{State, thread_at, with_thread, IsRunning}
-use Rattle.rrv_model.specs.Step.{ThreadMayTakeMemory}
+use Rattle.rrv_model.specs.Step.{ThreadMayStore, ThreadMayTakeMemory}
 use Rattle.rrv_model.specs.CallRows.{change_thread}
 use Rattle.rrv_model.specs.Calls.{Answer, Calls}
 use Rattle.rrv_model.specs.FrameStep.{Steps, closed, closed_at_end}
@@ -17,11 +17,12 @@ use Rattle.rrv_model.specs.Output.{Chunk, put_out_by}
 use Rattle.rrv_model.specs.RecordText.{HasCallText}
 use Rattle.guest_calls.specs.Runs.{RunsToCall, RunsToFault, before_call}
 use Rattle.guest_calls.specs.Carries.{CallAsks}
+use Rattle.guest_calls.specs.Growth.{CallMayGrow}
 use Rattle.serial_sched.specs.Asking.{FrameAsks}
-use Rattle.serial_sched.specs.Slices.{CanRun, Sliced, IsWhole}
+use Rattle.serial_sched.specs.Slices.{CanRun, CallsToGrow, NextMayGrow, Sliced, IsWhole}
 use Rattle.serial_sched.specs.Follows.{CallPutsAt}
 use Rattle.serial_sched.proofs.Ways.{get-insert_same, running_behind, steps_end_none}
-use Rattle.serial_sched.proofs.Ecalls.{call_may_take}
+use Rattle.serial_sched.proofs.Ecalls.{call_may_take, store_may_take}
 
 -- ---- what a call puts out
 
@@ -68,15 +69,34 @@ frame_asks limit tid count s called r f e p asks =
 -- ---- the ends
 
 -- where nothing has run, the first instruction found no memory
-pub none_took : {E : Type 0} (r : Result Frame E) (tid count : ℕ) (s last : State) → Steps count tid s last → ThreadMayTakeMemory last tid →
-    OnErr r (count ≡ 0) → OnErr r (ThreadMayTakeMemory s tid)
-none_took (Ok f) tid count s last steps takes e = tt
-none_took (Err x) tid count s last steps takes e =
-    let q : last ≡ s = subst (λ (n : ℕ). Steps n tid s last) e steps in subst (λ (x : State). ThreadMayTakeMemory x tid) q takes
+none_ran : {E : Type 0} (P : State → Type 0) (r : Result Frame E) (tid count : ℕ) (s last : State) → Steps count tid s last → P last →
+    OnErr r (count ≡ 0) → OnErr r (P s)
+none_ran P (Ok f) tid count s last steps p e = tt
+none_ran P (Err x) tid count s last steps p e =
+    let q : last ≡ s = subst (λ (n : ℕ). Steps n tid s last) e steps in subst P q p
 
-pub refused_call_took : {E : Type 0} (r : Result Frame E) (limit tid count : ℕ) (s called back : State) → RunsToCall limit tid count s called →
-    back ≡ before_call tid called → OnErr r (count - 1 ≡ 0) → OnErr r (ThreadMayTakeMemory s tid)
-refused_call_took r limit tid count s called back p e first = none_took r tid (count - 1) s p.before p.steps (call_may_take p.before tid called p.calls) first
+pub store_took : {E : Type 0} (r : Result Frame E) (tid count : ℕ) (s last : State) → Steps count tid s last → ThreadMayStore last tid →
+    OnErr r (count ≡ 0) → OnErr r (ThreadMayTakeMemory s tid)
+store_took r tid count s last steps stores e = none_ran (λ (x : State). ThreadMayTakeMemory x tid) r tid count s last steps (store_may_take last tid stores) e
+
+pub store_grows : {E : Type 0} (r : Result Frame E) (tid count : ℕ) (s last : State) → Steps count tid s last → ThreadMayStore last tid →
+    OnErr r (count ≡ 0) → OnErr r (NextMayGrow s tid)
+store_grows r tid count s last steps stores e = none_ran (λ (x : State). NextMayGrow x tid) r tid count s last steps (inl stores) e
+
+pub refused_call_took : {E : Type 0} (r : Result Frame E) (limit tid count : ℕ) (s called : State) → RunsToCall limit tid count s called →
+    OnErr r (count - 1 ≡ 0) → OnErr r (ThreadMayTakeMemory s tid)
+refused_call_took r limit tid count s called p first =
+    none_ran (λ (x : State). ThreadMayTakeMemory x tid) r tid (count - 1) s p.before p.steps (call_may_take p.before tid called p.calls) first
+
+-- the last of the steps is a call that may grow
+calls_to_grow : (limit tid count : ℕ) (s called : State) (p : RunsToCall limit tid count s called) → CallMayGrow called tid (thread_at called tid) →
+    CallsToGrow p.before tid
+calls_to_grow limit tid count s called p grows = record { called = called; calls = p.calls; grows = grows }
+
+pub refused_call_grows : {E : Type 0} (r : Result Frame E) (limit tid count : ℕ) (s called : State) → RunsToCall limit tid count s called →
+    CallMayGrow called tid (thread_at called tid) → OnErr r (count - 1 ≡ 0) → OnErr r (NextMayGrow s tid)
+refused_call_grows r limit tid count s called p grows first =
+    none_ran (λ (x : State). NextMayGrow x tid) r tid (count - 1) s p.before p.steps (inr (calls_to_grow limit tid count s called p grows)) first
 
 pub same_sliced : (s : State) (choice : Choice) (f f' : Frame) (new new' : State) (chunks : List Chunk) → f' ≡ f → new' ≡ new →
     Sliced s choice f new chunks → Sliced s choice f' new' chunks
@@ -105,30 +125,39 @@ module _ (s : State) (choice : Choice) (can : CanRun s choice) where
 
   -- less, since there was no memory
   pub short_sliced : (count : ℕ) (last : State) (chunks : List Chunk) → 1 ≤ count → count < choice.quantum → Steps count choice.tid s last →
-      ThreadMayTakeMemory last choice.tid →
+      ThreadMayTakeMemory last choice.tid → NextMayGrow last choice.tid →
       Sliced s choice (record { tid = choice.tid; count = count; end = ends.Preempt }) (closed last) chunks
-  short_sliced count last chunks some within steps takes =
-      preempted count last chunks some (omega arith) steps (inr (within, record { last = last; steps = steps; takes = takes }))
+  short_sliced count last chunks some within steps takes grows =
+      preempted count last chunks some (omega arith) steps (inr (within, record { last = last; steps = steps; takes = takes; grows = grows }))
 
-  pub short_or_none : {E : Type 0} (r : Result Frame E) (count : ℕ) (last new : State) (chunks : List Chunk) → count < choice.quantum →
-      Steps count choice.tid s last → ThreadMayTakeMemory last choice.tid → OnOk r (1 ≤ count) →
+  short_or_none : {E : Type 0} (r : Result Frame E) (count : ℕ) (last new : State) (chunks : List Chunk) → count < choice.quantum →
+      Steps count choice.tid s last → ThreadMayTakeMemory last choice.tid → NextMayGrow last choice.tid → OnOk r (1 ≤ count) →
       IfOk r (λ f. f ≡ record { tid = choice.tid; count = count; end = ends.Preempt }) → OnOk r (new ≡ closed last) →
       IfOk r (λ f. Sliced s choice f new chunks)
-  short_or_none (Ok f) count last new chunks within steps takes some frame closes =
+  short_or_none (Ok f) count last new chunks within steps takes grows some frame closes =
       same_sliced s choice (record { tid = choice.tid; count = count; end = ends.Preempt }) f (closed last) new chunks frame closes
-      (short_sliced count last chunks some within steps takes)
-  short_or_none (Err x) count last new chunks within steps takes some frame closes = tt
+      (short_sliced count last chunks some within steps takes grows)
+  short_or_none (Err x) count last new chunks within steps takes grows some frame closes = tt
+
+  pub short_store : {E : Type 0} (r : Result Frame E) (count : ℕ) (last new : State) (chunks : List Chunk) → count < choice.quantum →
+      Steps count choice.tid s last → ThreadMayStore last choice.tid → OnOk r (1 ≤ count) →
+      IfOk r (λ f. f ≡ record { tid = choice.tid; count = count; end = ends.Preempt }) → OnOk r (new ≡ closed last) →
+      IfOk r (λ f. Sliced s choice f new chunks)
+  short_store r count last new chunks within steps stores some frame closes =
+      short_or_none r count last new chunks within steps (store_may_take last choice.tid stores) (inl stores) some frame closes
 
   -- the ECALL is taken back
   pub refused_call_sliced : {E : Type 0} (r : Result Frame E) (count : ℕ) (called back new : State) (chunks : List Chunk) →
-      RunsToCall choice.quantum choice.tid count s called → back ≡ before_call choice.tid called → OnOk r (1 ≤ count - 1) →
+      RunsToCall choice.quantum choice.tid count s called → CallMayGrow called choice.tid (thread_at called choice.tid) →
+      back ≡ before_call choice.tid called → OnOk r (1 ≤ count - 1) →
       IfOk r (λ f. f ≡ record { tid = choice.tid; count = count - 1; end = ends.Preempt }) → OnOk r (new ≡ closed back) →
       IfOk r (λ f. Sliced s choice f new chunks)
-  refused_call_sliced r count called back new chunks p e some frame closes =
+  refused_call_sliced r count called back new chunks p grows e some frame closes =
       let least = p.some in let within = p.within in
       let at : back ≡ p.before = e ∙ p.back in
       short_or_none r (count - 1) back new chunks (omega arith) (subst (λ (x : State). Steps (count - 1) choice.tid s x) (sym at) p.steps)
-      (subst (λ (x : State). ThreadMayTakeMemory x choice.tid) (sym at) (call_may_take p.before choice.tid called p.calls)) some frame closes
+      (subst (λ (x : State). ThreadMayTakeMemory x choice.tid) (sym at) (call_may_take p.before choice.tid called p.calls))
+      (subst (λ (x : State). NextMayGrow x choice.tid) (sym at) (inr (calls_to_grow choice.quantum choice.tid count s called p grows))) some frame closes
 
   pub fault_sliced : (count : ℕ) (kind : FaultKind) (last : State) (chunks : List Chunk) → RunsToFault choice.quantum choice.tid count kind s last →
       Sliced s choice (record { tid = choice.tid; count = count; end = ends.Fault kind }) (closed_at_end (guest_ends.Faulted kind) last) chunks

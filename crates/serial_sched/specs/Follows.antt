@@ -1,15 +1,16 @@
 -- Where the steps of a frame lead.
-use Rattle.std.specs.Prelude.{◌≡◌, ◌≢◌, ℕ, ◌-◌, ◌<◌, ◌≤◌, List, None}
+use Rattle.std.specs.Prelude.{◌≡◌, ℕ, ◌-◌, ◌<◌, ◌≤◌, ◌⊎◌, List, None}
 use Rattle.rrv_model.specs.declared.machine.FaultKind.{FaultKind}
-use Rattle.rrv_model.specs.declared.record.End.TheVariants.{Stuck}
+use Rattle.rrv_model.specs.declared.record.End.{End}
+use Rattle.rrv_model.specs.declared.record.End.TheVariants as frame_ends
 use Rattle.rrv_model.specs.declared.record.Frame.{Frame}
 use Rattle.rrv_model.specs.State.{State, thread_at}
-use Rattle.rrv_model.specs.Step.{CallsFrom, FaultsFrom}
+use Rattle.rrv_model.specs.Step.{CallsFrom, FaultsFrom, ThreadMayStore}
 use Rattle.rrv_model.specs.FrameStep.{Steps}
 use Rattle.rrv_model.specs.Output.{Chunk, put_out_by}
 use Rattle.guest_calls.specs.declared.run.RunEnd.{RunEnd}
 use Rattle.guest_calls.specs.declared.run.RunEnd.TheVariants.{Limit, Call, Fault, Memory}
-use Rattle.serial_sched.specs.Slices.{FindsNoMemory}
+use Rattle.guest_calls.specs.Growth.{CallMayGrow}
 
 -- the last of so many instructions is a call
 pub record ReachesCall (count tid : ℕ) (old new : State) : Type 0 where
@@ -31,18 +32,32 @@ Reaches Call count tid old new = ReachesCall count tid old new
 Reaches (Fault kind) count tid old new = ReachesFault count tid kind old new
 Reaches Memory count tid old new = ⊥
 
--- one of the thread's first so many instructions finds no memory
+-- one of the thread's first so many instructions stores, and finds no memory
 pub record MeetsNoMemory (old : State) (tid count : ℕ) : Type 0 where
   pub done : ℕ
   pub within : done < count
-  pub finds : FindsNoMemory old tid done
+  pub last : State
+  pub steps : Steps done tid old last
+  pub stores : ThreadMayStore last tid
+
+-- the last of so many instructions is a call that finds no memory
+pub record CallMeetsNoMemory (old : State) (tid count : ℕ) : Type 0 where
+  pub called : State
+  pub reaches : ReachesCall count tid old called
+  pub grows : CallMayGrow called tid (thread_at called tid)
+
+-- so on the way to such an end
+abbrev pub EndMeetsNoMemory : End → State → ℕ → ℕ → Type 0
+EndMeetsNoMemory frame_ends.Preempt old tid count = MeetsNoMemory old tid count
+EndMeetsNoMemory (frame_ends.Call r) old tid count = MeetsNoMemory old tid count ⊎ CallMeetsNoMemory old tid count
+EndMeetsNoMemory (frame_ends.Fault kind) old tid count = MeetsNoMemory old tid count
+EndMeetsNoMemory frame_ends.Stuck old tid count = ⊥
 
 -- the guest could go on, but one of the frame's instructions finds no memory
 pub record FrameMeetsNoMemory (old : State) (f : Frame) : Type 0 where
   pub runs : old.ended ≡ None
   pub limit : f.count ≤ 1_048_576
-  pub meets : MeetsNoMemory old f.tid f.count
-  pub instructions : f.end ≢ Stuck
+  pub meets : EndMeetsNoMemory f.end old f.tid f.count
 
 -- what a call behind so many instructions puts out
 abbrev pub CallPutsAt : State → ℕ → ℕ → ℕ → List Chunk → Type 0

@@ -5,18 +5,30 @@ use Rattle.rrv_model.specs.declared.record.End.{End}
 use Rattle.rrv_model.specs.declared.record.End.TheVariants.{Preempt, Call, Fault, Stuck}
 use Rattle.rrv_model.specs.declared.record.Frame.{Frame}
 use Rattle.rrv_model.specs.State.{State, thread_at, IsRunning}
-use Rattle.rrv_model.specs.Step.{ThreadMayTakeMemory}
+use Rattle.rrv_model.specs.Step.{CallsFrom, ThreadMayStore, ThreadMayTakeMemory}
 use Rattle.rrv_model.specs.FrameStep.{Steps, FrameStep}
 use Rattle.rrv_model.specs.Output.{Chunk, FramePuts}
 use Rattle.rrv_model.specs.RecordText.{HasFrameText}
 use Rattle.guest_calls.specs.declared.put.Put.{Put}
+use Rattle.guest_calls.specs.Growth.{CallMayGrow}
 use Rattle.guest_calls.specs.Guest.{HasRunning}
 
--- so many steps of the thread lead to where its next instruction may take memory
+-- the thread's next instruction makes a call that may take memory
+pub record CallsToGrow (s : State) (tid : ℕ) : Type 0 where
+  pub called : State
+  pub calls : CallsFrom s tid called
+  pub grows : CallMayGrow called tid (thread_at called tid)
+
+-- it stores, or makes such a call
+abbrev pub NextMayGrow : State → ℕ → Type 0
+NextMayGrow s tid = ThreadMayStore s tid ⊎ CallsToGrow s tid
+
+-- so many steps of the thread lead to where its next instruction is a STORE, SC, AMO or ECALL, and may take memory
 pub record FindsNoMemory (old : State) (tid count : ℕ) : Type 0 where
   pub last : State
   pub steps : Steps count tid old last
   pub takes : ThreadMayTakeMemory last tid
+  pub grows : NextMayGrow last tid
 
 -- a thread is preempted after the whole quantum, or before it where its next instruction found no memory
 abbrev pub IsWhole : State → ℕ → ℕ → ℕ → Type 0

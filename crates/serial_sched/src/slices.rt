@@ -5,9 +5,10 @@ ghost use Rattle.rrv_model.specs.State.{thread_at, IsRunning};
 ghost use Rattle.rrv_model.specs.Step.{ThreadMayTakeMemory};
 ghost use Rattle.rrv_model.specs.FrameStep.{FrameStep, closed};
 ghost use Rattle.rrv_model.specs.RecordText.{HasFrameText};
+ghost use Rattle.guest_pages.specs.Space.{snapshots_of};
 ghost use Rattle.guest_calls.specs.Guest.{state_of, counted, chunks_of, HasRunning};
 ghost use Rattle.serial_sched.specs.Asking.{FrameAsks};
-ghost use Rattle.serial_sched.specs.Slices.{CanRun, CallPuts, FitsChoice, IsLive, IsQuantum, KeepsPut, Sliced};
+ghost use Rattle.serial_sched.specs.Slices.{CanRun, CallPuts, FitsChoice, IsLive, IsQuantum, KeepsPut, NextMayGrow, Sliced};
 
 use crate::fault::SliceFault;
 use guest_calls::{Guest, Outside, RunEnd};
@@ -31,6 +32,7 @@ pub fn slice<O: Outside>(
     ensures puts { IfOk result (λ f. CallPuts f.end (state_of guest.old) f (chunks_of guest.new.put)) }
     ensures keeps { IfOk result (λ f. KeepsPut f.end guest.old.put guest.new.put) }
     ensures ran { IfOk result (λ f. guest.new.ran ≡ counted guest.old.ran f.count) }
+    ensures snapshots { snapshots_of guest.new.space ≡ snapshots_of guest.old.space }
     ensures unasked { IfOk result (λ f. ¬ FrameAsks f.end (state_of guest.old) f.tid f.count → outside.new ≡ outside.old) }
     ensures ended { IsErrOf result SliceFault.Ended ↔ IsSome (state_of guest.old).ended }
     ensures stuck { (state_of guest.old).ended ≡ None → ¬ HasRunning (state_of guest.old)
@@ -40,6 +42,7 @@ pub fn slice<O: Outside>(
         ↔ (IsLive (state_of guest.old) × IsQuantum choice.quantum
         × ¬ IsRunning (thread_at (state_of guest.old) choice.tid)) }
     ensures memory { IsErrOf result SliceFault.Memory → ThreadMayTakeMemory (state_of guest.old) choice.tid }
+    ensures grows { IsErrOf result SliceFault.Memory → NextMayGrow (state_of guest.old) choice.tid }
     ensures refused { OnErr result (state_of guest.new ≡ state_of guest.old) }
     ensures refused_ran { OnErr result (guest.new.ran ≡ guest.old.ran) }
     ensures refused_put { OnErr result (guest.new.put ≡ guest.old.put) }
@@ -67,6 +70,7 @@ fn get_stuck(guest: &mut Guest) -> Frame
     ensures stuck { result ≡ record { tid = 0; count = 0; end = End.Stuck } }
     ensures frame { FrameStep (state_of guest.old) result (state_of guest.new) }
     ensures ran { guest.new.ran ≡ counted guest.old.ran 0 }
+    ensures snapshots { snapshots_of guest.new.space ≡ snapshots_of guest.old.space }
     ensures put { guest.new.put ≡ guest.old.put }
 {
     let _ran = guest.ran();
@@ -89,8 +93,10 @@ fn run_slice<O: Outside>(
     ensures sliced { IfOk result (λ f. Sliced (state_of guest.old) choice f (state_of guest.new) (chunks_of guest.new.put)) }
     ensures keeps { IfOk result (λ f. KeepsPut f.end guest.old.put guest.new.put) }
     ensures ran { IfOk result (λ f. guest.new.ran ≡ counted guest.old.ran f.count) }
+    ensures snapshots { snapshots_of guest.new.space ≡ snapshots_of guest.old.space }
     ensures unasked { IfOk result (λ f. ¬ FrameAsks f.end (state_of guest.old) f.tid f.count → outside.new ≡ outside.old) }
     ensures memory { OnErr result (ThreadMayTakeMemory (state_of guest.old) choice.tid) }
+    ensures grows { OnErr result (NextMayGrow (state_of guest.old) choice.tid) }
     ensures refused { OnErr result (state_of guest.new ≡ state_of guest.old) }
     ensures refused_ran { OnErr result (guest.new.ran ≡ guest.old.ran) }
     ensures refused_put { OnErr result (guest.new.put ≡ guest.old.put) }
@@ -128,6 +134,7 @@ fn stop_short(guest: &mut Guest, tid: u32, count: u32) -> Result<Frame, Memory>
     ensures none { OnErr result (count ≡ 0) }
     ensures refused { OnErr result (state_of guest.new ≡ state_of guest.old) }
     ensures ran { guest.new.ran ≡ guest.old.ran }
+    ensures snapshots { snapshots_of guest.new.space ≡ snapshots_of guest.old.space }
     ensures put { guest.new.put ≡ guest.old.put }
 {
     if count == 0 {
@@ -141,6 +148,7 @@ fn closed_frame(guest: &mut Guest, tid: u32, count: u32, end: End) -> Frame
     ensures frame { result ≡ record { tid = tid; count = count; end = end } }
     ensures closes { state_of guest.new ≡ closed (state_of guest.old) }
     ensures ran { guest.new.ran ≡ guest.old.ran }
+    ensures snapshots { snapshots_of guest.new.space ≡ snapshots_of guest.old.space }
     ensures put { guest.new.put ≡ guest.old.put }
 {
     guest.close_slice(None);

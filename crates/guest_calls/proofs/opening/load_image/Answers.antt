@@ -36,10 +36,11 @@ loop-load-preserved c =
     let n = length c.loop-load.yielded in
     let t = YieldsList-turn (YieldsList-from_rev_slice (loads file) cc) c.loop-load.yielded _ c.loop-load.yielded_by _ _ c.in-Some.load c.in-Some.is c.next.ensures.steps in
     let next = is_next file n load c.elf-file.ensures.accepted t.0 t.1 in
-    let filled = c.fill_load.ensures.memory ∙ ap (λ (f : List ℕ). stored load.address (file_bytes f load) (memory_of c.cover_load.new.space)) c.elf-file.ensures.value in
-    (walk_goes_on file n _ load (memory_of c.loop-load.space) (memory_of c.cover_load.new.space) (memory_of c.fill_load.new.space) next
-    (length_push c.loop-load.yielded c.in-Some.load) c.loop-load.invariant.0 c.in_ok-cover_load.ensures.memory filled,
-    c.fill_load.ensures.snapshots ∙ c.cover_load.ensures.snapshots ∙ c.loop-load.invariant.1)
+    let filled = c.fill_load.ensures.memory ∙ ap (λ (f : List ℕ). stored load.address (file_bytes f load) (memory_of c.cover_load.new.space)) c.elf-file.ensures.value in (
+      walk_goes_on file n _ load (memory_of c.loop-load.space) (memory_of c.cover_load.new.space) (memory_of c.fill_load.new.space) next
+          (length_push c.loop-load.yielded c.in-Some.load) c.loop-load.invariant.0 c.in_ok-cover_load.ensures.memory filled,
+      c.fill_load.ensures.snapshots ∙ c.cover_load.ensures.snapshots ∙ c.loop-load.invariant.1,
+    )
 
 pub returns : goal.returns
 returns c =

@@ -2,7 +2,7 @@ use Rattle.std.proofs.Common.{arith, sym, ◌∙◌}
 use Rattle.std.proofs.lemmas.Result.{on_ok_weaker}
 use Rattle.rrv_model.specs.declared.record.End.TheVariants as ends
 use Rattle.guest_calls.specs.Guest.{state_of, chunks_of}
-use Rattle.serial_sched.proofs.FollowLaws.{frame_followed, frame_leads, frame_puts, not_ended, on_ok}
+use Rattle.serial_sched.proofs.FollowLaws.{frame_followed, frame_leads, frame_meets, frame_puts, not_ended, on_ok}
 use Rattle.serial_sched.proofs.following.follow.Goals as goal
 
 pub returns-in-Preempt-clause-follows : goal.returns-in-Preempt-clause-follows
@@ -56,3 +56,21 @@ returns-in-Stuck-clause-puts c =
 pub returns-in-Stuck-clause-nowhere : goal.returns-in-Stuck-clause-nowhere
 returns-in-Stuck-clause-nowhere c =
     λ e new p. c.follow_stuck.ensures.nowhere e new (frame_leads (state_of c.args.guest.now) new c.args.frame.now ends.Stuck c.in-Stuck.is p)
+
+pub returns-in-Preempt-clause-memory : goal.returns-in-Preempt-clause-memory
+returns-in-Preempt-clause-memory c =
+    λ e. frame_meets (state_of c.args.guest.now) c.args.frame.now ends.Preempt c.in-Preempt.is
+    (not_ended c.ended.result (state_of c.args.guest.now).ended c.ended.ensures (sym c.if-is_some.false ∙ c.is_some.ensures)) (omega arith)
+    (c.follow_preempt.ensures.memory e)
+
+pub returns-in-Call-clause-memory : goal.returns-in-Call-clause-memory
+returns-in-Call-clause-memory c =
+    λ e. frame_meets (state_of c.args.guest.now) c.args.frame.now _ c.in-Call.is
+    (not_ended c.ended.result (state_of c.args.guest.now).ended c.ended.ensures (sym c.if-is_some.false ∙ c.is_some.ensures)) (omega arith)
+    (c.follow_call.ensures.memory e)
+
+pub returns-in-Fault-clause-memory : goal.returns-in-Fault-clause-memory
+returns-in-Fault-clause-memory c =
+    λ e. frame_meets (state_of c.args.guest.now) c.args.frame.now _ c.in-Fault.is
+    (not_ended c.ended.result (state_of c.args.guest.now).ended c.ended.ensures (sym c.if-is_some.false ∙ c.is_some.ensures)) (omega arith)
+    (c.follow_fault.ensures.memory e)

@@ -1,4 +1,4 @@
-use Rattle.std.proofs.Common.{refl, sym, ◌∙◌, ap, subst}
+use Rattle.std.proofs.Common.{inl, inr, refl, sym, ◌∙◌, ap, subst}
 use Rattle.std.proofs.lemmas.Bool.{false≢true}
 use Rattle.std.proofs.lemmas.Result.{err_from_is_err_and}
 use Rattle.rrv_model.specs.State.{State}
@@ -25,10 +25,16 @@ returns-in_err-run_whole-clause-nowhere c =
     λ e new p. no_call (state_of c.args.guest.now) c.args.tid c.args.count c.args.told.now
     (c.in_err-run_whole.ensures.nowhere (again c.from_residual.result r.0 c.in_err-run_whole.field-0.0 faults.GoesNowhere r.1 r.2 e)) new p
 
+pub returns-in_err-run_whole-clause-memory : goal.returns-in_err-run_whole-clause-memory
+returns-in_err-run_whole-clause-memory c =
+    let r = err_from_is_err_and c.from_residual.result c.from_residual.ensures.1 in
+    λ e. inl (c.in_err-run_whole.ensures.memory (again c.from_residual.result r.0 c.in_err-run_whole.field-0.0 faults.Memory r.1 r.2 e))
+
 pub returns-in_err-found-in-Call-clause-memory : goal.returns-in_err-found-in-Call-clause-memory
 returns-in_err-found-in-Call-clause-memory c =
     λ e. let p = rw c.in-Call.is at c.in_ok-run_whole.ensures.runs in
-    call_meets c.args.count c.args.tid c.args.count (state_of c.args.guest.now) (state_of c.run_whole.new.guest) p
+    inr (call_meets c.args.count c.args.tid c.args.count (state_of c.args.guest.now) (state_of c.run_whole.new.guest) p
+    c.in_err-found-in-Call.ensures.memory)
 
 pub returns-then-not-is_same_call-clause-nowhere : goal.returns-then-not-is_same_call-clause-nowhere
 returns-then-not-is_same_call-clause-nowhere c =

@@ -11,7 +11,7 @@ returns-then-not-is_running-clause-nowhere c =
 pub returns-in-Memory-clause-memory : goal.returns-in-Memory-clause-memory
 returns-in-Memory-clause-memory c =
     λ e. let p = rw c.in-Memory.is at c.run_thread-run.ensures.runs in
-    record { done = c.run_thread-run.result.count; within = p.within; finds = record { last = state_of c.run_thread-run.new.self; steps = p.steps; takes = p.takes } }
+    record { done = c.run_thread-run.result.count; within = p.within; last = state_of c.run_thread-run.new.self; steps = p.steps; stores = p.takes }
 
 pub returns-then-run-count-clause-nowhere : goal.returns-then-run-count-clause-nowhere
 returns-then-run-count-clause-nowhere c =

@@ -6,7 +6,7 @@ use Rattle.rrv_model.specs.FrameStep.{closed, closed_at_end}
 use Rattle.rrv_model.specs.Output.{Chunk}
 use Rattle.guest_calls.specs.Guest.{GuestValue, state_of, chunks_of}
 use Rattle.guest_calls.specs.Runs.{before_call}
-use Rattle.serial_sched.proofs.SliceLaws.{call_running, call_runs_on, frame_asks, limit_sliced, call_sliced, fault_sliced, short_or_none, refused_call_sliced, refused_call_took, same_sliced}
+use Rattle.serial_sched.proofs.SliceLaws.{call_running, call_runs_on, frame_asks, limit_sliced, call_sliced, fault_sliced, short_store, store_took, store_grows, refused_call_sliced, refused_call_took, refused_call_grows, same_sliced}
 use Rattle.serial_sched.proofs.slices.run_slice.Goals as goal
 
 pub call-requires-clause-running : goal.call-requires-clause-running
@@ -56,7 +56,7 @@ pub returns-in-Err-clause-sliced : goal.returns-in-Err-clause-sliced
 returns-in-Err-clause-sliced g c =
     let p = rw c.in-Call.is at c.run_thread-run.ensures.runs in
     refused_call_sliced (state_of c.args.guest.now) c.args.choice c.requires c.stop_short.result c.run_thread-run.result.count (state_of c.run_thread-run.new.self)
-    (state_of c.take_back.new.self) (state_of c.stop_short.new.guest) (chunks_of c.stop_short.new.guest.put) p
+    (state_of c.take_back.new.self) (state_of c.stop_short.new.guest) (chunks_of c.stop_short.new.guest.put) p c.in-Err.ensures.memory
     (c.take_back.ensures.state ∙ ap (λ (v : GuestValue). before_call c.args.choice.tid (state_of v)) c.in-Err.ensures.refused)
     c.stop_short.ensures.some c.stop_short.ensures.frame c.stop_short.ensures.closes
 
@@ -64,9 +64,13 @@ pub returns-in-Err-clause-memory : goal.returns-in-Err-clause-memory
 returns-in-Err-clause-memory g c =
     let p = rw c.in-Call.is at c.run_thread-run.ensures.runs in
     refused_call_took c.stop_short.result c.args.choice.quantum c.args.choice.tid c.run_thread-run.result.count (state_of c.args.guest.now)
-    (state_of c.run_thread-run.new.self) (state_of c.take_back.new.self) p
-    (c.take_back.ensures.state ∙ ap (λ (v : GuestValue). before_call c.args.choice.tid (state_of v)) c.in-Err.ensures.refused)
-    c.stop_short.ensures.none
+    (state_of c.run_thread-run.new.self) p c.stop_short.ensures.none
+
+pub returns-in-Err-clause-grows : goal.returns-in-Err-clause-grows
+returns-in-Err-clause-grows g c =
+    let p = rw c.in-Call.is at c.run_thread-run.ensures.runs in
+    refused_call_grows c.stop_short.result c.args.choice.quantum c.args.choice.tid c.run_thread-run.result.count (state_of c.args.guest.now)
+    (state_of c.run_thread-run.new.self) p c.in-Err.ensures.memory c.stop_short.ensures.none
 
 pub returns-in-Fault-clause-sliced : goal.returns-in-Fault-clause-sliced
 returns-in-Fault-clause-sliced g c =
@@ -81,6 +85,18 @@ returns-in-Fault-clause-sliced g c =
 pub returns-in-Memory-clause-sliced : goal.returns-in-Memory-clause-sliced
 returns-in-Memory-clause-sliced g c =
     let p = rw c.in-Memory.is at c.run_thread-run.ensures.runs in
-    short_or_none (state_of c.args.guest.now) c.args.choice c.requires c.stop_short-in-Memory.result c.run_thread-run.result.count (state_of c.run_thread-run.new.self)
+    short_store (state_of c.args.guest.now) c.args.choice c.requires c.stop_short-in-Memory.result c.run_thread-run.result.count (state_of c.run_thread-run.new.self)
     (state_of c.stop_short-in-Memory.new.guest) (chunks_of c.stop_short-in-Memory.new.guest.put) p.within p.steps p.takes
     c.stop_short-in-Memory.ensures.some c.stop_short-in-Memory.ensures.frame c.stop_short-in-Memory.ensures.closes
+
+pub returns-in-Memory-clause-memory : goal.returns-in-Memory-clause-memory
+returns-in-Memory-clause-memory g c =
+    let p = rw c.in-Memory.is at c.run_thread-run.ensures.runs in
+    store_took c.stop_short-in-Memory.result c.args.choice.tid c.run_thread-run.result.count (state_of c.args.guest.now) (state_of c.run_thread-run.new.self)
+    p.steps p.takes c.stop_short-in-Memory.ensures.none
+
+pub returns-in-Memory-clause-grows : goal.returns-in-Memory-clause-grows
+returns-in-Memory-clause-grows g c =
+    let p = rw c.in-Memory.is at c.run_thread-run.ensures.runs in
+    store_grows c.stop_short-in-Memory.result c.args.choice.tid c.run_thread-run.result.count (state_of c.args.guest.now) (state_of c.run_thread-run.new.self)
+    p.steps p.takes c.stop_short-in-Memory.ensures.none
