@@ -4,5 +4,6 @@ pub mod Runs
 pub mod HartRuns
 pub mod Carries
 pub mod Growth
+pub mod Snapshots
 pub mod Loading
 pub mod Buffers

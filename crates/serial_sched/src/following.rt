@@ -4,7 +4,7 @@ ghost use Rattle.std.specs.Prelude.{◌≡◌, ◌≤◌, ◌⊎◌, None, IfOk,
 ghost use Rattle.rrv_model.specs.State.{State};
 ghost use Rattle.rrv_model.specs.FrameStep.{FrameStep, FrameStepBy, Steps, Preempts, EndsInCall, EndsInFault, IsStuck};
 ghost use Rattle.guest_calls.specs.declared.run.RunEnd.{RunEnd};
-ghost use Rattle.guest_pages.specs.Space.{snapshots_of};
+ghost use Rattle.guest_calls.specs.Snapshots.{guest_snapshots};
 ghost use Rattle.guest_calls.specs.Guest.{state_of, counted, chunks_of};
 ghost use Rattle.guest_calls.specs.Runs.{RunsTo};
 ghost use Rattle.serial_sched.specs.Slices.{CallPuts, KeepsPut};
@@ -26,7 +26,7 @@ pub fn follow(guest: &mut Guest, alloc: Global, frame: &Frame) -> Result<(), Fol
     ensures puts { OnOk result (CallPuts frame.now.end (state_of guest.old) frame.now (chunks_of guest.new.put)) }
     ensures keeps { OnOk result (KeepsPut frame.now.end guest.old.put guest.new.put) }
     ensures ran { OnOk result (guest.new.ran ≡ counted guest.old.ran frame.now.count) }
-    ensures snapshots { snapshots_of guest.new.space ≡ snapshots_of guest.old.space }
+    ensures snapshots { guest_snapshots guest.new ≡ guest_snapshots guest.old }
     ensures nowhere { IsErrOf result FollowFault.GoesNowhere
         → (new : State) → FrameStep (state_of guest.old) frame.now new → ⊥ }
     ensures memory { IsErrOf result FollowFault.Memory → FrameMeetsNoMemory (state_of guest.old) frame.now }
@@ -49,7 +49,7 @@ pub fn follow(guest: &mut Guest, alloc: Global, frame: &Frame) -> Result<(), Fol
 pub fn steps(guest: &mut Guest, tid: u32, count: u32) -> Result<(), FollowFault>
     ensures follows { OnOk result (Steps count tid (state_of guest.old) (state_of guest.new)) }
     ensures ran { OnOk result (guest.new.ran ≡ counted guest.old.ran count) }
-    ensures snapshots { snapshots_of guest.new.space ≡ snapshots_of guest.old.space }
+    ensures snapshots { guest_snapshots guest.new ≡ guest_snapshots guest.old }
     ensures put { OnOk result (guest.new.put ≡ guest.old.put) }
     ensures nowhere { IsErrOf result FollowFault.GoesNowhere → (new : State) → Steps count tid (state_of guest.old) new → ⊥ }
     ensures memory { IsErrOf result FollowFault.Memory → MeetsNoMemory (state_of guest.old) tid count }
@@ -63,7 +63,7 @@ pub fn steps(guest: &mut Guest, tid: u32, count: u32) -> Result<(), FollowFault>
 fn follow_preempt(guest: &mut Guest, tid: u32, count: u32) -> Result<(), FollowFault>
     ensures follows { OnOk result (Preempts (state_of guest.old) tid count (state_of guest.new)) }
     ensures ran { OnOk result (guest.new.ran ≡ counted guest.old.ran count) }
-    ensures snapshots { snapshots_of guest.new.space ≡ snapshots_of guest.old.space }
+    ensures snapshots { guest_snapshots guest.new ≡ guest_snapshots guest.old }
     ensures put { OnOk result (guest.new.put ≡ guest.old.put) }
     ensures nowhere { IsErrOf result FollowFault.GoesNowhere → (new : State) → Preempts (state_of guest.old) tid count new → ⊥ }
     ensures memory { IsErrOf result FollowFault.Memory → MeetsNoMemory (state_of guest.old) tid count }
@@ -87,7 +87,7 @@ fn follow_call(
     ensures follows { OnOk result (EndsInCall (state_of guest.old) tid count told.now (state_of guest.new)) }
     ensures puts { OnOk result (CallPutsAt (state_of guest.old) tid count told.now.result (chunks_of guest.new.put)) }
     ensures ran { OnOk result (guest.new.ran ≡ counted guest.old.ran count) }
-    ensures snapshots { snapshots_of guest.new.space ≡ snapshots_of guest.old.space }
+    ensures snapshots { guest_snapshots guest.new ≡ guest_snapshots guest.old }
     ensures nowhere { IsErrOf result FollowFault.GoesNowhere
         → (new : State) → EndsInCall (state_of guest.old) tid count told.now new → ⊥ }
     ensures memory { IsErrOf result FollowFault.Memory
@@ -110,7 +110,7 @@ fn follow_call(
 fn follow_fault(guest: &mut Guest, tid: u32, count: u32, kind: FaultKind) -> Result<(), FollowFault>
     ensures follows { OnOk result (EndsInFault (state_of guest.old) tid count kind (state_of guest.new)) }
     ensures ran { OnOk result (guest.new.ran ≡ counted guest.old.ran count) }
-    ensures snapshots { snapshots_of guest.new.space ≡ snapshots_of guest.old.space }
+    ensures snapshots { guest_snapshots guest.new ≡ guest_snapshots guest.old }
     ensures put { OnOk result (guest.new.put ≡ guest.old.put) }
     ensures nowhere { IsErrOf result FollowFault.GoesNowhere
         → (new : State) → EndsInFault (state_of guest.old) tid count kind new → ⊥ }
@@ -131,7 +131,7 @@ fn follow_fault(guest: &mut Guest, tid: u32, count: u32, kind: FaultKind) -> Res
 fn follow_stuck(guest: &mut Guest, tid: u32, count: u32) -> Result<(), FollowFault>
     ensures follows { OnOk result (IsStuck (state_of guest.old) tid count (state_of guest.new)) }
     ensures ran { OnOk result (guest.new.ran ≡ counted guest.old.ran count) }
-    ensures snapshots { snapshots_of guest.new.space ≡ snapshots_of guest.old.space }
+    ensures snapshots { guest_snapshots guest.new ≡ guest_snapshots guest.old }
     ensures put { OnOk result (guest.new.put ≡ guest.old.put) }
     ensures nowhere { IsErrOf result FollowFault.GoesNowhere
         → (new : State) → IsStuck (state_of guest.old) tid count new → ⊥ }
@@ -149,7 +149,7 @@ fn follow_stuck(guest: &mut Guest, tid: u32, count: u32) -> Result<(), FollowFau
 fn run_whole(guest: &mut Guest, tid: u32, count: u32) -> Result<RunEnd, FollowFault>
     ensures runs { IfOk result (λ end. RunsTo end count tid count (state_of guest.old) (state_of guest.new)) }
     ensures ran { OnOk result (guest.new.ran ≡ counted guest.old.ran count) }
-    ensures snapshots { snapshots_of guest.new.space ≡ snapshots_of guest.old.space }
+    ensures snapshots { guest_snapshots guest.new ≡ guest_snapshots guest.old }
     ensures put { OnOk result (guest.new.put ≡ guest.old.put) }
     ensures nowhere { IsErrOf result FollowFault.GoesNowhere
         → (end : RunEnd) (new : State) → Reaches end count tid (state_of guest.old) new → ⊥ }

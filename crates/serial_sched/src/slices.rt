@@ -5,7 +5,7 @@ ghost use Rattle.rrv_model.specs.State.{thread_at, IsRunning};
 ghost use Rattle.rrv_model.specs.Step.{ThreadMayTakeMemory};
 ghost use Rattle.rrv_model.specs.FrameStep.{FrameStep, closed};
 ghost use Rattle.rrv_model.specs.RecordText.{HasFrameText};
-ghost use Rattle.guest_pages.specs.Space.{snapshots_of};
+ghost use Rattle.guest_calls.specs.Snapshots.{guest_snapshots};
 ghost use Rattle.guest_calls.specs.Guest.{state_of, counted, chunks_of, HasRunning};
 ghost use Rattle.serial_sched.specs.Asking.{FrameAsks};
 ghost use Rattle.serial_sched.specs.Slices.{CanRun, CallPuts, FitsChoice, IsLive, IsQuantum, KeepsPut, NextMayGrow, Sliced};
@@ -32,7 +32,7 @@ pub fn slice<O: Outside>(
     ensures puts { IfOk result (λ f. CallPuts f.end (state_of guest.old) f (chunks_of guest.new.put)) }
     ensures keeps { IfOk result (λ f. KeepsPut f.end guest.old.put guest.new.put) }
     ensures ran { IfOk result (λ f. guest.new.ran ≡ counted guest.old.ran f.count) }
-    ensures snapshots { snapshots_of guest.new.space ≡ snapshots_of guest.old.space }
+    ensures snapshots { guest_snapshots guest.new ≡ guest_snapshots guest.old }
     ensures unasked { IfOk result (λ f. ¬ FrameAsks f.end (state_of guest.old) f.tid f.count → outside.new ≡ outside.old) }
     ensures ended { IsErrOf result SliceFault.Ended ↔ IsSome (state_of guest.old).ended }
     ensures stuck { (state_of guest.old).ended ≡ None → ¬ HasRunning (state_of guest.old)
@@ -70,7 +70,7 @@ fn get_stuck(guest: &mut Guest) -> Frame
     ensures stuck { result ≡ record { tid = 0; count = 0; end = End.Stuck } }
     ensures frame { FrameStep (state_of guest.old) result (state_of guest.new) }
     ensures ran { guest.new.ran ≡ counted guest.old.ran 0 }
-    ensures snapshots { snapshots_of guest.new.space ≡ snapshots_of guest.old.space }
+    ensures snapshots { guest_snapshots guest.new ≡ guest_snapshots guest.old }
     ensures put { guest.new.put ≡ guest.old.put }
 {
     let _ran = guest.ran();
@@ -93,7 +93,7 @@ fn run_slice<O: Outside>(
     ensures sliced { IfOk result (λ f. Sliced (state_of guest.old) choice f (state_of guest.new) (chunks_of guest.new.put)) }
     ensures keeps { IfOk result (λ f. KeepsPut f.end guest.old.put guest.new.put) }
     ensures ran { IfOk result (λ f. guest.new.ran ≡ counted guest.old.ran f.count) }
-    ensures snapshots { snapshots_of guest.new.space ≡ snapshots_of guest.old.space }
+    ensures snapshots { guest_snapshots guest.new ≡ guest_snapshots guest.old }
     ensures unasked { IfOk result (λ f. ¬ FrameAsks f.end (state_of guest.old) f.tid f.count → outside.new ≡ outside.old) }
     ensures memory { OnErr result (ThreadMayTakeMemory (state_of guest.old) choice.tid) }
     ensures grows { OnErr result (NextMayGrow (state_of guest.old) choice.tid) }
@@ -134,7 +134,7 @@ fn stop_short(guest: &mut Guest, tid: u32, count: u32) -> Result<Frame, Memory>
     ensures none { OnErr result (count ≡ 0) }
     ensures refused { OnErr result (state_of guest.new ≡ state_of guest.old) }
     ensures ran { guest.new.ran ≡ guest.old.ran }
-    ensures snapshots { snapshots_of guest.new.space ≡ snapshots_of guest.old.space }
+    ensures snapshots { guest_snapshots guest.new ≡ guest_snapshots guest.old }
     ensures put { guest.new.put ≡ guest.old.put }
 {
     if count == 0 {
@@ -148,7 +148,7 @@ fn closed_frame(guest: &mut Guest, tid: u32, count: u32, end: End) -> Frame
     ensures frame { result ≡ record { tid = tid; count = count; end = end } }
     ensures closes { state_of guest.new ≡ closed (state_of guest.old) }
     ensures ran { guest.new.ran ≡ guest.old.ran }
-    ensures snapshots { snapshots_of guest.new.space ≡ snapshots_of guest.old.space }
+    ensures snapshots { guest_snapshots guest.new ≡ guest_snapshots guest.old }
     ensures put { guest.new.put ≡ guest.old.put }
 {
     guest.close_slice(None);
