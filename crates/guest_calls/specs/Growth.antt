@@ -3,10 +3,10 @@ use Rattle.std.specs.Prelude.{◌≡◌, ℕ, ◌-◌, ◌*◌, ◌^◌, ◌<◌
 use Rattle.rrv_model.specs.declared.machine.Thread.{Thread}
 use Rattle.rrv_model.specs.Memory.{readable, pages_for}
 use Rattle.rrv_model.specs.State.{State, register}
-use Rattle.rrv_model.specs.CallRows.{Row, Answers, NoResult, AsksInput, AsksRandom, AsksTime, Call, Read, Write, Writev, Exit, ExitGroup, SetTidAddress, Futex, SchedYield, Getpid, Gettid, Brk, Munmap, Clone, Mmap, Mprotect, Getrandom, ClockGettime, Other, argument, call_of, clears, is_output, row_of, write_row, brk_row, mmap_row}
+use Rattle.rrv_model.specs.CallRows.{Row, Answers, NoResult, AsksInput, AsksRandom, AsksTime, Call, Read, Write, Writev, Exit, ExitGroup, SetTidAddress, Futex, SchedYield, Getpid, Gettid, Brk, Munmap, Clone, Mmap, Mprotect, Getrandom, ClockGettime, Other, argument, call_of, clears, is_output, read_row, write_row, futex_row, brk_row, clone_row, mmap_row, getrandom_row, clock_gettime_row}
 use Rattle.rrv_model.specs.Calls.{carried_out}
 
--- the call answers no error number (Linux man pages, intro(2): those are -4095 to -1)
+-- the call answers no negated error number, which is -4095 to -1 (Linux man pages, intro(2) and errno(3))
 abbrev pub Succeeds : Row → Type 0
 Succeeds (Answers result written change) = result < 2 ^ 32 - 4095
 Succeeds (NoResult written change) = Unit {0}
@@ -41,23 +41,23 @@ pub record RaisesBreak (s : State) (t : Thread) : Type 0 where
 
 -- the call puts bytes out, clears a word or maps pages; the others take no memory
 abbrev pub MayGrow : Call → ℕ → State → Thread → Type 0
-MayGrow Read tid s t = Succeeds (row_of Read tid s t)
+MayGrow Read tid s t = Succeeds (read_row s t)
 MayGrow Write tid s t = PutsBytes s t
 MayGrow Writev tid s t = ReadsBuffers s t
 MayGrow Exit tid s t = IsTrue (clears s t)
 MayGrow ExitGroup tid s t = ⊥
 MayGrow SetTidAddress tid s t = ⊥
-MayGrow Futex tid s t = Succeeds (row_of Futex tid s t)
+MayGrow Futex tid s t = Succeeds (futex_row tid s t)
 MayGrow SchedYield tid s t = ⊥
 MayGrow Getpid tid s t = ⊥
 MayGrow Gettid tid s t = ⊥
 MayGrow Brk tid s t = RaisesBreak s t
 MayGrow Munmap tid s t = ⊥
-MayGrow Clone tid s t = Succeeds (row_of Clone tid s t)
+MayGrow Clone tid s t = Succeeds (clone_row s t)
 MayGrow Mmap tid s t = Succeeds (mmap_row s t)
 MayGrow Mprotect tid s t = ⊥
-MayGrow Getrandom tid s t = Succeeds (row_of Getrandom tid s t)
-MayGrow ClockGettime tid s t = Succeeds (row_of ClockGettime tid s t)
+MayGrow Getrandom tid s t = Succeeds (getrandom_row s t)
+MayGrow ClockGettime tid s t = Succeeds (clock_gettime_row s t)
 MayGrow Other tid s t = ⊥
 
 -- the call that the thread makes may take memory

@@ -1,5 +1,5 @@
 -- Where a frame leads nowhere.
-use Rattle.std.proofs.Common.{◌≡◌, ◌≢◌, ℕ, ◌-◌, ◌≤◌, List, false, is_some, Option, Some, None, Result, Ok, Err, OnOk, IsErrOf, refl, sym, ◌∙◌, ap, subst, arith}
+use Rattle.std.proofs.Common.{◌≡◌, ◌≢◌, ℕ, ◌≤◌, List, false, is_some, Option, Some, None, Result, Ok, Err, OnOk, IsErrOf, refl, sym, ◌∙◌, ap, subst}
 use Rattle.std.proofs.lemmas.Bool.{false≢true}
 use Rattle.rrv_model.specs.declared.machine.FaultKind.{FaultKind}
 use Rattle.rrv_model.specs.declared.machine.GuestEnd.{GuestEnd}
