@@ -96,6 +96,12 @@ one_of_all test m a (suc count) k h l = elim (cases_lt k count) [
 ]
 
 -- where one cell fails, all do
+-- only among some cells can one fail
+pub some_cell : (test : Option Cell → Bool) (m : Memory) (a count : ℕ) → all_cells test m a count ≡ false → 1 ≤ count
+unfolding all_cells
+some_cell test m a zero fails = absurd (false≢true (sym fails))
+some_cell test m a (suc count) fails = omega arith
+
 pub one_fails : (test : Option Cell → Bool) (m : Memory) (a count k : ℕ) → k < count → test (m (a + k)) ≡ false → all_cells test m a count ≡ false
 one_fails test m a count k l h = by_test (all_cells test m a count) refl where
   by_test : (b : Bool) → all_cells test m a count ≡ b → b ≡ false

@@ -1,5 +1,5 @@
 -- The pages on which two memories differ.
-use Rattle.std.proofs.Common.{◌≡◌, ◌≢◌, ◌⊎◌, ℕ, zero, suc, ◌+◌, ◌*◌, ◌/◌, ◌%◌, ◌<◌, List, [], ◌∷◌, ◌++◌, length, Option, Some, None, IfSome, is_some, ap, ◌∙◌, sym, subst, arith, slice_index, Contains, inl, inr, length-append}
+use Rattle.std.proofs.Common.{◌≡◌, ◌≢◌, ◌⊎◌, ℕ, zero, suc, ◌+◌, ◌*◌, ◌/◌, ◌%◌, ◌<◌, List, [], ◌∷◌, ◌++◌, length, Option, Some, None, Result, Ok, Err, OnErr, IfSome, is_some, ap, ◌∙◌, sym, subst, arith, slice_index, Contains, inl, inr, length-append}
 use Rattle.std.proofs.lemmas.Bool.{false≢true, cases_lt}
 use Rattle.std.proofs.lemmas.Bool.Decides.{eqb_tells}
 use Rattle.std.proofs.lemmas.List.{get_or_append_left}
@@ -15,6 +15,11 @@ use Rattle.guest_pages.specs.Mapping.{SamePage, SameAt, ListsOthers}
 use Rattle.guest_pages.specs.Snapshots.{SameOn, DifferOn, AreChanges}
 use Rattle.guest_pages.proofs.Facts.{none_high}
 use Rattle.guest_pages.proofs.Same.{in_page, same_cell, permissions_or}
+
+-- what holds anyway holds where there is an error
+pub on_err : {T E P : Type 0} (r : Result T E) → P → OnErr r P
+on_err (Ok x) p = tt
+on_err (Err e) p = p
 
 -- ---- a list of the numbers that don't have a property
 

@@ -10,7 +10,7 @@ use Rattle.std.specs.List.Sorted.{IsStrictlySortedBy}
 use Rattle.std.specs.Map.{keys_of}
 use Rattle.std.specs.BTreeMap.{is_at}
 use Rattle.rrv_model.specs.declared.machine.Permissions.{Permissions}
-use Rattle.rrv_model.specs.Memory.{Memory, Cell, is_within, mapped, pages_below, page_count, is_mapped}
+use Rattle.rrv_model.specs.Memory.{Memory, Cell, is_within, mapped, pages_below, page_count, is_mapped, all_mapped}
 use Rattle.guest_pages.specs.declared.page.Page.{Page}
 use Rattle.guest_pages.specs.Space.{page_at, memory_in, cell_in, IsPage, ArePages}
 use Rattle.guest_pages.specs.Mapping.{missing, has_number, covered, covered_cell, IsClear, IsJoined}
@@ -34,6 +34,22 @@ missing_absent pages first number begun absent = missing_more pages first number
 pub missing_none : (pages : List (ℕ × Page)) (first : ℕ) → missing pages first (first - first) ≡ []
 unfolding missing
 missing_none pages first = let none : first - first ≡ 0 = omega arith in rw none refl
+
+-- where a number of a range is missing, not all of the range is mapped
+pub missing_some : (pages : List (ℕ × Page)) (first count : ℕ) → 1 ≤ length (missing pages first count) → all_mapped (memory_in pages) first count ≡ false
+unfolding missing all_mapped
+missing_some pages first zero some = absurd (omega arith)
+missing_some pages first (suc count) some = by_last (is_some (page_at pages (first + count))) (is_mapped_in pages (first + count)) (missing_some pages first count) some where
+  and_false : (b : Bool) → (b && false) ≡ false
+  and_false true = refl
+  and_false false = refl
+
+  by_last : (b : Bool) → is_mapped (memory_in pages) (first + count) ≡ b → (1 ≤ length (missing pages first count) → all_mapped (memory_in pages) first count ≡ false) →
+      1 ≤ length (missing pages first count ++ (if b then [] else (first + count) ∷ [])) → (is_mapped (memory_in pages) (first + count) && all_mapped (memory_in pages) first count) ≡ false
+  by_last true there fewer longer =
+      let before : all_mapped (memory_in pages) first count ≡ false = fewer (omega (arith, length-append (missing pages first count) [])) in
+      rw before (and_false (is_mapped (memory_in pages) (first + count)))
+  by_last false absent fewer longer = rw absent refl
 
 has_number-append : (xs ys : List ℕ) (q : ℕ) → has_number (xs ++ ys) q ≡ (has_number xs q || has_number ys q)
 has_number-append [] ys q = refl

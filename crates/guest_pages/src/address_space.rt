@@ -70,7 +70,8 @@ impl Space {
     }
 
     /// Maps count pages of zeros from a page on, in place of what was there. They lie from 0x1000 up to 0x7FFFFFFF. Refused with
-    /// TooManyPages where more than 16,384 pages would be mapped, else with Memory where a growth is refused.
+    /// TooManyPages where more than 16,384 pages would be mapped, else with Memory where a growth is refused. Where all of
+    /// them are mapped already it takes no memory, and is not refused.
     pub fn map(&mut self, page: u32, count: u32, permissions: Permissions) -> Result<(), PageFault>
         requires low { 1 ≤ page }
         requires high { page + count ≤ 0x80000 }
@@ -78,6 +79,7 @@ impl Space {
         ensures mapped { OnOk result (memory_of self.new ≡ mapped (page * page_bytes) (count * page_bytes) permissions (memory_of self.old)) }
         ensures refused { IfErr result (IsMapRefusal (mapped (page * page_bytes) (count * page_bytes) permissions (memory_of self.old))) }
         ensures err { OnErr result (self.new ≡ self.old) }
+        ensures grows { OnErr result (all_mapped (memory_of self.old) page count ≡ false) }
         ensures snapshots { snapshots_of self.new ≡ snapshots_of self.old }
     {
         let more = count_missing(&self.pages, page, count) as usize;
@@ -431,12 +433,13 @@ impl Space {
     }
 
     /// Stores bytes: all or none. Refused with NotMapped where any byte isn't there, else with NotAllowed where any may not
-    /// be written.
+    /// be written. To store no byte is never refused.
     #[inline(never)]
     pub fn store(&mut self, address: u32, bytes: &[u8]) -> Result<(), PageFault>
         ensures allowed { OnOk result (IsTrue (writable (memory_of self.old) address (length bytes.now))) }
         ensures stored { OnOk result (memory_of self.new ≡ stored address bytes.now (memory_of self.old)) }
         ensures refused { IfErr result (IsStoreRefusal (memory_of self.old) address (length bytes.now)) }
+        ensures some { OnErr result (1 ≤ length bytes.now) }
         ensures err { OnErr result (self.new ≡ self.old) }
         ensures snapshots { snapshots_of self.new ≡ snapshots_of self.old }
     {
@@ -517,11 +520,12 @@ impl Space {
     }
 
     /// The numbers of the pages that differ from a live snapshot's in bytes, in permissions or in being mapped, rising.
-    /// Refused where a growth is.
+    /// Refused where a growth is, which is only where some page differs.
     pub fn changed_since(&self, snapshot: &Snapshot) -> Result<Vec<u32>, Memory>
         requires { IsSome (snapshots_of self.now snapshot.now) }
-        ensures { IfOk result (λ numbers. IsSomeAnd (snapshots_of self.now snapshot.now) (λ before.
+        ensures changes { IfOk result (λ numbers. IsSomeAnd (snapshots_of self.now snapshot.now) (λ before.
             AreChanges before (memory_of self.now) numbers.items)) }
+        ensures grows { OnErr result (snapshots_of self.now snapshot.now ≢ Some (memory_of self.now)) }
     {
         let kept = self.kept(snapshot);
         let numbers = list_changed(self.alloc, kept.pages(), &self.pages)?;

@@ -39,8 +39,8 @@ pub(crate) fn count_missing(pages: &BTreeMap<u32, Page>, first: u32, count: u32)
     missing
 }
 
-/// The numbers of the pages that aren't there, rising.
-#[tactic(auto, using(crate::proofs::Missing::missing_more, crate::proofs::Missing::missing_none))]
+/// The numbers of the pages that aren't there, rising. It takes no memory where all are there.
+#[tactic(auto, using(crate::proofs::Missing::missing_more, crate::proofs::Missing::missing_none, crate::proofs::Ranges::one_absent))]
 pub(crate) fn list_missing(
     alloc: Global,
     pages: &BTreeMap<u32, Page>,
@@ -48,7 +48,8 @@ pub(crate) fn list_missing(
     count: u32,
 ) -> Result<Vec<u32>, AllocError>
     requires { first + count < 2 ^ 32 }
-    ensures { IfOk result (λ numbers. numbers.items ≡ missing pages.now.entries first count) }
+    ensures listed { IfOk result (λ numbers. numbers.items ≡ missing pages.now.entries first count) }
+    ensures grows { OnErr result (all_mapped (memory_in pages.now.entries) first count ≡ false) }
 {
     let mut numbers = Vec::new(alloc);
     for number in first..first + count {
@@ -60,7 +61,7 @@ pub(crate) fn list_missing(
     Ok(numbers)
 }
 
-/// Adds pages of zeros that aren't there: all or none.
+/// Adds pages of zeros that aren't there: all or none. To add none takes no memory.
 pub(crate) fn add_pages(
     alloc: Global,
     pages: &mut BTreeMap<u32, Page>,
@@ -73,6 +74,7 @@ pub(crate) fn add_pages(
     ensures kept { OnOk result ((q : ℕ) → has_number numbers.now q ≡ false → page_at pages.new.entries q ≡ page_at pages.old.entries q) }
     ensures ordered { IsStrictlySortedBy nat_cmp (keys_of pages.new.entries) }
     ensures err { OnErr result (pages.new.entries ≡ pages.old.entries) }
+    ensures grows { OnErr result (1 ≤ length numbers.now) }
 {
     for number in numbers {
         match add_page(alloc, pages, *number, permissions) {
@@ -290,14 +292,15 @@ pub(crate) fn same_pages(pages: &BTreeMap<u32, Page>, others: &BTreeMap<u32, Pag
     true
 }
 
-/// The numbers of the pages at which two maps differ, rising.
+/// The numbers of the pages at which two maps differ, rising. It takes no memory where none does.
 pub(crate) fn list_changed(
     alloc: Global,
     pages: &BTreeMap<u32, Page>,
     others: &BTreeMap<u32, Page>,
 ) -> Result<Vec<u32>, AllocError>
-    ensures { IfOk result (λ numbers.
+    ensures listed { IfOk result (λ numbers.
         ListsOthers (SameAt pages.now.entries others.now.entries) 0x80000 numbers.items) }
+    ensures grows { OnErr result ((q : ℕ) × (SamePage (page_at pages.now.entries q) (page_at others.now.entries q) → ⊥)) }
 {
     let mut numbers = Vec::new(alloc);
     for number in 0..0x80000 {
