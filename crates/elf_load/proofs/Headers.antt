@@ -2,9 +2,9 @@
 use Rattle.std.proofs.Common.{◌≡◌, ℕ, suc, ◌+◌, ◌-◌, ◌*◌, ◌<◌, ◌≤◌, Bool, true, false, cond, List, [], ◌∷◌, length, get_or, drop, arith, refl, ap, sym, ◌∙◌}
 use Rattle.std.specs.List.{list_any}
 use Rattle.std.proofs.lemmas.List.{at_drop_more, at_drop_all}
-use Rattle.std.specs.Prelude.{fold}
+use Rattle.std.specs.Prelude.{fold, filter, ◌&&◌, ◌||◌}
 use Rattle.std.proofs.lemmas.List.Folds.{list_any_at}
-use Rattle.rrv_model.specs.Elf.{Header, header_at, headers_from, elf_phoff}
+use Rattle.rrv_model.specs.Elf.{Header, header_at, headers_from, elf_phoff, is_load}
 use Rattle.rrv_model.specs.Opening.{headers_address}
 use Rattle.elf_load.specs.Refusals.{holds_headers, higher_end}
 
@@ -53,3 +53,19 @@ headers_address-step file hs i h low is =
 pub headers_address-end : (file : List ℕ) (hs : List Header) (i : ℕ) → length hs ≤ i → headers_address file (drop i hs) ≡ 0
 unfolding headers_address
 headers_address-end file hs i high = at_drop_all (headers_address file) hs i high
+
+-- ---- the PT_LOADs from one header on
+
+any_load-first : (p : Header → Bool) (h : Header) (hs : List Header) → list_any p (filter is_load (h ∷ hs)) ≡ ((is_load h && p h) || list_any p (filter is_load hs))
+any_load-first p h hs = by_kind (is_load h) where
+  by_kind : (b : Bool) → list_any p (cond b (h ∷ filter is_load hs) (filter is_load hs)) ≡ ((b && p h) || list_any p (filter is_load hs))
+  by_kind true = refl
+  by_kind false = refl
+
+-- some PT_LOAD from index i on passes the test: that header, or one behind it
+pub any_load-step : (p : Header → Bool) (file : List ℕ) (place n i : ℕ) → i < n →
+    list_any p (filter is_load (headers_from file (place + 32 * i) (n - i)))
+    ≡ ((is_load (header_at file (place + 32 * i)) && p (header_at file (place + 32 * i))) || list_any p (filter is_load (headers_from file (place + 32 * (i + 1)) (n - (i + 1)))))
+any_load-step p file place n i h =
+    ap (λ (hs : List Header). list_any p (filter is_load hs)) (headers_from-step file place n i h)
+    ∙ any_load-first p (header_at file (place + 32 * i)) (headers_from file (place + 32 * (i + 1)) (n - (i + 1)))

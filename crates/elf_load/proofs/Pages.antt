@@ -8,7 +8,7 @@ use Rattle.std.proofs.lemmas.List.{take_all}
 use Rattle.std.proofs.lemmas.List.Folds.{list_any_none}
 use Rattle.std.proofs.lemmas.List.Sums.{count_by_more_no, count_by_more_yes}
 use Rattle.rrv_model.specs.Elf.{Header, load_end, touches, touched_below}
-use Rattle.elf_load.specs.Refusals.{higher_end, highest_end}
+use Rattle.elf_load.specs.Refusals.{has_memory, higher_end, highest_end}
 
 -- the first n marks tell how many pages below n are touched
 pub count_by-marks : (hs : List Header) (marks : List Bool) (n : ℕ) → n ≤ length marks →
@@ -70,6 +70,10 @@ pub ends_within : (hs : List Header) (pages : ℕ) → highest_end hs ≤ pages 
 ends_within hs pages high k d low some =
     let covered = highest_end-covers hs 0 k d low some in
     omega (arith, covered, high)
+
+-- an empty header touches no page
+pub empty_touches : (h : Header) (page : ℕ) → has_memory h ≡ false → touches page h ≡ false
+empty_touches h page empty = grind (arith, nat_tests)
 
 untouched : (h : Header) (pages page : ℕ) → (0 < h.memory_len → load_end h ≤ pages * 4096) → pages ≤ page → touches page h ≡ false
 untouched h pages page high above = by_memory (cases_lt 0 h.memory_len) where

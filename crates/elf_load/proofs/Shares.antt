@@ -18,7 +18,7 @@ share-comm g h =
     let sooner : min (load_end g) (load_end h) ≡ min (load_end h) (load_end g) = omega arith in
     ap (λ (n : ℕ). nat_lt n (min (load_end g) (load_end h))) later ∙ ap (nat_lt (max h.address g.address)) sooner
 
-or_false : (a b : Bool) → (a || b) ≡ false → (a ≡ false) × (b ≡ false)
+pub or_false : (a b : Bool) → (a || b) ≡ false → (a ≡ false) × (b ≡ false)
 or_false true b e = let impossible : ⊥ = cc in absurd impossible
 or_false false b e = (refl, e)
 
@@ -124,7 +124,7 @@ list_any-share-filter g (h ∷ hs) = by_memory (has_memory h) refl (list_any-sha
   by_memory true some rest = ap (λ (b : Bool). share g h || b) rest
   by_memory false none rest = rest ∙ sym (ap (λ (b : Bool). b || list_any (share g) hs) (empty_shares g h none))
 
-empty_shares_none : (g : Header) (hs : List Header) → has_memory g ≡ false → list_any (share g) hs ≡ false
+pub empty_shares_none : (g : Header) (hs : List Header) → has_memory g ≡ false → list_any (share g) hs ≡ false
 empty_shares_none g hs empty = list_any_none (share g) hs (λ k d low. share-comm g (get_or hs k d) ∙ empty_shares (get_or hs k d) g empty)
 
 -- an empty header shares no byte

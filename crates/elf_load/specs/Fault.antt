@@ -1,5 +1,6 @@
 -- The faults by their numbers.
-use Rattle.std.specs.Prelude.{ℕ}
+use Rattle.std.specs.Prelude.{ℕ, List, ◌++◌, codes}
+use Rattle.std.specs.Fmt.{decimal}
 use Rattle.elf_load.specs.declared.fault.ElfFault.{ElfFault}
 use Rattle.elf_load.specs.declared.fault.ElfFault.TheVariants.{TooShort, NotElf, NotClass32, NotLittle, NotExec, NotRiscV, Compressed, BadTable, Interp, OutsideFile, SizesCrossed, AddressRange, Overlap, TooLarge, NoLoad, Memory}
 
@@ -21,3 +22,8 @@ number_of Overlap = 13
 number_of TooLarge = 14
 number_of NoLoad = 15
 number_of Memory = 16
+
+-- a fault's text: a refusal is told by its number
+abbrev pub text_of : ElfFault → List ℕ
+text_of Memory = codes "out of memory"
+text_of fault = codes "elf refusal " ++ decimal (number_of fault)

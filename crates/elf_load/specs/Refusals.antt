@@ -1,7 +1,9 @@
--- The refusals of a file in three parts, in their order; the second and the third speak of a file that the tests before pass.
+-- The refusals of a file in three parts, in their order, each of a file that the tests before pass; the ninth stands between the first two.
 use Rattle.std.specs.Prelude.{◌≡◌, ◌≢◌, ℕ, ◌+◌, ◌*◌, ◌%◌, ◌<◌, ◌≤◌, Bool, not, ◌&&◌, ◌||◌, ◌==◌, nat_lt, nat_le, max, fold, if◌then◌else◌, List, length, Option, Some, None, slice_index}
 use Rattle.std.specs.List.{list_any}
 use Rattle.rrv_model.specs.Elf.{Header, load_end, elf_class, elf_data, elf_type, elf_machine, elf_flags, elf_entry, elf_phoff, elf_phnum, bad_table, loads, passes_file, crosses_sizes, leaves_range, any_share, touched_below, is_empty_load, refusal}
+use Rattle.elf_load.specs.declared.header.LoadTest.{LoadTest}
+use Rattle.elf_load.specs.declared.header.LoadTest.TheVariants as tests
 
 abbrev pub has_magic : List ℕ → Bool
 has_magic file = slice_index file 0 == 0x7F && (slice_index file 1 == 0x45 && (slice_index file 2 == 0x4C && slice_index file 3 == 0x46))
@@ -19,24 +21,31 @@ header_refusal file =
     else if bad_table file then Some 8
     else None
 
--- 10 to 13, of the PT_LOADs
+abbrev pub has_memory : Header → Bool
+has_memory h = not (is_empty_load h)
+
+-- 10 to 12, of each PT_LOAD by itself
 unfoldable pub load_refusal : List ℕ → Option ℕ
 load_refusal file =
     if list_any (passes_file file) (loads file) then Some 10
     else if list_any crosses_sizes (loads file) then Some 11
     else if list_any leaves_range (loads file) then Some 12
-    else if any_share (loads file) then Some 13
     else None
 
--- 14 and 15, of all that the file asks for
+-- 13 to 15, of all PT_LOADs together
 unfoldable pub limit_refusal : List ℕ → Option ℕ
 limit_refusal file =
-    if nat_lt 2_097_152 (length file) || nat_lt 16_128 (touched_below 0x70000 (loads file)) then Some 14
-    else if not (list_any (λ h. not (is_empty_load h)) (loads file)) then Some 15
+    if any_share (loads file) then Some 13
+    else if nat_lt 2_097_152 (length file) || nat_lt 16_128 (touched_below 0x70000 (loads file)) then Some 14
+    else if not (list_any has_memory (loads file)) then Some 15
     else None
 
-abbrev pub has_memory : Header → Bool
-has_memory h = not (is_empty_load h)
+-- what a test of a PT_LOAD by itself looks for
+abbrev pub load_test : LoadTest → List ℕ → Header → Bool
+load_test tests.PassesFile file h = passes_file file h
+load_test tests.CrossesSizes file h = crosses_sizes h
+load_test tests.LeavesRange file h = leaves_range h
+load_test tests.HasMemory file h = has_memory h
 
 -- no refusal up to this number is the lowest that applies
 abbrev pub IsPastRefusal : ℕ → List ℕ → Type 0

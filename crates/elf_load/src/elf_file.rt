@@ -1,14 +1,14 @@
 //! A file whose ELF header is right.
 
-ghost use Rattle.std.specs.Prelude.{◌≡◌, ◌≤◌, ◌+◌, ◌*◌, ◌<◌, false, None, Some, IfOk, IfErr, OnOk, length};
+ghost use Rattle.std.specs.Prelude.{◌≡◌, ◌≢◌, ◌≤◌, ◌+◌, ◌*◌, ◌<◌, false, None, Some, IfOk, IfErr, OnOk, length};
 ghost use Rattle.std.specs.List.{list_any};
 ghost use Rattle.rrv_model.specs.Elf.{bad_table, elf_entry, elf_phnum, headers, loads, is_interp, crosses_sizes, leaves_range};
 ghost use Rattle.rrv_model.specs.Opening.{headers_address};
 ghost use Rattle.elf_load.specs.Fault.{number_of};
-ghost use Rattle.elf_load.specs.Refusals.{has_magic, header_refusal, holds_headers};
+ghost use Rattle.elf_load.specs.Refusals.{has_magic, header_refusal, load_refusal, load_test, holds_headers};
 
 use crate::fault::ElfFault;
-use crate::header::{HEADER_BYTES, ProgramHeader};
+use crate::header::{HEADER_BYTES, LoadTest, ProgramHeader};
 use crate::numbers::{half_at, number_at};
 use std::alloc::{AllocError, Global};
 use std::marker::Model;
@@ -71,6 +71,7 @@ impl<'a> ElfFile<'a> {
         ensures file { IfOk result (λ file. file ≡ elf.now) }
         ensures passes { OnOk result (header_refusal elf.now ≡ None) }
         ensures refused { IfErr result (λ fault. header_refusal elf.now ≡ Some (number_of fault)) }
+        ensures no_growth { IfErr result (λ fault. fault ≢ ElfFault.Memory) }
     {
         if elf.len() < FILE_HEADER_BYTES {
             return Err(ElfFault::TooShort);
@@ -133,6 +134,40 @@ impl<'a> ElfFile<'a> {
         for index in 0..u64::from(self.header_count) {
             let place = u64::from(self.table_offset) + HEADER_BYTES * index;
             if ProgramHeader::read(self.bytes, place as usize).is_interp() {
+                return true;
+            }
+        }
+        false
+    }
+
+    /// Tests each PT_LOAD by itself: refusals 10 to 12.
+    #[tactic(auto, unfolding(crate::specs::Refusals::load_refusal))]
+    pub(crate) fn check_loads(&self) -> Result<(), ElfFault>
+        ensures passes { OnOk result (load_refusal self.now ≡ None) }
+        ensures sizes { OnOk result (list_any crosses_sizes (loads self.now) ≡ false) }
+        ensures in_range { OnOk result (list_any leaves_range (loads self.now) ≡ false) }
+        ensures refused { IfErr result (λ fault. load_refusal self.now ≡ Some (number_of fault)) }
+        ensures no_growth { IfErr result (λ fault. fault ≢ ElfFault.Memory) }
+    {
+        if self.any_load(LoadTest::PassesFile) {
+            return Err(ElfFault::OutsideFile);
+        }
+        if self.any_load(LoadTest::CrossesSizes) {
+            return Err(ElfFault::SizesCrossed);
+        }
+        if self.any_load(LoadTest::LeavesRange) {
+            return Err(ElfFault::AddressRange);
+        }
+        Ok(())
+    }
+
+    /// Some PT_LOAD passes the test.
+    pub(crate) fn any_load(&self, test: LoadTest) -> bool
+        ensures { result ≡ list_any (load_test test self.now) (loads self.now) }
+    {
+        for index in 0..u64::from(self.header_count) {
+            let place = u64::from(self.table_offset) + HEADER_BYTES * index;
+            if ProgramHeader::read(self.bytes, place as usize).is_load_with(test, self.bytes) {
                 return true;
             }
         }

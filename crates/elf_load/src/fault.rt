@@ -4,58 +4,44 @@ ghost use Rattle.std.specs.Prelude.{◌≡◌};
 ghost use Rattle.elf_load.specs.Fault.{number_of};
 
 use std::alloc::{AllocError, AllocFailed};
-use thiserror::Error;
+use std::error::Error;
+use std::fmt;
 
-/// Why a file is no image, numbered 1 to 16 in this order: the first test that fails decides.
-#[derive(Clone, Copy, Debug, PartialEq, Eq, Error)]
+/// Why a file is no image, numbered 1 to 16 in this order: the first test that fails decides. Its text is `elf refusal` and that
+/// number, and of the last `out of memory`.
+#[derive(Clone, Copy, Debug, PartialEq, Eq)]
 pub enum ElfFault {
     /// The file ends within the ELF header.
-    #[error("elf refusal 1")]
     TooShort,
     /// The first four bytes aren't `7F 45 4C 46`.
-    #[error("elf refusal 2")]
     NotElf,
     /// The class isn't ELFCLASS32.
-    #[error("elf refusal 3")]
     NotClass32,
     /// The byte order isn't ELFDATA2LSB.
-    #[error("elf refusal 4")]
     NotLittle,
     /// The type isn't ET_EXEC.
-    #[error("elf refusal 5")]
     NotExec,
     /// The machine isn't EM_RISCV.
-    #[error("elf refusal 6")]
     NotRiscV,
     /// The flags say that there are compressed instructions.
-    #[error("elf refusal 7")]
     Compressed,
     /// There are program headers, and they aren't 32 bytes each or pass the end of the file.
-    #[error("elf refusal 8")]
     BadTable,
     /// Some program header is a PT_INTERP.
-    #[error("elf refusal 9")]
     Interp,
     /// The bytes of a PT_LOAD pass the end of the file.
-    #[error("elf refusal 10")]
     OutsideFile,
     /// A PT_LOAD has more bytes in the file than in memory.
-    #[error("elf refusal 11")]
     SizesCrossed,
     /// A PT_LOAD that isn't empty leaves the addresses 0x1000 to 0x6FFFFFFF.
-    #[error("elf refusal 12")]
     AddressRange,
     /// Two PT_LOADs share a byte of memory.
-    #[error("elf refusal 13")]
     Overlap,
     /// The file or the memory that it asks for is above its limit.
-    #[error("elf refusal 14")]
     TooLarge,
     /// No PT_LOAD has a byte of memory.
-    #[error("elf refusal 15")]
     NoLoad,
     /// A growth was refused.
-    #[error("out of memory")]
     Memory,
 }
 
@@ -67,6 +53,22 @@ impl ElfFault {
         self as u8 + 1
     }
 }
+
+impl fmt::Display for ElfFault {
+    ghost use Rattle.std.specs.Prelude.{Some};
+    ghost use Rattle.elf_load.specs.Fault.{text_of};
+
+    ghost output = { λ fault. Some (text_of fault) };
+
+    fn fmt<W: fmt::Write>(&self, f: &mut fmt::Formatter<W>) -> fmt::Result {
+        match self {
+            ElfFault::Memory => f.write_str("out of memory"),
+            fault => write!(f, "elf refusal {}", fault.number()),
+        }
+    }
+}
+
+impl Error for ElfFault {}
 
 impl From<AllocError> for ElfFault {
     ghost use Rattle.elf_load.specs.declared.fault.ElfFault.TheVariants.{Memory};

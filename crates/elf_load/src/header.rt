@@ -1,7 +1,8 @@
 //! Program headers.
 
-ghost use Rattle.std.specs.Prelude.{◌≡◌, ◌≤◌, ◌+◌, length};
+ghost use Rattle.std.specs.Prelude.{◌≡◌, ◌≤◌, ◌+◌, ◌&&◌, length};
 ghost use Rattle.rrv_model.specs.Elf.{Header, header_at, is_load, is_interp, load_end, passes_file, crosses_sizes, leaves_range, share, is_empty_load};
+ghost use Rattle.elf_load.specs.Refusals.{load_test};
 
 use crate::numbers::number_at;
 use std::marker::Model;
@@ -51,6 +52,19 @@ impl Model for ProgramHeader {
       memory_len = h.memory_len;
       flags = h.flags;
     } };
+}
+
+/// A test of a PT_LOAD by itself.
+#[derive(Clone, Copy)]
+pub(crate) enum LoadTest {
+    /// Its bytes pass the end of the file.
+    PassesFile,
+    /// It has more bytes in the file than in memory.
+    CrossesSizes,
+    /// It has memory at addresses that are no program's.
+    LeavesRange,
+    /// It has a byte of memory.
+    HasMemory,
 }
 
 impl ProgramHeader {
@@ -139,8 +153,26 @@ impl ProgramHeader {
         u64::from(self.address) + u64::from(self.memory_len)
     }
 
+    /// It is a PT_LOAD and passes the test.
+    pub(crate) fn is_load_with(&self, test: LoadTest, file: &[u8]) -> bool
+        ensures { result ≡ (is_load self.now && load_test test file.now self.now) }
+    {
+        self.is_load() && self.passes(test, file)
+    }
+
+    fn passes(&self, test: LoadTest, file: &[u8]) -> bool
+        ensures { result ≡ load_test test file.now self.now }
+    {
+        match test {
+            LoadTest::PassesFile => self.passes_file(file),
+            LoadTest::CrossesSizes => self.crosses_sizes(),
+            LoadTest::LeavesRange => self.leaves_range(),
+            LoadTest::HasMemory => !self.is_empty(),
+        }
+    }
+
     /// Its bytes pass the end of the file.
-    pub(crate) fn passes_file(&self, file: &[u8]) -> bool
+    fn passes_file(&self, file: &[u8]) -> bool
         ensures { result ≡ passes_file file.now self.now }
     {
         let end = u64::from(self.offset) + u64::from(self.file_len);
@@ -148,14 +180,14 @@ impl ProgramHeader {
     }
 
     /// It has more bytes in the file than in memory.
-    pub(crate) fn crosses_sizes(&self) -> bool
+    fn crosses_sizes(&self) -> bool
         ensures { result ≡ crosses_sizes self.now }
     {
         self.memory_len < self.file_len
     }
 
     /// It has memory at addresses that are no program's.
-    pub(crate) fn leaves_range(&self) -> bool
+    fn leaves_range(&self) -> bool
         ensures { result ≡ leaves_range self.now }
     {
         0 < self.memory_len && (self.address < LEAST_ADDRESS || END_OF_ADDRESSES < self.end())

@@ -1,17 +1,17 @@
 //! The image of a guest: an accepted ELF file.
 
-ghost use Rattle.std.specs.Prelude.{◌≡◌, ◌≢◌, false, None, Some, Err, IfOk, IfErr, OnOk};
+ghost use Rattle.std.specs.Prelude.{◌≡◌, ◌≢◌, true, false, None, Some, Err, IfOk, IfErr, OnOk};
 ghost use Rattle.std.specs.List.{list_any};
 ghost use Rattle.rrv_model.specs.Elf.{refusal, loads, elf_entry, elf_phnum, crosses_sizes, leaves_range};
 ghost use Rattle.rrv_model.specs.Opening.{headers_address, image_break};
 ghost use Rattle.elf_load.specs.Fault.{number_of};
-ghost use Rattle.elf_load.specs.Refusals.{IsPastRefusal};
+ghost use Rattle.elf_load.specs.Refusals.{has_memory, IsPastRefusal};
 
 use crate::elf_file::ElfFile;
 use crate::fault::ElfFault;
-use crate::header::ProgramHeader;
-use crate::limits::check_limits;
-use crate::loads::{check_loads, highest_end};
+use crate::header::{LoadTest, ProgramHeader};
+use crate::limits::{check_limits, refusal_without_memory};
+use crate::loads::highest_end;
 use rrv_model::limits::PAGE_BYTES;
 use std::alloc::{AllocError, Global};
 use std::marker::Model;
@@ -106,21 +106,25 @@ impl Image {
 }
 
 /// Reads a static executable for RV32 (System V ABI, "Object Files"; RISC-V ELF psABI). A file that is none is refused
-/// by the lowest fault that applies to it. `Memory` comes only where a growth was refused, and for no file that one of
-/// the refusals 1 to 9 applies to.
+/// by the lowest fault that applies to it. `Memory` comes only where a growth was refused, and only for a file with a
+/// PT_LOAD that has memory, to which none of the refusals 1 to 12 applies.
 pub fn parse(alloc: Global, elf: &[u8]) -> Result<Image, ElfFault>
     ensures image { IfOk result (λ image. image ≡ elf.now) }
     ensures accepted { OnOk result (refusal elf.now ≡ None) }
     ensures refused { IfErr result (λ fault. fault ≢ ElfFault.Memory
         → refusal elf.now ≡ Some (number_of fault)) }
-    ensures memory { result ≡ Err ElfFault.Memory → IsPastRefusal 9 elf.now }
+    ensures memory { result ≡ Err ElfFault.Memory → IsPastRefusal 12 elf.now }
+    ensures grows { result ≡ Err ElfFault.Memory → list_any has_memory (loads elf.now) ≡ true }
 {
     let file = ElfFile::read(elf)?;
     if file.has_interp() {
         return Err(ElfFault::Interp);
     }
+    file.check_loads()?;
+    if !file.any_load(LoadTest::HasMemory) {
+        return Err(refusal_without_memory(elf));
+    }
     let loads = file.loads(alloc)?;
-    check_loads(alloc, elf, &loads)?;
     check_limits(alloc, elf, &loads)?;
     Ok(Image::keep(alloc, &file, loads)?)
 }

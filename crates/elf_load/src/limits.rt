@@ -1,21 +1,36 @@
-//! What an image asks for in all.
+//! What the PT_LOADs ask for together.
 
-ghost use Rattle.std.specs.Prelude.{◌≡◌, ◌||◌, ◌*◌, ◌≤◌, ◌<◌, ℕ, None, Some, IfOk, IfErr, OnOk, ◌≢◌, All, length, slice_index_or, false, not, count_by};
+ghost use Rattle.std.specs.Prelude.{◌≡◌, ◌||◌, ◌*◌, ◌≤◌, ◌<◌, ℕ, None, Some, IfOk, IfErr, OnOk, ◌≢◌, All, length, slice_index_or, true, false, count_by};
 ghost use Rattle.std.specs.List.{list_any};
-ghost use Rattle.rrv_model.specs.Elf.{loads, load_end, touches, touched_below, is_empty_load, leaves_range};
+ghost use Rattle.rrv_model.specs.Elf.{loads, load_end, touches, touched_below, leaves_range};
 ghost use Rattle.elf_load.specs.Fault.{number_of};
-ghost use Rattle.elf_load.specs.Refusals.{limit_refusal};
+ghost use Rattle.elf_load.specs.Refusals.{has_memory, limit_refusal};
 
 use crate::fault::ElfFault;
 use crate::header::ProgramHeader;
 use crate::loads::highest_end;
+use crate::overlap::any_share;
 use rrv_model::limits::{MAX_ELF, PAGE_BYTES};
 use std::alloc::{AllocError, Global};
 
 /// Pages that the PT_LOADs may touch.
 const MAX_LOADED_PAGES: usize = 16_128;
 
-/// Tests the file's length, the number of pages, and that there is a byte of memory: refusals 14 and 15.
+/// Why a file is refused that passes the tests before and has no byte of memory: refusal 14 or 15.
+#[tactic(auto, using(crate::proofs::Refusal::too_large_without_memory, crate::proofs::Refusal::no_load_without_memory))]
+pub(crate) fn refusal_without_memory(elf: &[u8]) -> ElfFault
+    requires { list_any has_memory (loads elf.now) ≡ false }
+    ensures refused { limit_refusal elf.now ≡ Some (number_of result) }
+    ensures no_growth { result ≢ ElfFault.Memory }
+{
+    if elf.len() > MAX_ELF as usize {
+        ElfFault::TooLarge
+    } else {
+        ElfFault::NoLoad
+    }
+}
+
+/// Tests that no two share a byte, the file's length and the number of pages: refusals 13 and 14.
 #[tactic(auto, unfolding(crate::specs::Refusals::limit_refusal))]
 pub(crate) fn check_limits(
     alloc: Global,
@@ -24,25 +39,19 @@ pub(crate) fn check_limits(
 ) -> Result<(), ElfFault>
     requires loads_are { found.now ≡ loads elf.now }
     requires in_range { list_any leaves_range found.now ≡ false }
+    requires memory { list_any has_memory found.now ≡ true }
     ensures passes { OnOk result (limit_refusal elf.now ≡ None) }
     ensures refused { IfErr result (λ fault. fault ≢ ElfFault.Memory
         → limit_refusal elf.now ≡ Some (number_of fault)) }
 {
+    if any_share(alloc, found)? {
+        return Err(ElfFault::Overlap);
+    }
     let pages = pages_to_end(found);
     if elf.len() > MAX_ELF as usize || touched_pages(alloc, found, pages)? > MAX_LOADED_PAGES {
         return Err(ElfFault::TooLarge);
     }
-    if !has_memory(found) {
-        return Err(ElfFault::NoLoad);
-    }
     Ok(())
-}
-
-/// Some PT_LOAD has a byte of memory.
-fn has_memory(found: &[ProgramHeader]) -> bool
-    ensures { result ≡ list_any (λ load. not (is_empty_load load)) found.now }
-{
-    found.iter().any(|load| !load.is_empty())
 }
 
 /// The pages from address 0 to the highest end of a PT_LOAD: no page behind them is touched.

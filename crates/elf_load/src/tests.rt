@@ -199,15 +199,27 @@ fn the_longest_file(rt: HostRuntime) -> Result<(), Fail> {
 
 #[test]
 fn faults_by_number(rt: HostRuntime) -> Result<(), Fail> {
-    assert_eq!(rt;
-        (
-            ElfFault::TooShort.number(),
-            ElfFault::NoLoad.number(),
-            ElfFault::Memory.number()
-        ),
-        (1, 15, 16)
-    );
-    let text = format!(in rt.alloc(); "{}", ElfFault::Compressed)?;
-    assert_eq!(rt; text.as_str(), "elf refusal 7");
+    let faults = [
+        (ElfFault::TooShort, 1, "elf refusal 1"),
+        (ElfFault::NotElf, 2, "elf refusal 2"),
+        (ElfFault::NotClass32, 3, "elf refusal 3"),
+        (ElfFault::NotLittle, 4, "elf refusal 4"),
+        (ElfFault::NotExec, 5, "elf refusal 5"),
+        (ElfFault::NotRiscV, 6, "elf refusal 6"),
+        (ElfFault::Compressed, 7, "elf refusal 7"),
+        (ElfFault::BadTable, 8, "elf refusal 8"),
+        (ElfFault::Interp, 9, "elf refusal 9"),
+        (ElfFault::OutsideFile, 10, "elf refusal 10"),
+        (ElfFault::SizesCrossed, 11, "elf refusal 11"),
+        (ElfFault::AddressRange, 12, "elf refusal 12"),
+        (ElfFault::Overlap, 13, "elf refusal 13"),
+        (ElfFault::TooLarge, 14, "elf refusal 14"),
+        (ElfFault::NoLoad, 15, "elf refusal 15"),
+        (ElfFault::Memory, 16, "out of memory"),
+    ];
+    for (fault, number, want) in faults {
+        assert_eq!(rt; fault.number(), number);
+        assert_eq!(rt; format!(in rt.alloc(); "{fault}")?.as_str(), want);
+    }
     Ok(())
 }
