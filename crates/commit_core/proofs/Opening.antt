@@ -5,13 +5,19 @@ use Rattle.std.proofs.lemmas.List.{take_at, drop_at, drop_more, take-take}
 use Rattle.std.proofs.lemmas.Bool.Decides.{eqb_tells}
 use Rattle.rrv_model.specs.CrashModel.{Pending, IsCrash, DiskState, all_synced}
 use Rattle.rrv_model.specs.DiskCalls.{IsTorn, FailsToWrite, FailsToCut, after_write, after_cut, after_sync, overwritten, pending_write, pending_cut}
-use Rattle.rrv_model.specs.StoreText.{IsBody, IsStore, IsNextSegment}
+use Rattle.rrv_model.specs.StoreText.{header, segments, IsBody, IsStore, IsNextSegment}
+use Rattle.rrv_model.specs.StoreCalls.{after_calls, IsWithin, tail_calls, gate_calls, open_calls}
+use Rattle.rrv_model.specs.StoreCalls.Call.{Write, Sync}
 use Rattle.rrv_model.proofs.CrashLaws.{crash_synced, crash_torn, crash_cut}
 use Rattle.rrv_model.proofs.StoreLaws.{store_parts}
 use Rattle.commit_core.specs.World.{IsAtRest, store_text, closed_store}
-use Rattle.commit_core.specs.Sessions.{after_calls, IsWithin, IsStoreOf, tail_calls, gate_calls, open_calls}
-use Rattle.commit_core.specs.Sessions.Call.{Write, Sync}
+use Rattle.commit_core.specs.Sessions.{IsStoreOf}
 use Rattle.commit_core.proofs.Stages.{Gives, crash_failed, crash_failed_cut, closed_store_of, ajar_store_of, text_of_store}
+
+-- where the last gate stands
+place_is : (bodies : List (List ℕ)) → length (header ++ segments 0 bodies) ≡ length (store_text bodies)
+unfolding store_text
+place_is bodies = refl
 
 -- ---- one byte of a text
 
@@ -147,13 +153,13 @@ module _ (fine : List (List ℕ) → Type 0) where
 
     good_calls : (gate : ℕ) (behind : List ℕ) (disk : DiskState) → IsAtRest disk (store_text bodies ++ gate ∷ behind)
         → (gate ≡ 0) ⊎ ((next : IsNextSegment (length bodies) behind) × fine (bodies ++ next.body ∷ []))
-        → (end : DiskState) → IsWithin disk (gate_calls place gate behind) end → Good end
+        → (end : DiskState) → IsWithin disk (gate_calls place gate ++ tail_calls place behind) end → Good end
     good_calls gate behind disk rest after end within = elim (eqb_tells gate 0) [
       | inl is ↦ good_tail behind disk (subst (λ (g : ℕ). IsAtRest disk (store_text bodies ++ g ∷ behind)) is.1 rest) end
-          (subst (λ (b : Bool). IsWithin disk (cond b (tail_calls place behind) (Write place (0 ∷ []) ∷ Sync ∷ tail_calls place behind)) end) is.0 within)
+          (subst (λ (b : Bool). IsWithin disk (cond b [] (Write place (0 ∷ []) ∷ Sync ∷ []) ++ tail_calls place behind) end) is.0 within)
       | inr shut ↦ ⊎_elim (λ is. absurd (shut.1 is))
           (λ next. good_write gate behind next.0 next.1 disk rest end
-          (subst (λ (b : Bool). IsWithin disk (cond b (tail_calls place behind) (Write place (0 ∷ []) ∷ Sync ∷ tail_calls place behind)) end) shut.0 within)) after
+          (subst (λ (b : Bool). IsWithin disk (cond b [] (Write place (0 ∷ []) ∷ Sync ∷ []) ++ tail_calls place behind) end) shut.0 within)) after
     ]
 
   -- each moment of `open`
@@ -167,7 +173,8 @@ module _ (fine : List (List ℕ) → Type 0) where
       let are : fine bodies = subst fine same.0 here.are in
       good_calls bodies store.each store.count are store.gate store.behind (after_sync disk)
       (at_rest_after_sync disk (store_text bodies ++ store.gate ∷ store.behind) (text_of_store disk.content bodies store))
-      (moved here.bodies bodies here.store.gate store.gate here.store.behind store.behind same.0 same.1 same.2 here.next) end rest
+      (moved here.bodies bodies here.store.gate store.gate here.store.behind store.behind same.0 same.1 same.2 here.next) end
+      (subst (λ (n : ℕ). IsWithin (after_sync disk) (gate_calls n store.gate ++ tail_calls n store.behind) end) (place_is bodies) rest)
     where
       moved : (xs ys : List (List ℕ)) (g h : ℕ) (p q : List ℕ) → xs ≡ ys → g ≡ h → p ≡ q → Next fine xs g p → Next fine ys h q
       moved xs ys g h p q a b c next = subst (λ (l : List ℕ). Next fine ys h l) c (subst (λ (n : ℕ). Next fine ys n p) b (subst (λ (l : List (List ℕ)). Next fine l g p) a next))
@@ -184,10 +191,10 @@ tail_end bodies (x ∷ behind) disk rest =
     record { read = text; synced = ap all_synced text }
 
 gate_end : (bodies : List (List ℕ)) (gate : ℕ) (behind : List ℕ) (disk : DiskState) → IsAtRest disk (store_text bodies ++ gate ∷ behind)
-    → IsAtRest (after_calls disk (gate_calls (length (store_text bodies)) gate behind)) (closed_store bodies)
+    → IsAtRest (after_calls disk (gate_calls (length (store_text bodies)) gate ++ tail_calls (length (store_text bodies)) behind)) (closed_store bodies)
 gate_end bodies gate behind disk rest =
     let place = length (store_text bodies) in
-    let P = λ (b : Bool). IsAtRest (after_calls disk (cond b (tail_calls place behind) (Write place (0 ∷ []) ∷ Sync ∷ tail_calls place behind))) (closed_store bodies) in
+    let P = λ (b : Bool). IsAtRest (after_calls disk (cond b [] (Write place (0 ∷ []) ∷ Sync ∷ []) ++ tail_calls place behind)) (closed_store bodies) in
     elim (eqb_tells gate 0) [
       | inl is ↦ subst P (sym is.0) (tail_end bodies behind disk (subst (λ (g : ℕ). IsAtRest disk (store_text bodies ++ g ∷ behind)) is.1 rest))
       | inr shut ↦ subst P (sym shut.0) (tail_end bodies behind (after_sync (after_write disk place (0 ∷ [])))
@@ -198,4 +205,5 @@ gate_end bodies gate behind disk rest =
 pub open_end : (disk : DiskState) (bodies : List (List ℕ)) (store : IsStore disk.content bodies) → IsAtRest (after_calls disk (open_calls disk.content bodies store)) (closed_store bodies)
 open_end disk bodies store =
     let text = text_of_store disk.content bodies store in
-    gate_end bodies store.gate store.behind (after_sync disk) (record { read = text; synced = ap all_synced text })
+    subst (λ (n : ℕ). IsAtRest (after_calls (after_sync disk) (gate_calls n store.gate ++ tail_calls n store.behind)) (closed_store bodies)) (sym (place_is bodies))
+    (gate_end bodies store.gate store.behind (after_sync disk) (record { read = text; synced = ap all_synced text }))

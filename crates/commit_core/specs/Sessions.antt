@@ -1,51 +1,13 @@
 -- Sessions: each opens the store, records, and is stopped anywhere.
-use Rattle.std.specs.Prelude.{◌≡◌, ◌⊎◌, ℕ, ◌+◌, ◌≤◌, ◌==◌, if◌then◌else◌, List, [], ◌∷◌, ◌++◌, length}
+use Rattle.std.specs.Prelude.{◌≡◌, ◌⊎◌, ℕ, ◌≤◌, List, [], ◌∷◌, ◌++◌, length}
 use Rattle.std.specs.List.{AllByRecursion}
 use Rattle.rrv_model.specs.declared.record.Record.{Record}
 use Rattle.rrv_model.specs.CrashModel.{DiskState, IsCrash, all_synced}
-use Rattle.rrv_model.specs.DiskCalls.{after_write, after_cut, after_sync, FailsToWrite, FailsToCut}
 use Rattle.rrv_model.specs.StoreText.{IsStore, IsNextSegment}
+use Rattle.rrv_model.specs.StoreCalls.{after_calls, open_calls, IsWithin}
 use Rattle.rrv_model.specs.Recovered.{IsRecovered}
-use Rattle.commit_core.specs.World.{World, IsStart, store_text}
+use Rattle.commit_core.specs.World.{World, IsStart}
 use Rattle.commit_core.specs.Events.{Event, run, IsSchedule}
-
--- ---- opening a store
-
-pub data Call : Type 0 where
-  Write : (place : ℕ) (bytes : List ℕ) → Call
-  Cut : (size : ℕ) → Call
-  Sync : Call
-
-abbrev pub after_call : DiskState → Call → DiskState
-after_call disk (Write place bytes) = after_write disk place bytes
-after_call disk (Cut size) = after_cut disk size
-after_call disk Sync = after_sync disk
-
-abbrev pub Fails : DiskState → Call → DiskState → Type 0
-Fails disk (Write place bytes) new = FailsToWrite place (length bytes) disk new
-Fails disk (Cut size) new = FailsToCut size disk new
-Fails disk Sync new = new ≡ disk
-
--- The calls of `open` on a store whose last gate stands at this place: a sync comes first; where the gate isn't 00, 00 is written
--- there; where bytes stand behind it, they are cut off; each with its sync.
-abbrev pub tail_calls : ℕ → List ℕ → List Call
-tail_calls place [] = []
-tail_calls place (x ∷ behind) = Cut (place + 1) ∷ Sync ∷ []
-
-abbrev pub gate_calls : ℕ → ℕ → List ℕ → List Call
-gate_calls place gate behind = if gate == 0 then tail_calls place behind else Write place (0 ∷ []) ∷ Sync ∷ tail_calls place behind
-
-abbrev pub open_calls : (bytes : List ℕ) (bodies : List (List ℕ)) → IsStore bytes bodies → List Call
-open_calls bytes bodies store = Sync ∷ gate_calls (length (store_text bodies)) store.gate store.behind
-
-abbrev pub after_calls : DiskState → List Call → DiskState
-after_calls disk [] = disk
-after_calls disk (call ∷ calls) = after_calls (after_call disk call) calls
-
--- the disk at some moment of these calls: between two, or after one that failed, which is the last
-abbrev pub IsWithin : DiskState → List Call → DiskState → Type 0
-IsWithin disk [] end = end ≡ disk
-IsWithin disk (call ∷ calls) end = (end ≡ disk) ⊎ (Fails disk call end ⊎ IsWithin (after_call disk call) calls end)
 
 -- ---- sessions
 

@@ -6,10 +6,11 @@ ghost use Rattle.std.specs.Prelude.{◌≡◌, ◌<◌, ℕ, List, length};
 ghost use Rattle.rrv_model.specs.declared.record.Record.{Record};
 ghost use Rattle.rrv_model.specs.CrashModel.{DiskState, IsCrash};
 ghost use Rattle.rrv_model.specs.StoreText.{IsStore};
+ghost use Rattle.rrv_model.specs.StoreCalls.{after_calls, open_calls};
 ghost use Rattle.commit_core.specs.World.{World, IsStart, IsAtRest, closed_store};
 ghost use Rattle.commit_core.specs.Events.{Event, IsSchedule, run};
 ghost use Rattle.commit_core.specs.Facts.{Facts, Recovers};
-ghost use Rattle.commit_core.specs.Sessions.{Session, AreSessions, AreGrowing, CanOpen, after_calls, fresh_disk, open_calls, reports};
+ghost use Rattle.commit_core.specs.Sessions.{Session, AreSessions, AreGrowing, CanOpen, fresh_disk, reports};
 
 /// Whatever the recorders and the flusher do, in any order, the six facts hold; and wherever the machine stops, recovery gives
 /// each guest a beginning of its records that holds every record of which an output byte has left, and whose replay gives, at

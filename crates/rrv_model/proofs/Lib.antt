@@ -11,5 +11,6 @@ pub mod RunExample
 pub mod RunLaws
 pub mod CrashLaws
 pub mod SettledLaws
+pub mod StoreCallLaws
 pub mod RecoveredLaws
 pub mod StoreLaws

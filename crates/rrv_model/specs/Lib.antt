@@ -18,5 +18,6 @@ pub mod StoreText
 pub mod DiskCalls
 pub mod Failures
 pub mod Settled
+pub mod StoreCalls
 pub mod Recovered
 pub mod Refused

@@ -91,3 +91,27 @@ fn room_may_be_passed(rt: HostRuntime) -> Result<(), Fail> {
     );
     Ok(())
 }
+
+// A hundred calls past its room. Each growth that is refused is a failure, and changes nothing.
+#[test]
+fn room_may_be_passed_a_hundred_times(rt: HostRuntime) -> Result<(), Fail> {
+    let alloc = rt.alloc();
+    let mut disk = MemDisk::with_room(alloc, 100, 50)?;
+    let mut wanted = Vec::with_capacity(alloc, 225)?;
+    let mut refused = 0u64;
+    for byte in 0..75 {
+        let at = disk.len();
+        let bytes = [byte, byte, 0xFF];
+        if disk.write_at(at, &bytes).is_ok() {
+            wanted.extend_from_slice(&bytes)?;
+        } else {
+            refused = refused.saturating_add(1);
+        }
+        if disk.sync().is_err() {
+            refused = refused.saturating_add(1);
+        }
+    }
+    assert_eq!(rt; disk.failures(), refused);
+    assert_eq!(rt; bytes_of(alloc, &mut disk)?.as_slice(), wanted.as_slice());
+    Ok(())
+}
