@@ -7,3 +7,8 @@ mod Always
 mod Recovery
 mod Opening
 mod Sessions
+mod EachSession
+mod ExampleGuest
+mod ExampleWorld
+mod ExampleCrash
+mod ExampleSessions

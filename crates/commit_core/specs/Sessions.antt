@@ -16,11 +16,15 @@ pub data Session : Type 0 where
   StoppedOpening : Session
   Ran : (start : World) (old : List Record) (events : List Event) → Session
 
+-- the disk once `open` has answered
+abbrev pub opened_disk : (disk : DiskState) (bodies : List (List ℕ)) → IsStore disk.content bodies → DiskState
+opened_disk disk bodies store = after_calls disk (open_calls disk.content bodies store)
+
 abbrev pub Goes : DiskState → Session → DiskState → Type 0
 Goes disk StoppedOpening end =
     (bodies : List (List ℕ)) × (store : IsStore disk.content bodies) × IsWithin disk (open_calls disk.content bodies store) end
 Goes disk (Ran start old events) end =
-    (store : IsStore disk.content start.bodies) × (start.disk ≡ after_calls disk (open_calls disk.content start.bodies store))
+    (store : IsStore disk.content start.bodies) × (start.disk ≡ opened_disk disk start.bodies store)
     × IsStart start old × IsSchedule start events × (end ≡ (run start events).disk)
 
 -- a disk that holds these bytes and has done nothing yet

@@ -2,15 +2,19 @@
 //! Nothing runs here: each law is the contract of a function that does nothing.
 #![tactic(auto)]
 
-ghost use Rattle.std.specs.Prelude.{◌≡◌, ◌<◌, ℕ, List, length};
+ghost use Rattle.std.specs.Prelude.{◌≡◌, ◌<◌, ℕ, List, [], ◌∷◌, length, Some};
+ghost use Rattle.std.specs.List.{AllByRecursion};
+ghost use Rattle.rrv_model.specs.declared.machine.GuestEnd.TheVariants.{Exited};
 ghost use Rattle.rrv_model.specs.declared.record.Record.{Record};
 ghost use Rattle.rrv_model.specs.CrashModel.{DiskState, IsCrash};
+ghost use Rattle.rrv_model.specs.State.{State};
 ghost use Rattle.rrv_model.specs.StoreText.{IsStore};
-ghost use Rattle.rrv_model.specs.StoreCalls.{after_calls, open_calls};
 ghost use Rattle.commit_core.specs.World.{World, IsStart, IsAtRest, closed_store};
 ghost use Rattle.commit_core.specs.Events.{Event, IsSchedule, run};
 ghost use Rattle.commit_core.specs.Facts.{Facts, Recovers};
-ghost use Rattle.commit_core.specs.Sessions.{Session, AreSessions, AreGrowing, CanOpen, fresh_disk, reports};
+ghost use Rattle.commit_core.specs.Sessions.{Session, AreSessions, AreGrowing, CanOpen, fresh_disk, opened_disk, reports};
+ghost use Rattle.commit_core.specs.Headline.{IsSafeThroughout};
+ghost use Rattle.commit_core.specs.Example.{GateMayTear, example_start, two_sessions, up_to_gate, up_to_release};
 
 /// Whatever the recorders and the flusher do, in any order, the six facts hold; and wherever the machine stops, recovery gives
 /// each guest a beginning of its records that holds every record of which an output byte has left, and whose replay gives, at
@@ -24,12 +28,38 @@ pub fn safe_always()
 
 /// Over any list of sessions, each of which opens the store, records, and is stopped anywhere: what one `open` reported is a
 /// beginning of what each later one reports, what follows belongs to guests of that session or later ones, and what every crash
-/// leaves can be opened again. Once `open` has made its calls the store is at rest with its bodies.
+/// leaves can be opened again. Once `open` has made its calls the store is at rest with its bodies. Of each session that ran, from
+/// what its `open` reported, what `safe_always` says is true at each of its moments.
 pub fn sessions_always()
     ensures grows { (content : List ℕ) (sessions : List Session) (end : DiskState) → CanOpen content
         → AreSessions (fresh_disk content) sessions end → AreGrowing (reports sessions) }
     ensures opens { (content : List ℕ) (sessions : List Session) (end : DiskState) (left : List ℕ) → CanOpen content
         → AreSessions (fresh_disk content) sessions end → IsCrash end.pending left → CanOpen left }
+    ensures safe { (content : List ℕ) (sessions : List Session) (end : DiskState) → CanOpen content
+        → AreSessions (fresh_disk content) sessions end → AllByRecursion IsSafeThroughout sessions }
     ensures opened { (disk : DiskState) (bodies : List (List ℕ)) (store : IsStore disk.content bodies)
-        → IsAtRest (after_calls disk (open_calls disk.content bodies store)) (closed_store bodies) }
+        → IsAtRest (opened_disk disk bodies store) (closed_store bodies) }
+{}
+
+/// The premises of `safe_always` can be met, and a byte can leave: a guest that writes the first byte of its file and exits is
+/// recorded into a store without bodies, its records are committed, and its byte is put out.
+pub fn byte_leaves()
+    ensures start { IsStart example_start [] }
+    ensures leaves { (written ended : State) × IsSchedule example_start (up_to_release written ended)
+        × (((run example_start (up_to_release written ended)).recorders 0).out ≡ (1, 0x7F) ∷ []) × (ended.ended ≡ Some (Exited 1)) }
+{}
+
+/// The same run can be stopped within the write of the gate, and then any byte may stand there: nothing is recovered, or all its
+/// records where that byte opens the gate.
+pub fn crash_in_gate()
+    ensures { (written ended : State) × IsSchedule example_start (up_to_gate written ended)
+        × GateMayTear (run example_start (up_to_gate written ended)) }
+{}
+
+/// The premises of `sessions_always` can be met: that run is stopped in the write of the gate, and a second session finds all its
+/// records.
+pub fn sessions_follow()
+    ensures first { CanOpen (closed_store []) }
+    ensures second { (written ended : State) × (end : DiskState)
+        × AreSessions (fresh_disk (closed_store [])) (two_sessions written ended) end }
 {}

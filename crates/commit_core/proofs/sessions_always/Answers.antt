@@ -1,5 +1,7 @@
+use Rattle.commit_core.specs.Sessions.{fresh_disk}
 use Rattle.commit_core.proofs.Opening.{open_end}
 use Rattle.commit_core.proofs.Sessions.{sessions_law}
+use Rattle.commit_core.proofs.EachSession.{each_is_safe}
 use Rattle.commit_core.proofs.sessions_always.Goals as goal
 
 pub returns-clause-grows : goal.returns-clause-grows
@@ -10,3 +12,6 @@ returns-clause-opens c = λ content sessions end left can are crash. (sessions_l
 
 pub returns-clause-opened : goal.returns-clause-opened
 returns-clause-opened c = λ disk bodies store. open_end disk bodies store
+
+pub returns-clause-safe : goal.returns-clause-safe
+returns-clause-safe c = λ content sessions end can are. each_is_safe (fresh_disk content) sessions end are

@@ -1,0 +1,194 @@
+-- The example's start and its events.
+use Rattle.std.proofs.Common.{◌≡◌, ℕ, zero, suc, ◌+◌, ◌^◌, ◌<◌, ◌≤◌, true, List, [], ◌∷◌, ◌++◌, length, refl, sym, subst, arith, add-zero, Some}
+use Rattle.std.specs.Prelude.{nat_lt, All}
+use Rattle.std.specs.List.{list_all, AllByRecursion}
+use Rattle.std.proofs.lemmas.Bool.Decides.{Decides-by_and, Decides-ltb}
+use Rattle.rrv_model.specs.declared.machine.GuestEnd.TheVariants.{Exited}
+use Rattle.rrv_model.specs.declared.record.End.TheVariants as ends
+use Rattle.rrv_model.specs.declared.record.Frame.{Frame}
+use Rattle.rrv_model.specs.declared.record.Item.TheVariants as items
+use Rattle.rrv_model.specs.declared.record.Record.{Record}
+use Rattle.rrv_model.specs.State.{State}
+use Rattle.rrv_model.specs.RecordText.{HasText, record_text, payload, opening_text, call_text}
+use Rattle.rrv_model.specs.Recording.{frame_record}
+use Rattle.rrv_model.specs.StoreText.{IsBody}
+use Rattle.rrv_model.specs.Recovered.{body_text, next_guest, IsRecovered}
+use Rattle.commit_core.specs.Runs.{IsOutput}
+use Rattle.commit_core.specs.World.{World, IsStart, IsReady, opening_record, store_text}
+use Rattle.commit_core.specs.Events.{Event, CanSlice, CanWrite, after, run, IsSchedule}
+use Rattle.commit_core.specs.Events.Event.{Slice, Push, Pop}
+use Rattle.commit_core.specs.Example.{example_opening, example_state, example_recorder, start_on, example_start, opened, wrote, exited, all_three, up_to_gate, from_gate_on, up_to_release}
+use Rattle.commit_core.proofs.ExampleGuest.{Ended, the_byte, opens, guest_ends}
+
+-- ---- texts
+
+are_bytes : (bytes : List ℕ) → list_all (λ (b : ℕ). nat_lt b 256) bytes ≡ true → All (λ (b : ℕ). b < 256) bytes
+are_bytes bytes pass =
+    (Decides-by_and (λ (b : ℕ). nat_lt b 256) (λ (b : ℕ). b < 256) (list_all (λ (b : ℕ). nat_lt b 256)) (λ b. Decides-ltb b 256) refl (λ _ _. refl) bytes).0 pass
+
+payload_len : length (payload opened.item) ≡ 134
+unfolding payload opening_text
+payload_len = refl
+
+opened_has_text : (number : ℕ) → number ≤ 1 → HasText (opening_record number example_opening)
+opened_has_text number low = record {
+  guest = omega (arith, low);
+  index = omega arith;
+  item = record {
+    elf = omega arith;
+    elf_bytes = are_bytes example_opening.elf refl;
+    name = opens.is_name;
+    random = refl;
+    random_bytes = are_bytes example_opening.random refl;
+  };
+  payload_len = subst (λ (n : ℕ). n < 2 ^ 32) (sym payload_len) (omega arith);
+}
+
+abbrev call_frame : ℕ → ℕ → Frame
+call_frame count result = record { tid = 1; count = count; end = ends.Call (record { result = result; written = [] }) }
+
+call_payload_len : (count result : ℕ) → length (payload (items.Frame (call_frame count result))) ≡ 16
+unfolding payload call_text
+call_payload_len count result = refl
+
+call_has_text : (index count result : ℕ) → index ≤ 2 → 1 ≤ count → count ≤ 5 → result ≤ 1 → HasText (frame_record 0 index (call_frame count result))
+call_has_text index count result low some few small = record {
+  guest = omega arith;
+  index = omega (arith, low);
+  item = (
+    record { tid_low = omega arith; tid_high = omega arith; count_low = some; count_high = omega (arith, few) },
+    record { result = omega (arith, small); two = omega arith; written = tt },
+  );
+  payload_len = subst (λ (n : ℕ). n < 2 ^ 32) (sym (call_payload_len count result)) (omega arith);
+}
+
+wrote_has_text : HasText wrote
+wrote_has_text = call_has_text 1 5 1 (omega arith) (omega arith) (omega arith) (omega arith)
+
+exited_has_text : HasText exited
+exited_has_text = call_has_text 2 2 0 (omega arith) (omega arith) (omega arith) (omega arith)
+
+body_len : length (body_text all_three) ≡ 205
+unfolding record_text payload opening_text call_text
+body_len = refl
+
+gate_len : length (store_text []) ≡ 16
+unfolding store_text
+gate_len = refl
+
+-- ---- the start
+
+ready : (number g : ℕ) → number ≤ 1 → g < 1 → IsReady (number + g) (example_recorder number)
+ready number zero low one =
+    subst (λ (n : ℕ). IsReady n (example_recorder number)) (sym (add-zero number))
+    (record { opening = example_opening; state = example_state; opens = opens; has_text = opened_has_text number low; is = refl })
+ready number (suc g) low one = absurd (omega (arith, one))
+
+-- a store with these bodies, from which these records are recovered, can be recorded into
+pub starts_on : (bodies : List (List ℕ)) (number : ℕ) (old : List Record) → number ≤ 1 → IsRecovered bodies old → number ≡ next_guest old →
+    AllByRecursion IsBody bodies → length bodies ≤ 1 → IsStart (start_on bodies number) old
+starts_on bodies number old low recovered next sizes few = record {
+  some = omega arith;
+  few = omega arith;
+  recovered = recovered;
+  next = next;
+  room = omega (arith, low);
+  are_bodies = sizes;
+  count = omega (arith, few);
+  disk = record { read = refl; synced = refl };
+  ready = λ g one. ready number g low one;
+  no_others = λ g l. refl;
+  queue = refl;
+  words = λ k. refl;
+  flusher = refl;
+}
+
+pub nothing_recovered : IsRecovered [] []
+nothing_recovered = record { batches = []; texts = tt; joined = refl; in_order = record { numbered = λ guest. tt; opened = tt } }
+
+pub starts : IsStart example_start []
+starts = starts_on [] 0 [] (omega arith) nothing_recovered refl tt (omega arith)
+
+-- ---- the events
+
+schedule_both : (w : World) (xs ys : List Event) → IsSchedule w xs → IsSchedule (run w xs) ys → IsSchedule w (xs ++ ys)
+schedule_both w [] ys a b = b
+schedule_both w (x ∷ xs) ys a b = (a.0, schedule_both (after w x) xs ys a.1 b)
+
+module _ (guest : Ended) where
+  abbrev one_more : World
+  one_more = after example_start (Slice 0 wrote guest.written)
+
+  can_write : CanSlice example_start 0 wrote guest.written
+  can_write = record {
+    guest = omega arith;
+    has_text = wrote_has_text;
+    recording = record { guest = 0; numbered = (refl, refl, (refl, refl, tt)); starts = (example_state, opens, (guest.written, guest.writes, tt)) };
+    numbered = (refl, refl, (refl, refl, tt));
+    ends = (example_state, opens, (guest.written, guest.writes, (refl, refl)));
+  }
+
+  can_exit : CanSlice one_more 0 exited guest.ended
+  can_exit = record {
+    guest = omega arith;
+    has_text = exited_has_text;
+    recording = record {
+      guest = 0;
+      numbered = (refl, refl, (refl, refl, (refl, refl, tt)));
+      starts = (example_state, opens, (guest.written, guest.writes, (guest.ended, guest.exits, tt)));
+    };
+    numbered = (refl, refl, (refl, refl, (refl, refl, tt)));
+    ends = (example_state, opens, (guest.written, guest.writes, (guest.ended, guest.exits, (refl, refl))));
+  }
+
+  small : (place len : ℕ) → place ≡ 16 → len ≡ 205 → place + len + 42 ≤ 2 ^ 40
+  small place len p l = omega (arith, p, l)
+
+  abbrev sent_all : World
+  sent_all = run one_more (
+      Slice 0 exited guest.ended
+      ∷ Push 0 opened (wrote ∷ exited ∷ []) ∷ Push 0 wrote (exited ∷ []) ∷ Push 0 exited []
+      ∷ Pop opened (wrote ∷ exited ∷ []) ∷ Pop wrote (exited ∷ []) ∷ Pop exited [] ∷ [])
+
+  can_commit : CanWrite sent_all 3
+  can_commit = record {
+    idle = refl;
+    some = omega arith;
+    few = omega arith;
+    there = omega arith;
+    body = subst (λ (n : ℕ). n ≤ 8388608) (sym body_len) (omega arith);
+    number = omega arith;
+    store = small _ _ gate_len body_len;
+  }
+
+  pub gate_schedule : IsSchedule example_start (up_to_gate guest.written guest.ended)
+  gate_schedule = (
+    can_write,
+    (
+      can_exit,
+      (
+        record { guest = omega arith; next = refl; room = omega arith; here = refl },
+        (
+          record { guest = omega arith; next = refl; room = omega arith; here = refl },
+          (record { guest = omega arith; next = refl; room = omega arith; here = refl }, (refl, (refl, (refl, (can_commit, (refl, (refl, tt))))))),
+        ),
+      ),
+    ),
+  )
+
+  byte_put : IsOutput ((1, 0x7F) ∷ []) all_three
+  byte_put = (
+    the_byte,
+    (example_state, opens, (guest.written, the_byte, [], guest.writes, guest.puts_byte, (guest.ended, [], [], guest.exits, guest.puts_nothing, refl, refl), refl)),
+    ([], refl),
+  )
+
+  pub release_schedule : IsSchedule example_start (up_to_release guest.written guest.ended)
+  release_schedule = schedule_both example_start (up_to_gate guest.written guest.ended) from_gate_on gate_schedule (
+    refl,
+    (omega arith, (omega arith, ((omega arith, byte_put), (tt, (omega arith, (omega arith, (omega arith, tt))))))),
+  )
+
+pub byte_leaves : (written ended : State) × IsSchedule example_start (up_to_release written ended)
+    × (((run example_start (up_to_release written ended)).recorders 0).out ≡ (1, 0x7F) ∷ []) × (ended.ended ≡ Some (Exited 1))
+byte_leaves = (guest_ends.written, guest_ends.ended, release_schedule guest_ends, refl, guest_ends.exited)
