@@ -1,8 +1,11 @@
 pub mod Sizes
 pub mod Outcomes
+pub mod Turned
 pub mod Gained
+pub mod Halted
 pub mod Replayed
 pub mod Stopped
 pub mod Tried
 pub mod Words
 pub mod RecoveredRecordings
+pub mod Lines

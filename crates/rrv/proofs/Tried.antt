@@ -1,5 +1,5 @@
 -- What is opened again is what was recorded.
-use Rattle.std.proofs.Common.{◌≡◌, ℕ, List, [], ◌∷◌, ◌++◌, refl, sym, ◌∙◌, ap, subst}
+use Rattle.std.proofs.Common.{◌≡◌, ◌≢◌, ◌⊎◌, inl, inr, ℕ, List, [], ◌∷◌, ◌++◌, refl, sym, ◌∙◌, ap, subst}
 use Rattle.rrv_model.specs.declared.record.Record.{Record}
 use Rattle.rrv_model.specs.CrashModel.{DiskState}
 use Rattle.rrv_model.specs.State.{State}
@@ -7,34 +7,88 @@ use Rattle.rrv_model.specs.StoreText.{IsStore}
 use Rattle.rrv_model.specs.Recording.{EndsIn, items_of}
 use Rattle.rrv_model.specs.Recovered.{of_guest, IsRecovered}
 use Rattle.rrv_model.proofs.RecoveredLaws.{one_recovery}
-use Rattle.rrv.proofs.RecoveredRecordings.{recording_recovered, of_guest_all}
 use Rattle.rrv_model.proofs.RunLaws.{one_end_state}
 use Rattle.rrv_model.specs.Settled.{IsSettled}
-use Rattle.trace_log.specs.Kept.{LogValue}
-use Rattle.rrv.specs.Recorded.{HasGained, IsFirst, texts_of}
+use Rattle.trace_disk.specs.declared.mem_disk.MemDisk.{MemDisk}
+use Rattle.trace_disk.specs.MemDisk.{memory_state}
+use Rattle.trace_log.specs.Kept.{Keeps, LogValue}
+use Rattle.trace_log.specs.declared.log.LogFault.{LogFault}
+use Rattle.trace_log.specs.declared.log.LogFault.TheVariants as log_faults
+use Rattle.recover.specs.declared.fault.OpenFault.{OpenFault}
+use Rattle.recover.specs.declared.fault.OpenFault.TheVariants as open_faults
+use Rattle.rrv.specs.declared.refusal.Refusal.{Refusal}
+use Rattle.rrv.specs.declared.refusal.Refusal.TheVariants as refusals
+use Rattle.rrv.specs.Gained.{HasStopped}
+use Rattle.rrv.specs.Recorded.{IsRecordedBy, texts_of}
+use Rattle.rrv.specs.Refused.{RefusesReplay}
+use Rattle.rrv.specs.Told.{log_told, open_told}
+use Rattle.rrv.specs.Tried.{RefusesTrial}
+use Rattle.rrv.proofs.Stopped.{refuses_recording}
+use Rattle.rrv.proofs.Turned.{no_part}
+use Rattle.rrv.proofs.RecoveredRecordings.{recording_recovered, of_guest_all}
 
 settled_store : (state : DiskState) (bodies : List (List ℕ)) → IsSettled state bodies → IsStore state.content bodies
 settled_store state bodies h = record { gate = 0; behind = []; text = h.content; not_open = λ e. cc; each = h.each; count = h.count }
 
--- what is opened from the gained bodies is what was gained
-pub same_as_gained : {D : Type 0} (state : D → DiskState) (first : Record) (log : LogValue D) (found records : List Record) (recorded : State) →
-    (gained : HasGained state 0 first log [] recorded) → IsRecovered (texts_of gained.records) found → records ≡ of_guest 0 found → records ≡ gained.records
-same_as_gained state first log found records recorded gained recovered is =
-    let whole = recording_recovered 0 gained.records gained.recorded.recording gained.recorded.numbered gained.recorded.has_text in
-    is ∙ ap (of_guest 0) (one_recovery (texts_of gained.records) found gained.records recovered whole) ∙ of_guest_all 0 0 gained.records gained.recorded.numbered
+-- the texts that the log keeps stand on its disk
+pub kept_store : {D : Type 0} (state : D → DiskState) (log : LogValue D) (disk : D) (bodies : List (List ℕ)) → disk ≡ log.disk → Keeps state log bodies → IsStore (state disk).content bodies
+kept_store {D} state log disk bodies same keeps = subst (λ (d : D). IsStore (state d).content bodies) (sym same) (settled_store (state log.disk) bodies keeps.settled)
 
--- the bodies that were gained stand on the disk
-pub gained_store : {D : Type 0} (state : D → DiskState) (first : Record) (log : LogValue D) (d : D) (recorded : State) → d ≡ log.disk →
-    (gained : HasGained state 0 first log [] recorded) → IsStore (state d).content (texts_of gained.records)
-gained_store {D} state first log d recorded same gained =
-    subst (λ (x : D). IsStore (state x).content (texts_of gained.records)) (sym same) (settled_store (state log.disk) (texts_of gained.records) gained.keeps.settled)
+-- a guest's recording is what is recovered from its texts
+pub whole_recovery : (quantum : ℕ) (first : Record) (records : List Record) (s : State) → IsRecordedBy 0 quantum first records s → IsRecovered (texts_of records) records
+whole_recovery quantum first records s h = recording_recovered 0 records h.recorded.recording h.recorded.numbered h.recorded.has_text
 
--- what the records replay to is the state in which they were recorded, and their first is the one that was recorded first
-pub same_state : {D : Type 0} (state : D → DiskState) (first : Record) (log : LogValue D) (found records : List Record) (recorded replayed : State) →
-    (gained : HasGained state 0 first log [] recorded) → IsRecovered (texts_of gained.records) found → records ≡ of_guest 0 found →
-    EndsIn (items_of records) replayed → (replayed ≡ recorded) × IsFirst first records
-same_state state first log found records recorded replayed gained recovered is ends =
-    let e : records ≡ gained.records = same_as_gained state first log found records recorded gained recovered is in (
-      one_end_state (items_of gained.records) replayed recorded (subst (λ (rs : List Record). EndsIn (items_of rs) replayed) e ends) gained.recorded.ends,
-      (gained.opens.0, e ∙ gained.opens.1),
-    )
+-- the records that are found are those that were recorded
+pub found_again : (quantum : ℕ) (first : Record) (recorded recovered found : List Record) (s : State) → IsRecordedBy 0 quantum first recorded s →
+    IsRecovered (texts_of recorded) recovered → found ≡ of_guest 0 recovered → IsRecordedBy 0 quantum first found s
+found_again quantum first recorded recovered found s h is_recovered is =
+    let e : found ≡ recorded =
+    is ∙ ap (of_guest 0) (one_recovery (texts_of recorded) recovered recorded is_recovered (whole_recovery quantum first recorded s h)) ∙ of_guest_all 0 0 recorded h.recorded.numbered in
+    subst (λ (rs : List Record). IsRecordedBy 0 quantum first rs s) (sym e) h
+
+-- they replay to the state in which they were recorded
+pub same_state : (quantum : ℕ) (first : Record) (found : List Record) (recorded replayed : State) → IsRecordedBy 0 quantum first found recorded → EndsIn (items_of found) replayed → replayed ≡ recorded
+same_state quantum first found recorded replayed h ends = one_end_state (items_of found) replayed recorded ends h.recorded.ends
+
+-- ---- refusals
+
+-- a log on an empty disk isn't made only where the disk fails
+pub create_told : (fault : LogFault) → (fault ≢ log_faults.NotEmpty → fault ≡ log_faults.DeviceFailed) → log_told fault ≡ refusals.DeviceFailed
+create_told log_faults.DeviceFailed h = refl
+create_told log_faults.NotEmpty h = refl
+create_told log_faults.Broken h = let bad = h (λ e. cc) in cc
+create_told log_faults.TooLong h = let bad = h (λ e. cc) in cc
+create_told log_faults.Memory h = let bad = h (λ e. cc) in cc
+
+pub refused_for_memory : (e : Refusal) (quantum : ℕ) (first : Record) → e ≡ refusals.Memory → RefusesTrial e quantum first
+refused_for_memory e quantum first is = subst (λ r. RefusesTrial r quantum first) (sym is) tt
+
+pub refused_by_device : (e : Refusal) (quantum : ℕ) (first : Record) → e ≡ refusals.DeviceFailed → RefusesTrial e quantum first
+refused_by_device e quantum first is = subst (λ r. RefusesTrial r quantum first) (sym is) tt
+
+pub open_refused : (e : Refusal) (fault : OpenFault) (quantum : ℕ) (first : Record) → e ≡ open_told fault → (fault ≡ open_faults.DeviceFailed) ⊎ (fault ≡ open_faults.Memory) → RefusesTrial e quantum first
+open_refused e fault quantum first is which = elim which [
+  | inl failed ↦ refused_by_device e quantum first (is ∙ ap open_told failed)
+  | inr memory ↦ refused_for_memory e quantum first (is ∙ ap open_told memory)
+]
+
+pub recording_refused : (honest : MemDisk → Type 0) (faults : MemDisk → ℕ) (e : Refusal) (quantum : ℕ) (first : Record) (old new : LogValue MemDisk) → honest old.disk → Keeps memory_state old [] →
+    HasStopped honest memory_state faults 0 quantum first e old new → RefusesTrial e quantum first
+recording_refused honest faults refusals.Memory quantum first old new is_honest kept h = tt
+recording_refused honest faults refusals.DeviceFailed quantum first old new is_honest kept h = tt
+recording_refused honest faults refusals.StoreFull quantum first old new is_honest kept h =
+    record { records = h.records; unfinished = h.unfinished; log = new; keeps = h.keeps (λ e. cc) [] is_honest kept; past = h.refuses }
+recording_refused honest faults refusals.CannotReadFile quantum first old new is_honest kept h = absurd h.refuses
+recording_refused honest faults (refusals.Elf g f) quantum first old new is_honest kept h = absurd h.refuses
+recording_refused honest faults refusals.NotAStore quantum first old new is_honest kept h = absurd h.refuses
+recording_refused honest faults (refusals.Damaged n) quantum first old new is_honest kept h = absurd h.refuses
+recording_refused honest faults refusals.NewerVersion quantum first old new is_honest kept h = absurd h.refuses
+recording_refused honest faults (refusals.Unreadable n) quantum first old new is_honest kept h = absurd h.refuses
+recording_refused honest faults (refusals.Mismatch n) quantum first old new is_honest kept h = absurd h.refuses
+recording_refused honest faults refusals.BadOpening quantum first old new is_honest kept h = absurd h.refuses
+recording_refused honest faults refusals.OutputFailed quantum first old new is_honest kept h = absurd h.refuses
+
+-- what was recorded replays, unless memory is lacking
+pub replay_refused : (e : Refusal) (quantum : ℕ) (first : Record) (records : List Record) (s : State) → IsRecordedBy 0 quantum first records s → RefusesReplay e records → RefusesTrial e quantum first
+replay_refused e quantum first records s h refuses =
+    refused_for_memory e quantum first (refuses_recording e records h.recorded.recording (λ index part. no_part records quantum index h.turns part) refuses)

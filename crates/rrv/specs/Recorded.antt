@@ -1,5 +1,5 @@
 -- What it means that a guest has been recorded: its records, in a log, and the state that they end in.
-use Rattle.std.specs.Prelude.{◌≡◌, ℕ, List, [], ◌∷◌, ◌++◌, length, map, Option, None}
+use Rattle.std.specs.Prelude.{◌≡◌, ℕ, ◌≤◌, List, [], ◌∷◌, length, map, Option, None}
 use Rattle.std.specs.List.{AllByRecursion}
 use Rattle.rrv_model.specs.declared.record.End.{End}
 use Rattle.rrv_model.specs.declared.record.End.TheVariants as ends
@@ -7,15 +7,14 @@ use Rattle.rrv_model.specs.declared.record.Frame.{Frame}
 use Rattle.rrv_model.specs.declared.record.Item.{Item}
 use Rattle.rrv_model.specs.declared.record.Item.TheVariants as items
 use Rattle.rrv_model.specs.declared.record.Record.{Record}
-use Rattle.rrv_model.specs.CrashModel.{DiskState}
 use Rattle.rrv_model.specs.State.{State}
 use Rattle.rrv_model.specs.FrameStep.{FrameStep}
-use Rattle.rrv_model.specs.Recording.{IsRecording, IsNumbered, EndsIn, items_of, frames_of, frame_record}
+use Rattle.rrv_model.specs.Recording.{IsRecording, IsNumbered, EndsIn, items_of, frames_of}
 use Rattle.rrv_model.specs.Output.{Chunk, FramePuts, Output}
 use Rattle.guest_calls.specs.declared.put.Put.{Put}
 use Rattle.guest_calls.specs.Guest.{chunks_of}
 use Rattle.rrv_model.specs.RecordText.{HasText, record_text}
-use Rattle.trace_log.specs.Kept.{Keeps, LogValue}
+use Rattle.rrv.specs.Turns.{TakesTurns}
 
 -- the texts of records, each a body of its own
 abbrev pub texts_of : List Record → List (List ℕ)
@@ -32,29 +31,16 @@ pub record IsRecorded (guest : ℕ) (records : List Record) (s : State) : Type 0
   pub ends : EndsIn (items_of records) s
   pub has_text : AllByRecursion HasText records
 
--- a frame leads from old to new, and its record has a text
-pub record LeadsBy (guest index : ℕ) (f : Frame) (old new : State) : Type 0 where
-  pub step : FrameStep old f new
-  pub has_text : HasText (frame_record guest index f)
-
 -- this is the first of the records
 abbrev pub IsFirst : Record → List Record → Type 0
 IsFirst first records = (rest : List Record) × (records ≡ first ∷ rest)
 
--- the log has gained so many records of a guest, the first of them this one, which end in this state
-pub record HasGainedJust {D : Type 0} (state : D → DiskState) (guest count : ℕ) (first : Record) (log : LogValue D) (bodies : List (List ℕ)) (s : State) : Type 0 where
-  pub records : List Record
-  pub count_is : length records ≡ count
+-- The records of this guest, the first of them this one, are a recording that ends in this state, and each has a text. Its
+-- threads take turns by this quantum.
+pub record IsRecordedBy (guest quantum : ℕ) (first : Record) (records : List Record) (s : State) : Type 0 where
   pub opens : IsFirst first records
   pub recorded : IsRecorded guest records s
-  pub keeps : Keeps state log (bodies ++ texts_of records)
-
--- the log has gained the records of a guest, the first of them this one, which end in this state
-pub record HasGained {D : Type 0} (state : D → DiskState) (guest : ℕ) (first : Record) (log : LogValue D) (bodies : List (List ℕ)) (s : State) : Type 0 where
-  pub records : List Record
-  pub opens : IsFirst first records
-  pub recorded : IsRecorded guest records s
-  pub keeps : Keeps state log (bodies ++ texts_of records)
+  pub turns : TakesTurns quantum (items_of records)
 
 -- the record is this guest's, at this index, and its frame leads from old to new and puts this out
 pub record IsNextFrame (guest index : ℕ) (r : Record) (old new : State) (chunks : List Chunk) : Type 0 where
@@ -89,3 +75,10 @@ PutsByCall (ends.Call r) kept put = chunks_of put ≡ kept
 PutsByCall ends.Preempt kept put = put ≡ None
 PutsByCall (ends.Fault kind) kept put = put ≡ None
 PutsByCall ends.Stuck kept put = put ≡ None
+
+-- the frame ends in a call that put something out
+abbrev pub HasPut : End → List Chunk → Type 0
+HasPut (ends.Call r) kept = 1 ≤ length kept
+HasPut ends.Preempt kept = ⊥
+HasPut (ends.Fault kind) kept = ⊥
+HasPut ends.Stuck kept = ⊥

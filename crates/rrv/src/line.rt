@@ -1,8 +1,10 @@
 //! What a line of words asks for.
 
-ghost use Rattle.std.specs.Prelude.{◌≡◌, IfOk, length};
+ghost use Rattle.std.specs.Prelude.{◌≡◌, ◌≤◌, IfOk, Some, length, map, option_map, unwrap_or, []};
+ghost use Rattle.clap.specs.Words.{FailsBy, app_of, fault_of, subcommand_rows_of};
+ghost use Rattle.rrv.specs.Line.{elf_among, elf_in, elf_requested, program};
 
-use clap::{Arg, ArgAction, Command, Error};
+use clap::{Arg, ArgAction, ArgMatches, Command, Error};
 use std::alloc::{AllocError, Global};
 use std::convert::AsStr;
 
@@ -15,7 +17,9 @@ pub enum Request<'a> {
     Try { elf: &'a str },
 }
 
-fn command<'a>(alloc: Global) -> Result<Command<'a>, AllocError> {
+fn command<'a>(alloc: Global) -> Result<Command<'a>, AllocError>
+    ensures { IfOk result (λ command. app_of command ≡ program) }
+{
     let elf = Arg::new(alloc, "ELF")
         .required(true)
         .action(ArgAction::Set)
@@ -31,21 +35,29 @@ fn command<'a>(alloc: Global) -> Result<Command<'a>, AllocError> {
         .subcommand(attempt)
 }
 
+/// The file that was found.
+fn elf_of<'a>(matches: &ArgMatches<'a>) -> Option<&'a str>
+    ensures { option_map (λ elf. elf.now) result ≡ elf_among (subcommand_rows_of matches.now) }
+{
+    match matches.subcommand() {
+        Some((_, attempt)) => attempt.get_str("ELF"),
+        None => None,
+    }
+}
+
 /// Reads the words after the program's name. No word at all asks for the demonstration; else a word that the
 /// command line doesn't have, or lacks, and a call for help, are the parser's error, whose text says so.
 pub fn line<'a, S: AsStr>(alloc: Global, words: &'a [S]) -> Result<Request<'a>, Error>
     ensures none { length words.now ≡ 0 → result ≡ Ok Request.Demonstration }
     ensures some { IfOk result (λ request. request ≡ Request.Demonstration → length words.now ≡ 0) }
+    ensures file { 1 ≤ length words.now → IfOk result (λ request. elf_requested request ≡ Some (unwrap_or (elf_in (map S.text words.now)) [])) }
+    ensures kinds { 1 ≤ length words.now → FailsBy (fault_of program (map S.text words.now)) result }
 {
     if words.is_empty() {
         return Ok(Request::Demonstration);
     }
     let matches = command(alloc)?.try_get_matches_from(words)?;
-    let elf = match matches.subcommand() {
-        Some((_, attempt)) => attempt.get_str("ELF"),
-        None => None,
-    };
     Ok(Request::Try {
-        elf: elf.unwrap_or(""),
+        elf: elf_of(&matches).unwrap_or(""),
     })
 }

@@ -35,6 +35,8 @@ mod c_program;
 #[cfg(test)]
 mod every_instruction;
 #[cfg(test)]
+mod recording_tests;
+#[cfg(test)]
 mod tests;
 #[cfg(test)]
 mod text_tests;

@@ -2,6 +2,7 @@
 
 ghost use Rattle.std.specs.Prelude.{◌≡◌, ◌≢◌};
 ghost use Rattle.std.specs.IoError.{error_kind};
+ghost use Rattle.rrv.specs.Told.{elf_told, log_told, open_told, read_told};
 ghost use Rattle.rrv.specs.declared.refusal.Refusal.TheVariants as refusals;
 
 use elf_load::fault::ElfFault;
@@ -79,6 +80,8 @@ impl From<Memory> for Refusal {
 }
 
 impl From<LogFault> for Refusal {
+    ghost from_gives = { λ fault e. e ≡ log_told fault };
+
     fn from(fault: LogFault) -> Self {
         match fault {
             LogFault::DeviceFailed | LogFault::Broken | LogFault::NotEmpty => Refusal::DeviceFailed,
@@ -89,6 +92,8 @@ impl From<LogFault> for Refusal {
 }
 
 impl From<OpenFault> for Refusal {
+    ghost from_gives = { λ fault e. e ≡ open_told fault };
+
     fn from(fault: OpenFault) -> Self {
         match fault {
             OpenFault::NotAStore => Refusal::NotAStore,
@@ -102,7 +107,9 @@ impl From<OpenFault> for Refusal {
 
 impl Refusal {
     /// The refusal of a guest's record of this index.
-    pub fn of_item(index: u32, fault: ReadFault) -> Self {
+    pub fn of_item(index: u32, fault: ReadFault) -> Self
+        ensures { result ≡ read_told index fault }
+    {
         match fault {
             ReadFault::DeviceFailed => Refusal::DeviceFailed,
             ReadFault::Damaged => Refusal::Unreadable { index },
@@ -133,7 +140,9 @@ impl Refusal {
     }
 
     /// The refusal of a file as the program of this guest.
-    pub fn of_elf(guest: u32, fault: ElfFault) -> Self {
+    pub fn of_elf(guest: u32, fault: ElfFault) -> Self
+        ensures { result ≡ elf_told guest fault }
+    {
         match fault {
             ElfFault::Memory => Refusal::Memory,
             fault => Refusal::Elf { guest, fault },

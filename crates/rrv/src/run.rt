@@ -1,18 +1,21 @@
 //! Doing a line of the program.
 
-ghost use Rattle.std.specs.Prelude.{◌≤◌, IfOk, length};
+ghost use Rattle.std.specs.Prelude.{◌≡◌, ◌≢◌, ◌≤◌, ◌⊎◌, IfErr, IfOk, length, map};
+ghost use Rattle.std.specs.IoError.{error_kind};
+ghost use Rattle.clap.specs.Words.{fault_of, kind_of};
+ghost use Rattle.rrv.specs.Line.{IsStatus, program, status_of};
 
 use crate::exit_five::EXIT_FIVE;
 use crate::line::{Request, line};
 use crate::refusal::Refusal;
 use crate::text::{RecordLine, VerifyLine};
 use crate::trial::{Trial, try_image};
-use clap::error::ErrorKind;
+use clap::error::ErrorKind as LineFault;
 use elf_load::image::parse;
 use guest_calls::Put;
 use rrv_model::limits::MAX_ELF;
 use std::convert::AsStr;
-use std::io::{Read, Write};
+use std::io::{ErrorKind, Read, Write};
 use std::rt::Files;
 use std::{fs, io};
 
@@ -31,26 +34,21 @@ pub fn run<R: Files + AllocGlobal, S: AsStr, O: Write, E: Write>(
     out: &mut O,
     err: &mut E,
 ) -> u8
-    ensures { result ≤ 2 }
+    ensures some { 1 ≤ length words.now → IsStatus (fault_of program (map S.text words.now)) result }
+    ensures none { length words.now ≡ 0 → result ≤ 1 }
 {
-    let request = match line(rt.alloc(), words) {
-        Ok(request) => request,
-        Err(error) => return report(&error, out, err),
-    };
-    match perform(rt, request, out, err) {
-        Ok(()) => 0,
-        Err(refusal) => {
-            let _ = writeln!(err, "rrv: {refusal}");
-            1
-        }
+    match line(rt.alloc(), words) {
+        Ok(request) => carry_out(rt, request, out, err),
+        Err(error) => report(&error, out, err),
     }
 }
 
 /// Tells why the words of a line can't be read, and answers the status: 1 for want of memory, else 2.
 pub fn report_unread<E: Write>(error: &io::Error, err: &mut E) -> u8
-    ensures { result ≤ 2 }
+    ensures memory { error_kind error.now ≡ ErrorKind.OutOfMemory → result ≡ 1 }
+    ensures other { error_kind error.now ≢ ErrorKind.OutOfMemory → result ≡ 2 }
 {
-    if error.kind() == io::ErrorKind::OutOfMemory {
+    if error.kind() == ErrorKind::OutOfMemory {
         let memory = Refusal::Memory;
         let _ = writeln!(err, "rrv: {memory}");
         return 1;
@@ -61,18 +59,38 @@ pub fn report_unread<E: Write>(error: &io::Error, err: &mut E) -> u8
 
 /// Tells what the parser of the line says, where that belongs.
 fn report<O: Write, E: Write>(error: &clap::Error, out: &mut O, err: &mut E) -> u8
-    ensures { result ≤ 2 }
+    ensures { result ≡ status_of (kind_of error.now) }
 {
-    if error.kind() == ErrorKind::OutOfMemory {
-        let memory = Refusal::Memory;
-        let _ = writeln!(err, "rrv: {memory}");
+    match error.kind() {
+        LineFault::OutOfMemory => {
+            let memory = Refusal::Memory;
+            let _ = writeln!(err, "rrv: {memory}");
+            1
+        }
+        LineFault::DisplayHelp | LineFault::DisplayVersion => {
+            let _ = write!(out, "{error}");
+            0
+        }
+        _ => {
+            let _ = write!(err, "{error}");
+            2
+        }
+    }
+}
+
+/// Does what is asked for, or tells why not, and answers the status.
+fn carry_out<R: Files + AllocGlobal, O: Write, E: Write>(
+    rt: &R,
+    request: Request<'_>,
+    out: &mut O,
+    err: &mut E,
+) -> u8
+    ensures { (result ≡ 0) ⊎ (result ≡ 1) }
+{
+    if let Err(refusal) = perform(rt, request, out, err) {
+        let _ = writeln!(err, "rrv: {refusal}");
         return 1;
     }
-    if error.use_stderr() {
-        let _ = write!(err, "{error}");
-        return 2;
-    }
-    let _ = write!(out, "{error}");
     0
 }
 
@@ -93,7 +111,8 @@ fn perform<R: Files + AllocGlobal, O: Write, E: Write>(
 
 /// The bytes of a file, up to the limit of a program.
 fn read_program<R: Files + AllocGlobal>(rt: &R, path: &str) -> Result<Vec<u8>, Refusal>
-    ensures { IfOk result (λ bytes. length bytes.items ≤ 2_097_152) }
+    ensures within { IfOk result (λ bytes. length bytes.items ≤ 2_097_152) }
+    ensures refused { IfErr result (λ e. (e ≡ Refusal.Memory) ⊎ (e ≡ Refusal.CannotReadFile)) }
 {
     let file = fs::open(rt, path).map_err(|error| Refusal::of_read(&error))?;
     let mut bytes = Vec::new(rt.alloc());

@@ -3,11 +3,13 @@
 use crate::refusal::Refusal;
 use crate::text::{EndText, RecordLine, VerifyLine};
 use elf_load::fault::ElfFault;
+use recover::{OpenFault, ReadFault};
 use rrv_model::items::Items;
 use rrv_model::machine::{FaultKind, GuestEnd};
 use rrv_model::record::{CallRecord, End, Frame, Item, PagePart, Part, Record, Rest, Written};
 use std::alloc::{AllocError, Global};
 use std::test::*;
+use trace_log::LogFault;
 
 fn line_of(alloc: Global, index: u32, item: Item) -> Result<String, AllocError> {
     let record = Record {
@@ -155,8 +157,48 @@ fn texts_of_refusals(rt: HostRuntime) -> Result<(), Fail> {
         (Refusal::Damaged { segment: 0 }, "damaged segment 0"),
         (Refusal::Mismatch { index: 1 }, "record 1 does not replay"),
         (Refusal::BadOpening, "bad opening"),
+        (Refusal::NewerVersion, "newer version"),
+        (Refusal::Unreadable { index: 1 }, "record 1 unreadable"),
         (Refusal::OutputFailed, "output failed"),
         (Refusal::Memory, "out of memory"),
+    ];
+    for (refusal, want) in refusals {
+        assert_eq!(rt; format!(in alloc; "{refusal}")?.as_str(), want);
+    }
+    Ok(())
+}
+
+#[test]
+fn refusals_of_the_layers_below(rt: HostRuntime) -> Result<(), Fail> {
+    let alloc = rt.alloc();
+    let refusals = [
+        (Refusal::from(LogFault::DeviceFailed), "device failed"),
+        (Refusal::from(LogFault::Broken), "device failed"),
+        (Refusal::from(LogFault::TooLong), "store full"),
+        (Refusal::from(LogFault::Memory), "out of memory"),
+        (Refusal::from(OpenFault::NotAStore), "not a store"),
+        (
+            Refusal::from(OpenFault::Damaged { segment: 3 }),
+            "damaged segment 3",
+        ),
+        (Refusal::from(OpenFault::DeviceFailed), "device failed"),
+        (Refusal::from(OpenFault::Memory), "out of memory"),
+        (Refusal::from(OpenFault::NewerVersion), "newer version"),
+        (
+            Refusal::of_item(4, ReadFault::Damaged),
+            "record 4 unreadable",
+        ),
+        (
+            Refusal::of_item(4, ReadFault::DeviceFailed),
+            "device failed",
+        ),
+        (Refusal::of_item(4, ReadFault::Memory), "out of memory"),
+        (
+            Refusal::of_elf(3, ElfFault::NotElf),
+            "guest 3: elf refusal 2",
+        ),
+        (Refusal::DeviceFailed.of_trial(), "out of memory"),
+        (Refusal::StoreFull.of_trial(), "store full"),
     ];
     for (refusal, want) in refusals {
         assert_eq!(rt; format!(in alloc; "{refusal}")?.as_str(), want);

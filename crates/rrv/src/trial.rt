@@ -1,12 +1,13 @@
 //! A trial of a program: it is recorded to a disk in memory, and what the disk holds is opened again and replayed.
 
-ghost use Rattle.std.specs.Prelude.{◌≡◌, ◌++◌, ◌∷◌, [], ℕ, List, IsSome, IfOk, None};
-ghost use Rattle.rrv_model.specs.Elf.{refusal};
+ghost use Rattle.std.specs.Prelude.{◌≡◌, IsSome, IfOk, IfErr};
 ghost use Rattle.rrv_model.specs.Opening.{IsName};
 ghost use Rattle.rrv_model.specs.Recording.{IsRecording, EndsIn, items_of};
 ghost use Rattle.guest_calls.specs.Guest.{state_of};
 ghost use Rattle.serial_sched.specs.Slices.{IsQuantum};
 ghost use Rattle.rrv.specs.Recorded.{IsFirst, OutputOf, chunks_in, opening_of};
+ghost use Rattle.rrv.specs.Tried.{RefusesTrial};
+ghost use Rattle.rrv.specs.Turns.{TakesTurns};
 
 use crate::recording::record_guest;
 use crate::refusal::Refusal;
@@ -41,14 +42,16 @@ pub fn try_image(
     ensures recording { IfOk result (λ trial. IsRecording trial.records.items) }
     ensures ends { IfOk result (λ trial. EndsIn (items_of trial.records.items) (state_of trial.replayed.guest)) }
     ensures output { IfOk result (λ trial. OutputOf (items_of trial.records.items) (chunks_in trial.replayed.output.items)) }
+    ensures turns { IfOk result (λ trial. TakesTurns quantum (items_of trial.records.items)) }
     ensures ended { IfOk result (λ trial. IsSome (state_of trial.recorded).ended) }
     ensures same { IfOk result (λ trial. state_of trial.replayed.guest ≡ state_of trial.recorded) }
+    ensures refused { IfErr result (λ e. RefusesTrial e quantum (opening_of 0 image.now name.now random)) }
 {
     let mut log = match Log::create(MemDisk::new(alloc)) {
         Ok(log) => log,
         Err((_, fault)) => return Err(Refusal::from(fault)),
     };
-    let recorded = record_guest(alloc, &mut log, 0, image, name, random, quantum)?;
+    let recorded = record_guest(alloc, &mut log, image, name, random, quantum)?;
     let (log, lists) = match open(alloc, log.close()) {
         Ok(opened) => opened,
         Err((_, fault)) => return Err(Refusal::from(fault)),

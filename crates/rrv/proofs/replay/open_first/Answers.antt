@@ -13,5 +13,5 @@ returns-in-Opening-clause-opens c = if_ok_then c.open_guest.result _ _
 
 pub returns-in-Opening-clause-refused : goal.returns-in-Opening-clause-refused
 returns-in-Opening-clause-refused c = IfErr-weaker c.open_guest.result _ _
-    (λ e refuses. refused_opening e c.args.first.now c.in-Opening.opening c.in-Opening.is refuses)
+    (λ e refuses. refused_opening e c.args.first.now c.in-Opening.opening (search rules) c.in-Opening.is refuses)
     c.open_guest.ensures.refused
