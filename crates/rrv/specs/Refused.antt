@@ -16,10 +16,10 @@ use Rattle.rrv.specs.declared.refusal.Refusal.{Refusal}
 use Rattle.rrv.specs.declared.refusal.Refusal.TheVariants as refusals
 
 -- An opening is refused where no state is its opening state. Memory is taken for it only where its name is one, and its file
--- is refused by none of the first nine tests.
+-- is refused by none of the first twelve tests.
 abbrev pub RefusesOpening : Refusal → Opening → Type 0
 RefusesOpening refusals.BadOpening o = (s : State) → Opens o.elf o.name o.random s → ⊥
-RefusesOpening refusals.Memory o = IsName o.name × IsPastRefusal 9 o.elf
+RefusesOpening refusals.Memory o = IsName o.name × IsPastRefusal 12 o.elf
 RefusesOpening _ o = ⊥
 
 -- a first record is refused where it is no recording alone
