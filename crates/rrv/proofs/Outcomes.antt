@@ -1,5 +1,5 @@
 -- What holds of an answer, from what holds of it.
-use Rattle.std.proofs.Common.{◌≡◌, sym, ◌∙◌, Result, Ok, Err, OnOk, IfOk, Option, Some, None, false, is_some}
+use Rattle.std.proofs.Common.{◌≡◌, sym, Result, Ok, Err, OnOk, IfOk, Option, Some, None, false, is_some}
 
 pub on_ok_then : {T E : Type 0} (r : Result T E) (P Q : Type 0) → (P → Q) → OnOk r P → OnOk r Q
 on_ok_then (Ok x) P Q f h = f h

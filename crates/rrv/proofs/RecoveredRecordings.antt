@@ -1,6 +1,6 @@
 -- A recording whose records are a body each is recovered.
-use Rattle.std.proofs.Common.{◌≡◌, ◌≢◌, inl, inr, ℕ, ◌+◌, ◌==◌, cond, List, [], ◌∷◌, ◌++◌, length, map, refl, sym, ap, subst, ◌∙◌, arith}
-use Rattle.std.specs.Prelude.{filter, flat_map}
+use Rattle.std.proofs.Common.{◌≡◌, ◌≢◌, inl, inr, ℕ, ◌+◌, cond, List, [], ◌∷◌, ◌++◌, map, refl, sym, ap, subst, ◌∙◌, arith}
+use Rattle.std.specs.Prelude.{flat_map}
 use Rattle.std.specs.List.{AllByRecursion}
 use Rattle.std.proofs.lemmas.Bool.{cases_eq}
 use Rattle.std.proofs.lemmas.Bool.Decides.{eqb_tells}
@@ -12,7 +12,7 @@ use Rattle.rrv_model.specs.declared.record.Record.{Record}
 use Rattle.rrv_model.specs.State.{State}
 use Rattle.rrv_model.specs.RecordText.{HasText, record_text}
 use Rattle.rrv_model.specs.Recording.{IsNumbered, IsRecording, ItemsFollow, Starts, items_of, base_after, row_after}
-use Rattle.rrv_model.specs.Recovered.{body_text, AreBodyTexts, of_guest, IsOpening, OpensAtZero, AreInOrder, IsRecovered}
+use Rattle.rrv_model.specs.Recovered.{AreBodyTexts, of_guest, IsOpening, OpensAtZero, IsRecovered}
 
 -- a record behind the first is no Opening
 later : (index : ℕ) (r : Record) → r.index ≡ index + 1 → (IsOpening r.item → ⊥) → OpensAtZero r

@@ -1,5 +1,5 @@
 -- Where a replay stops no longer recording begins.
-use Rattle.std.proofs.Common.{◌≡◌, ◌⊎◌, inl, inr, ℕ, zero, suc, ◌+◌, ◌<◌, ◌≤◌, None, Some, List, [], ◌∷◌, ◌++◌, length, take, get_or, refl, sym, ◌∙◌, ap, subst, arith}
+use Rattle.std.proofs.Common.{◌≡◌, inl, inr, ℕ, zero, suc, ◌+◌, ◌<◌, ◌≤◌, None, Some, List, [], ◌∷◌, ◌++◌, length, take, get_or, refl, sym, ◌∙◌, ap, subst, arith}
 use Rattle.std.specs.Prelude.{slice_get, IsSomeAnd}
 use Rattle.std.proofs.Math.Seq.{take-suc}
 use Rattle.std.proofs.lemmas.List.{length-take-le}
@@ -25,7 +25,7 @@ use Rattle.rrv.specs.declared.refusal.Refusal.{Refusal}
 use Rattle.rrv.specs.declared.refusal.Refusal.TheVariants as refusals
 use Rattle.rrv.specs.Recorded.{HasPut, IsNextFrame, IsReplayed}
 use Rattle.serial_sched.specs.Slices.{CallPuts}
-use Rattle.rrv.specs.Refused.{IsPart, LacksMemory, LeadsNowhere, TakesMemory, RefusesOpening, RefusesFirst, RefusesRecord, RefusesReplay, StopsAt}
+use Rattle.rrv.specs.Refused.{IsPart, LacksMemory, LeadsNowhere, RefusesOpening, RefusesFirst, RefusesRecord, RefusesReplay, StopsAt}
 
 -- what an item at the end of a recording says of the state before it
 GoesOn : Item → State → Type 0

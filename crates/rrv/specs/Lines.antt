@@ -1,5 +1,5 @@
 -- The printed lines, without their newline. Words in hexadecimal have eight lower-case digits, other numbers are decimal.
-use Rattle.std.specs.Prelude.{ℕ, ◌+◌, ◌-◌, ◌^◌, List, ◌++◌, length, replicate, flat_map, sum_by, min, codes, Option, Some, None, false}
+use Rattle.std.specs.Prelude.{ℕ, ◌-◌, ◌^◌, List, ◌++◌, length, replicate, flat_map, sum_by, min, codes, Option, Some, None, false}
 use Rattle.std.specs.Fmt.{decimal, digits}
 use Rattle.std.specs.Char.{encode_utf8}
 use Rattle.rrv_model.specs.declared.machine.GuestEnd.{GuestEnd}

@@ -1,11 +1,11 @@
-use Rattle.std.proofs.Common.{◌≡◌, [], ℕ, List, subst}
+use Rattle.std.proofs.Common.{[], List, subst}
 use Rattle.std.proofs.lemmas.Result.{err_from_is_err_and}
 use Rattle.rrv_model.specs.declared.record.Record.{Record}
 use Rattle.rrv_model.specs.Recording.{EndsIn, items_of}
 use Rattle.trace_disk.specs.contracts.mem_disk.MemDiskDisk.TheImpl.{ghosts}
 use Rattle.guest_calls.specs.Guest.{state_of}
 use Rattle.rrv.specs.Gained.{HasGained, HasStopped}
-use Rattle.rrv.specs.Recorded.{IsRecordedBy, opening_of, texts_of}
+use Rattle.rrv.specs.Recorded.{opening_of, texts_of}
 use Rattle.rrv.specs.Refused.{RefusesReplay}
 use Rattle.rrv.proofs.Tried.{found_again, kept_store, open_refused, recording_refused, replay_refused, same_state, whole_recovery}
 use Rattle.rrv.proofs.trial.try_image.Goals as goal
