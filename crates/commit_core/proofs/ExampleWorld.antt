@@ -97,7 +97,6 @@ starts_on bodies number old low recovered next sizes few = record {
   count = omega (arith, few);
   disk = record { read = refl; synced = refl };
   ready = λ g one. ready number g low one;
-  no_others = λ g l. refl;
   queue = refl;
   words = λ k. refl;
   flusher = refl;

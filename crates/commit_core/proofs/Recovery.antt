@@ -16,7 +16,7 @@ use Rattle.commit_core.specs.World.{World, made, committed, stored_bodies, joine
 use Rattle.commit_core.specs.Facts.{Replays, Recovers, IsRun}
 use Rattle.commit_core.specs.Sessions.{IsStoreOf}
 use Rattle.commit_core.proofs.Lists.{all_both, all_front, all_back, all_weaker, of_guest-append, none_of_guest, joined-append, joined-push}
-use Rattle.commit_core.proofs.Runs.{output_further, recording_front, below_total, at_total_is_end, items_of-append}
+use Rattle.commit_core.proofs.Runs.{output_further, recording_front, there_is, below_total, at_total_is_end, items_of-append}
 use Rattle.commit_core.proofs.Holds.{total, IsOwn, Holds}
 use Rattle.commit_core.proofs.Stages.{Outcome, Gives, some_records, outcome_at, sound_outcome, closed_sound, outcome_store_of}
 
@@ -63,6 +63,7 @@ replays_front (x ∷ front) rest whole number states is some run =
     subst (λ (l : List Record). IsSomeAnd (slice_get states k) (EndsIn (items_of l))) front_is (run.had k (omega (arith, ap length is, length-append (x ∷ front) rest))) in
     record {
       recording = recording_front (x ∷ front) rest (subst IsRecording (sym is) run.recording) some;
+      there = there_is (items_of (x ∷ front)) (recording_front (x ∷ front) rest (subst IsRecording (sym is) run.recording) some).starts;
       below = λ t s l. subst (λ (w : List Item). IsAt (items_of (x ∷ front)) t s ↔ IsAt w t s) (sym whole_is) (below_total (items_of (x ∷ front)) (items_of rest) t s l);
       at_total = λ s. subst (λ (n : ℕ). IsAt (items_of (x ∷ front)) (total_of (items_of (x ∷ front))) s ↔ slice_get states n ≡ Some s) (omega arith) (had_state (slice_get states k) had s);
     }
@@ -190,6 +191,7 @@ module _ (w : World) (old : List Record) (holds : Holds w old) (batches : List (
     );
     holds = λ g l. omega (arith, seen_in g l, ap length (upper (w.first + g) (omega arith)));
     output = λ g l. subst (IsOutput (w.recorders g).out) (sym (upper (w.first + g) (omega arith))) (put_out g l);
+    none_above = λ h l. upper h (omega (arith, l)) ∙ none_of_guest h (joined batches) (all_weaker (IsOwn w.first w.guests) (λ r. r.guest ≢ h) (joined batches) (λ r o e. omega (arith, o.high, e, l)) own);
     kept = lower;
     replays = λ g l some.
         subst (λ (k : List Record). Replays k (made (w.recorders g)) (w.recorders g).states) (sym (upper (w.first + g) (omega arith)))

@@ -1,5 +1,5 @@
 -- Output and states of a beginning of a recording.
-use Rattle.std.proofs.Common.{◌≡◌, ◌≢◌, ℕ, ◌+◌, ◌-◌, ◌<◌, ◌≤◌, Bool, true, false, nat_le, List, [], ◌∷◌, ◌++◌, length, take, refl, sym, ◌∙◌, ap, subst, arith, append_assoc}
+use Rattle.std.proofs.Common.{◌≡◌, ◌≢◌, ℕ, zero, suc, ◌+◌, ◌-◌, ◌<◌, ◌≤◌, Bool, true, false, nat_le, List, [], ◌∷◌, ◌++◌, length, take, refl, sym, ◌∙◌, ap, subst, arith, append_assoc}
 use Rattle.std.specs.Prelude.{MatchBool, ◌↔◌}
 use Rattle.std.specs.List.{AllByRecursion}
 use Rattle.std.proofs.lemmas.Bool.Decides.{nat_tests}
@@ -216,3 +216,43 @@ starts_open guest (r ∷ rs) h n =
 -- in a recording index 0 is an Opening, and no other is
 pub recording_opens : (guest : ℕ) (rs : List Record) → IsRecording rs → IsNumbered guest 0 rs → AllByRecursion OpensAtZero rs
 recording_opens guest rs is n = starts_open guest rs is.starts n
+
+-- ---- states are there
+
+steps_front : (n m tid : ℕ) (s last : State) → m ≤ n → Steps n tid s last → (mid : State) × Steps m tid s mid
+steps_front n zero tid s last l h = (s, refl)
+steps_front zero (suc m) tid s last l h = absurd (omega (arith, l))
+steps_front (suc n) (suc m) tid s last l h =
+    let rest = steps_front n m tid h.0 last (omega (arith, l)) h.2 in (rest.0, (h.0, h.1, rest.1))
+
+within_frame : (end : End) (s new : State) (f : Frame) (t : ℕ) → FrameStepBy end s f.tid f.count new → t < f.count → (at : State) × Steps t f.tid s at
+within_frame ends.Preempt s new f t goes l = steps_front f.count t f.tid s goes.last (omega (arith, l)) goes.steps
+within_frame (ends.Call r) s new f t goes l = steps_front (f.count - 1) t f.tid s goes.before (omega (arith, l)) goes.steps
+within_frame (ends.Fault kind) s new f t goes l = steps_front (f.count - 1) t f.tid s goes.before (omega (arith, l)) goes.steps
+within_frame ends.Stuck s new f t goes l = absurd (omega (arith, goes.no_step, l))
+
+there_by : (b : Bool) (s : State) (f : Frame) (fs : List Frame) (t : ℕ) →
+    (b ≡ true → (at : State) × (mid : State) × FrameStep s f mid × StateAtFrom mid fs (t - f.count) at) →
+    (b ≡ false → (at : State) × Steps t f.tid s at) →
+    (at : State) × MatchBool b ((mid : State) × FrameStep s f mid × StateAtFrom mid fs (t - f.count) at) (Steps t f.tid s at)
+there_by true s f fs t behind within = let y = behind refl in (y.0, (y.1, y.2, y.3))
+there_by false s f fs t behind within = within refl
+
+below_count : (count t : ℕ) → nat_le count t ≡ false → t < count
+below_count count t lt = grind (arith, nat_tests)
+
+there_from : (base : State) (parts : List Part) (s : State) (rest : List Item) → ItemsFollow base parts s rest → (t : ℕ) → t < total (frames_of rest) →
+    (at : State) × StateAtFrom s (frames_of rest) t at
+there_from base parts s [] h t l = absurd (omega (arith, l))
+there_from base parts s (items.Opening o ∷ rest) h t l = absurd h
+there_from base parts s (items.Frame f ∷ rest) h t l =
+    there_by (nat_le f.count t) s f (frames_of rest) t
+    (λ le. let more = there_from base [] h.0 rest h.2 (t - f.count) (within_rest f.count t (total (frames_of rest)) (subst (λ n. t < n) (sum_by-cons (λ (g : Frame). g.count) f (frames_of rest)) l) le) in (more.0, h.0, h.1, more.1))
+    (λ lt. within_frame f.end s h.0 f t h.1.goes (below_count f.count t lt))
+there_from base parts s (items.Part p ∷ rest) h t l = there_from (base_after p.rest base s) (row_after p.rest (parts ++ p ∷ [])) s rest h.1 t l
+
+pub there_is : (is : List Item) → Starts is → (t : ℕ) → t < total_of is → (s : State) × IsAt is t s
+there_is [] h t l = absurd h
+there_is (items.Opening o ∷ rest) h t l = let more = there_from h.0 [] h.0 rest h.2 t l in (more.0, (h.0, h.1, more.1))
+there_is (items.Frame f ∷ rest) h t l = absurd h
+there_is (items.Part p ∷ rest) h t l = absurd h

@@ -132,16 +132,18 @@ record Law (earlier : List Report) (sessions : List Session) (end : DiskState) :
   pub grown : EachGrown earlier (reports sessions)
   pub growing : AreGrowing (reports sessions)
   pub last : (c : List ℕ) → IsCrash end.pending c → CanOpen c
+  pub read : CanOpen end.content
 
 law : (earlier : List Report) (disk : DiskState) (sessions : List Session) (end : DiskState) → Good (Fine earlier) disk → AreSessions disk sessions end → Law earlier sessions end
 law earlier disk [] end good is = record {
   grown = tt;
   growing = tt;
+  read = subst (λ (d : DiskState). CanOpen d.content) (sym is) (weaker_store earlier disk.content (good disk.content (inl refl)));
   last = λ c crash. weaker_store earlier c (good c (inr (subst (λ (d : DiskState). IsCrash d.pending c) is crash)));
 }
 law earlier disk (StoppedOpening ∷ sessions) end good (stop, next, goes, stopped, rest) =
     let more = law earlier next sessions end (stopped_good (Fine earlier) stop next (good_open (Fine earlier) disk good goes.0 goes.1 stop goes.2) stopped) rest in
-    record { grown = more.grown; growing = more.growing; last = more.last }
+    record { grown = more.grown; growing = more.growing; last = more.last; read = more.read }
 law earlier disk (Ran start old events ∷ sessions) end good (stop, next, goes, stopped, rest) =
     let here = good disk.content (inl refl) in
     let same : here.bodies ≡ start.bodies = (store_parts disk.content here.bodies start.bodies here.store goes.0).0 in
@@ -158,10 +160,11 @@ law earlier disk (Ran start old events ∷ sessions) end good (stop, next, goes,
       grown = (grows_to earlier start.bodies start.first grow, parts.1);
       growing = (parts.0, more.growing);
       last = more.last;
+      read = more.read;
     }
 
 pub sessions_law : (content : List ℕ) (sessions : List Session) (end : DiskState) → CanOpen content → AreSessions (fresh_disk content) sessions end
-    → AreGrowing (reports sessions) × ((c : List ℕ) → IsCrash end.pending c → CanOpen c)
+    → AreGrowing (reports sessions) × ((c : List ℕ) → IsCrash end.pending c → CanOpen c) × CanOpen end.content
 sessions_law content sessions end can are =
     let it = law [] (fresh_disk content) sessions end (good_rest (Fine []) (fresh_disk content) content (record { read = refl; synced = refl }) (first_store content can)) are in
-    (it.growing, it.last)
+    (it.growing, it.last, it.read)

@@ -69,6 +69,7 @@ pub record Facts (w : World) : Type 0 where
 -- states are those of the run; at their total it is the state that the guest had when just these had been made.
 pub record Replays (records whole : List Record) (states : List State) : Type 0 where
   pub recording : IsRecording records
+  pub there : (t : ℕ) → t < total_of (items_of records) → (s : State) × IsAt (items_of records) t s
   pub below : (t : ℕ) (s : State) → t < total_of (items_of records) → IsAt (items_of records) t s ↔ IsAt (items_of whole) t s
   pub at_total : (s : State) → IsAt (items_of records) (total_of (items_of records)) s ↔ slice_get states (length records - 1) ≡ Some s
 
@@ -82,6 +83,7 @@ pub record Recovers (w : World) (old : List Record) (content : List ℕ) : Type 
   pub beginning : (g : ℕ) → g < w.guests → IsBeginning (of_guest (w.first + g) records) (made (w.recorders g))
   pub holds : (g : ℕ) → g < w.guests → (w.recorders g).seen ≤ length (of_guest (w.first + g) records)
   pub output : (g : ℕ) → g < w.guests → IsOutput (w.recorders g).out (of_guest (w.first + g) records)
+  pub none_above : (number : ℕ) → w.first + w.guests ≤ number → of_guest number records ≡ []
   pub kept : (number : ℕ) → number < w.first → of_guest number records ≡ of_guest number old
   pub replays : (g : ℕ) → g < w.guests → of_guest (w.first + g) records ≢ [] →
       Replays (of_guest (w.first + g) records) (made (w.recorders g)) (w.recorders g).states

@@ -136,7 +136,6 @@ pub record IsStart (w : World) (old : List Record) : Type 0 where
   pub count : length w.bodies ≤ 4294967295
   pub disk : IsAtRest w.disk (closed_store w.bodies)
   pub ready : (g : ℕ) → g < w.guests → IsReady (w.first + g) (w.recorders g)
-  pub no_others : (g : ℕ) → w.guests ≤ g → (w.recorders g).sent ≡ []
   pub queue : w.queue ≡ []
   pub words : (k : ℕ) → w.words k ≡ 0
   pub flusher : w.flusher ≡ nothing_done

@@ -35,6 +35,8 @@ pub fn sessions_always()
         → AreSessions (fresh_disk content) sessions end → AreGrowing (reports sessions) }
     ensures opens { (content : List ℕ) (sessions : List Session) (end : DiskState) (left : List ℕ) → CanOpen content
         → AreSessions (fresh_disk content) sessions end → IsCrash end.pending left → CanOpen left }
+    ensures reads { (content : List ℕ) (sessions : List Session) (end : DiskState) → CanOpen content
+        → AreSessions (fresh_disk content) sessions end → CanOpen end.content }
     ensures safe { (content : List ℕ) (sessions : List Session) (end : DiskState) → CanOpen content
         → AreSessions (fresh_disk content) sessions end → AllByRecursion IsSafeThroughout sessions }
     ensures opened { (disk : DiskState) (bodies : List (List ℕ)) (store : IsStore disk.content bodies)

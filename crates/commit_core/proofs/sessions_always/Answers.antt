@@ -10,6 +10,9 @@ returns-clause-grows c = λ content sessions end can are. (sessions_law content 
 pub returns-clause-opens : goal.returns-clause-opens
 returns-clause-opens c = λ content sessions end left can are crash. (sessions_law content sessions end can are).1 left crash
 
+pub returns-clause-reads : goal.returns-clause-reads
+returns-clause-reads c = λ content sessions end can are. (sessions_law content sessions end can are).2
+
 pub returns-clause-opened : goal.returns-clause-opened
 returns-clause-opened c = λ disk bodies store. open_end disk bodies store
 
