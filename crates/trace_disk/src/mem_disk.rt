@@ -24,6 +24,7 @@ fn overwrite(content: &mut Vec<u8>, at: usize, bytes: &[u8]) -> Result<(), Alloc
     ensures written { OnOk result (content.new.items ≡ overwritten content.old.items at bytes.now) }
     ensures err { OnErr result (content.new.items ≡ content.old.items) }
     ensures len { OnOk result (vec_len content.new ≤ max (vec_len content.old) (at + length bytes.now)) }
+    ensures err_len { OnErr result (vec_len content.new ≡ vec_len content.old) }
     ensures capacity { vec_capacity content.old ≤ vec_capacity content.new }
     ensures room { at + length bytes.now ≤ vec_capacity content.old → IsOk result }
 {
@@ -68,6 +69,8 @@ fn keep_call(
     ensures written_capacity { vec_capacity written.old ≤ vec_capacity written.new }
     ensures err_calls { OnErr result (calls.new.items ≡ calls.old.items) }
     ensures err_written { OnErr result (written.new.items ≡ written.old.items) }
+    ensures err_calls_len { OnErr result (vec_len calls.new ≡ vec_len calls.old) }
+    ensures err_written_len { OnErr result (vec_len written.new ≡ vec_len written.old) }
     ensures room { vec_len calls.old < vec_capacity calls.old → vec_len written.old + length bytes.now ≤ vec_capacity written.old → IsOk result }
 {
     calls.reserve(1)?;
@@ -78,7 +81,8 @@ fn keep_call(
 
 /// An honest disk in memory. It keeps each call since its start, and the bytes of each write.
 ///
-/// Within its room no call takes memory. Past it a refused growth is a failure of the device, which changes nothing.
+/// Within its room no call takes memory. Past it a refused growth is a failure of the device, which changes nothing and leaves
+/// the room.
 #[derive(Drop)]
 pub struct MemDisk {
     start: Vec<u8>,
@@ -183,6 +187,7 @@ impl MemDisk {
         ensures failures { self.new.failures ≡ self.old.failures }
         ensures room { (b c : ℕ) → HasRoom self.old (length bytes.now + b) (1 + c) → IsOk result }
         ensures room_left { (b c : ℕ) → HasRoom self.old (length bytes.now + b) (1 + c) → HasRoom self.new b c }
+        ensures room_err { (b c : ℕ) → HasRoom self.old b c → OnErr result (HasRoom self.new b c) }
     {
         reserve_to(&mut self.content, at, bytes.len())?;
         self.touched.reserve(1)?;
@@ -207,6 +212,7 @@ impl MemDisk {
         ensures failures { self.new.failures ≡ self.old.failures }
         ensures room { (b c : ℕ) → HasRoom self.old b (1 + c) → IsOk result }
         ensures room_left { (b c : ℕ) → HasRoom self.old b (1 + c) → HasRoom self.new b c }
+        ensures room_err { (b c : ℕ) → HasRoom self.old b c → OnErr result (HasRoom self.new b c) }
     {
         keep_call(&mut self.calls, &mut self.written, Call::CutTo(len), &[])?;
         self.content.truncate(len);
@@ -221,6 +227,7 @@ impl MemDisk {
         ensures failures { self.new.failures ≡ self.old.failures }
         ensures room { (b c : ℕ) → HasRoom self.old b (1 + c) → IsOk result }
         ensures room_left { (b c : ℕ) → HasRoom self.old b (1 + c) → HasRoom self.new b c }
+        ensures room_err { (b c : ℕ) → HasRoom self.old b c → OnErr result (HasRoom self.new b c) }
     {
         reserve_to(&mut self.synced, 0, self.content.len())?;
         keep_call(&mut self.calls, &mut self.written, Call::Synced, &[])?;
@@ -238,6 +245,7 @@ impl MemDisk {
         ensures state { memory_state self.new ≡ memory_state self.old }
         ensures size { memory_size self.new ≡ memory_size self.old }
         ensures counted { memory_failures self.new ≡ one_more (memory_failures self.old) }
+        ensures room { (b c : ℕ) → HasRoom self.old b c → HasRoom self.new b c }
     {
         self.failures = self.failures.saturating_add(1);
         DiskFailed
@@ -316,11 +324,12 @@ impl Disk for MemDisk {
         ensures counted { IsCounted result (memory_failures self.old) (memory_failures self.new) }
         ensures room { (b c : ℕ) → HasRoom self.old (length bytes.now + b) (1 + c) → IsOk result }
         ensures room_left { (b c : ℕ) → HasRoom self.old (length bytes.now + b) (1 + c) → HasRoom self.new b c }
+        ensures room_err { (b c : ℕ) → HasRoom self.old b c → OnErr result (HasRoom self.new b c) }
     {
-        if self.try_write(at as usize, bytes).is_err() {
-            return Err(self.failed());
+        match self.try_write(at as usize, bytes) {
+            Ok(()) => Ok(()),
+            Err(_) => Err(self.failed()),
         }
-        Ok(())
     }
 
     fn cut(&mut self, len: u64) -> Result<(), DiskFailed>
@@ -331,11 +340,12 @@ impl Disk for MemDisk {
         ensures counted { IsCounted result (memory_failures self.old) (memory_failures self.new) }
         ensures room { (b c : ℕ) → HasRoom self.old b (1 + c) → IsOk result }
         ensures room_left { (b c : ℕ) → HasRoom self.old b (1 + c) → HasRoom self.new b c }
+        ensures room_err { (b c : ℕ) → HasRoom self.old b c → OnErr result (HasRoom self.new b c) }
     {
-        if self.try_cut(len as usize).is_err() {
-            return Err(self.failed());
+        match self.try_cut(len as usize) {
+            Ok(()) => Ok(()),
+            Err(_) => Err(self.failed()),
         }
-        Ok(())
     }
 
     fn sync(&mut self) -> Result<(), DiskFailed>
@@ -345,10 +355,11 @@ impl Disk for MemDisk {
         ensures counted { IsCounted result (memory_failures self.old) (memory_failures self.new) }
         ensures room { (b c : ℕ) → HasRoom self.old b (1 + c) → IsOk result }
         ensures room_left { (b c : ℕ) → HasRoom self.old b (1 + c) → HasRoom self.new b c }
+        ensures room_err { (b c : ℕ) → HasRoom self.old b c → OnErr result (HasRoom self.new b c) }
     {
-        if self.try_sync().is_err() {
-            return Err(self.failed());
+        match self.try_sync() {
+            Ok(()) => Ok(()),
+            Err(_) => Err(self.failed()),
         }
-        Ok(())
     }
 }
