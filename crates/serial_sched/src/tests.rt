@@ -68,7 +68,7 @@ impl Outside for Nothing {
 
 fn opened(alloc: Global) -> Result<Guest, Fail> {
     let image = parse(alloc, &EXIT_FIVE)?;
-    Ok(Guest::open(alloc, &image, b"five", [0; 16])?)
+    Ok(Guest::open(alloc, &image, b"a", [0; 16])?)
 }
 
 fn push_word(elf: &mut Vec<u8>, word: u32) -> Result<(), Fail> {
