@@ -24,7 +24,7 @@ same_outside (x ∷ front) behind g h zero differs = refl
 same_outside (x ∷ front) behind g h (suc k) differs = same_outside front behind g h k (λ is. differs (omega (arith, is)))
 
 -- while the gate is written a crash may leave any byte there
-any_byte : (bodies : List (List ℕ)) (body : List ℕ) (gate : ℕ) →
+pub any_byte : (bodies : List (List ℕ)) (body : List ℕ) (gate : ℕ) →
     IsCrash (pending_write (all_synced (staged bodies body)) (length (store_text bodies)) 1) (store_text bodies ++ gate ∷ tail bodies body)
 any_byte bodies body gate =
     let old = length-append (store_text bodies) (0 ∷ tail bodies body) in

@@ -24,7 +24,7 @@ module _ (bodies : List (List ℕ)) (sizes : AllByRecursion IsBody bodies) (few 
   abbrev closed_at_end : IsStore (closed_store bodies) bodies
   closed_at_end = record { gate = 0; behind = []; text = closed_text bodies; not_open = λ e. absurd (omega (arith, e)); each = sizes; count = omega (arith, few) }
 
-  goes_on : (number : ℕ) (old : List Record) (events : List Event) → IsStart (start_on bodies number) old → IsSchedule (start_on bodies number) events →
+  pub goes_on : (number : ℕ) (old : List Record) (events : List Event) → IsStart (start_on bodies number) old → IsSchedule (start_on bodies number) events →
       Goes (fresh_disk (closed_store bodies)) (Ran (start_on bodies number) old events) (run (start_on bodies number) events).disk
   goes_on number old events is schedule = (closed_at_end, refl, is, schedule, refl)
 

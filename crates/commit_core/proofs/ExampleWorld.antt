@@ -16,8 +16,8 @@ use Rattle.rrv_model.specs.Recovered.{body_text, next_guest, IsRecovered}
 use Rattle.commit_core.specs.Runs.{IsOutput}
 use Rattle.commit_core.specs.World.{World, IsStart, IsReady, opening_record, store_text}
 use Rattle.commit_core.specs.Events.{Event, CanSlice, CanWrite, after, run, IsSchedule}
-use Rattle.commit_core.specs.Events.Event.{Slice, Push, Pop}
-use Rattle.commit_core.specs.Example.{example_opening, example_state, example_recorder, start_on, example_start, opened, wrote, exited, all_three, up_to_gate, from_gate_on, up_to_release}
+use Rattle.commit_core.specs.Events.Event.{Slice, WriteBody, Sync1, OpenGate}
+use Rattle.commit_core.specs.Example.{example_opening, example_state, example_recorder, start_on, example_start, opened, wrote, exited, write_frame, all_three, up_to_received, up_to_gate, from_gate_on, up_to_release}
 use Rattle.commit_core.proofs.ExampleGuest.{Ended, the_byte, opens, guest_ends}
 
 -- ---- texts
@@ -51,9 +51,9 @@ call_payload_len : (count result : ℕ) → length (payload (items.Frame (call_f
 unfolding payload call_text
 call_payload_len count result = refl
 
-call_has_text : (index count result : ℕ) → index ≤ 2 → 1 ≤ count → count ≤ 5 → result ≤ 1 → HasText (frame_record 0 index (call_frame count result))
-call_has_text index count result low some few small = record {
-  guest = omega arith;
+call_has_text : (number index count result : ℕ) → number ≤ 1 → index ≤ 2 → 1 ≤ count → count ≤ 5 → result ≤ 1 → HasText (frame_record number index (call_frame count result))
+call_has_text number index count result one low some few small = record {
+  guest = omega (arith, one);
   index = omega (arith, low);
   item = (
     record { tid_low = omega arith; tid_high = omega arith; count_low = some; count_high = omega (arith, few) },
@@ -62,26 +62,27 @@ call_has_text index count result low some few small = record {
   payload_len = subst (λ (n : ℕ). n < 2 ^ 32) (sym (call_payload_len count result)) (omega arith);
 }
 
-wrote_has_text : HasText wrote
-wrote_has_text = call_has_text 1 5 1 (omega arith) (omega arith) (omega arith) (omega arith)
+pub wrote_has_text : (number : ℕ) → number ≤ 1 → HasText (frame_record number 1 write_frame)
+wrote_has_text number low = call_has_text number 1 5 1 low (omega arith) (omega arith) (omega arith) (omega arith)
 
 exited_has_text : HasText exited
-exited_has_text = call_has_text 2 2 0 (omega arith) (omega arith) (omega arith) (omega arith)
+exited_has_text = call_has_text 0 2 2 0 (omega arith) (omega arith) (omega arith) (omega arith) (omega arith)
 
 body_len : length (body_text all_three) ≡ 205
 unfolding record_text payload opening_text call_text
 body_len = refl
 
-gate_len : length (store_text []) ≡ 16
+pub gate_len : length (store_text []) ≡ 16
 unfolding store_text
 gate_len = refl
 
 -- ---- the start
 
+pub is_ready : (number : ℕ) → number ≤ 1 → IsReady number (example_recorder number)
+is_ready number low = record { opening = example_opening; state = example_state; opens = opens; has_text = opened_has_text number low; is = refl }
+
 ready : (number g : ℕ) → number ≤ 1 → g < 1 → IsReady (number + g) (example_recorder number)
-ready number zero low one =
-    subst (λ (n : ℕ). IsReady n (example_recorder number)) (sym (add-zero number))
-    (record { opening = example_opening; state = example_state; opens = opens; has_text = opened_has_text number low; is = refl })
+ready number zero low one = subst (λ (n : ℕ). IsReady n (example_recorder number)) (sym (add-zero number)) (is_ready number low)
 ready number (suc g) low one = absurd (omega (arith, one))
 
 -- a store with these bodies, from which these records are recovered, can be recorded into
@@ -110,6 +111,10 @@ starts = starts_on [] 0 [] (omega arith) nothing_recovered refl tt (omega arith)
 
 -- ---- the events
 
+-- what is written ends far below the greatest length of a store
+pub ends_low : (place len : ℕ) → place ≤ 1000 → len ≤ 1000 → place + len + 42 ≤ 2 ^ 40
+ends_low place len p l = omega (arith, p, l)
+
 schedule_both : (w : World) (xs ys : List Event) → IsSchedule w xs → IsSchedule (run w xs) ys → IsSchedule w (xs ++ ys)
 schedule_both w [] ys a b = b
 schedule_both w (x ∷ xs) ys a b = (a.0, schedule_both (after w x) xs ys a.1 b)
@@ -121,7 +126,7 @@ module _ (guest : Ended) where
   can_write : CanSlice example_start 0 wrote guest.written
   can_write = record {
     guest = omega arith;
-    has_text = wrote_has_text;
+    has_text = wrote_has_text 0 (omega arith);
     recording = record { guest = 0; numbered = (refl, refl, (refl, refl, tt)); starts = (example_state, opens, (guest.written, guest.writes, tt)) };
     numbered = (refl, refl, (refl, refl, tt));
     ends = (example_state, opens, (guest.written, guest.writes, (refl, refl)));
@@ -140,16 +145,10 @@ module _ (guest : Ended) where
     ends = (example_state, opens, (guest.written, guest.writes, (guest.ended, guest.exits, (refl, refl))));
   }
 
-  small : (place len : ℕ) → place ≡ 16 → len ≡ 205 → place + len + 42 ≤ 2 ^ 40
-  small place len p l = omega (arith, p, l)
+  abbrev pub all_received : World
+  all_received = run example_start (up_to_received guest.written guest.ended)
 
-  abbrev sent_all : World
-  sent_all = run one_more (
-      Slice 0 exited guest.ended
-      ∷ Push 0 opened (wrote ∷ exited ∷ []) ∷ Push 0 wrote (exited ∷ []) ∷ Push 0 exited []
-      ∷ Pop opened (wrote ∷ exited ∷ []) ∷ Pop wrote (exited ∷ []) ∷ Pop exited [] ∷ [])
-
-  can_commit : CanWrite sent_all 3
+  pub can_commit : CanWrite all_received 3
   can_commit = record {
     idle = refl;
     some = omega arith;
@@ -157,11 +156,11 @@ module _ (guest : Ended) where
     there = omega arith;
     body = subst (λ (n : ℕ). n ≤ 8388608) (sym body_len) (omega arith);
     number = omega arith;
-    store = small _ _ gate_len body_len;
+    store = ends_low _ _ (omega (arith, gate_len)) (omega (arith, body_len));
   }
 
-  pub gate_schedule : IsSchedule example_start (up_to_gate guest.written guest.ended)
-  gate_schedule = (
+  pub received_schedule : IsSchedule example_start (up_to_received guest.written guest.ended)
+  received_schedule = (
     can_write,
     (
       can_exit,
@@ -169,11 +168,22 @@ module _ (guest : Ended) where
         record { guest = omega arith; next = refl; room = omega arith; here = refl },
         (
           record { guest = omega arith; next = refl; room = omega arith; here = refl },
-          (record { guest = omega arith; next = refl; room = omega arith; here = refl }, (refl, (refl, (refl, (can_commit, (refl, (refl, tt))))))),
+          (record { guest = omega arith; next = refl; room = omega arith; here = refl }, (refl, (refl, (refl, tt)))),
         ),
       ),
     ),
   )
+
+  -- the records are received, and then this happens
+  pub then_schedule : (events : List Event) → IsSchedule all_received events → IsSchedule example_start (up_to_received guest.written guest.ended ++ events)
+  then_schedule events schedule = schedule_both example_start (up_to_received guest.written guest.ended) events received_schedule schedule
+
+  pub gate_schedule : IsSchedule example_start (up_to_gate guest.written guest.ended)
+  gate_schedule = then_schedule (WriteBody 3 ∷ Sync1 ∷ OpenGate ∷ []) (can_commit, (refl, (refl, tt)))
+
+  -- of any number
+  pub first_put : (number : ℕ) → IsOutput ((1, 0x7F) ∷ []) (opening_record number example_opening ∷ frame_record number 1 write_frame ∷ [])
+  first_put number = (the_byte, (example_state, opens, (guest.written, the_byte, [], guest.writes, guest.puts_byte, refl, refl)), ([], refl))
 
   byte_put : IsOutput ((1, 0x7F) ∷ []) all_three
   byte_put = (

@@ -8,7 +8,11 @@ mod Recovery
 mod Opening
 mod Sessions
 mod EachSession
+mod FailedCalls
 mod ExampleGuest
 mod ExampleWorld
 mod ExampleCrash
 mod ExampleSessions
+mod ExampleFailures
+mod ExampleGroup
+mod ExampleRepair

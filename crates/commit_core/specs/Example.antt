@@ -85,13 +85,16 @@ example_start = start_on [] 0
 
 -- ---- the events
 
--- the guest runs to its end, by way of these states; its records are sent and received, and are written up to the gate
-abbrev pub up_to_gate : State → State → List Event
-up_to_gate written ended =
+-- the guest runs to its end, by way of these states; its records are sent and received
+abbrev pub up_to_received : State → State → List Event
+up_to_received written ended =
     Slice 0 wrote written ∷ Slice 0 exited ended
     ∷ Push 0 opened (wrote ∷ exited ∷ []) ∷ Push 0 wrote (exited ∷ []) ∷ Push 0 exited []
-    ∷ Pop opened (wrote ∷ exited ∷ []) ∷ Pop wrote (exited ∷ []) ∷ Pop exited []
-    ∷ WriteBody 3 ∷ Sync1 ∷ OpenGate ∷ []
+    ∷ Pop opened (wrote ∷ exited ∷ []) ∷ Pop wrote (exited ∷ []) ∷ Pop exited [] ∷ []
+
+-- and they are written up to the gate
+abbrev pub up_to_gate : State → State → List Event
+up_to_gate written ended = up_to_received written ended ++ WriteBody 3 ∷ Sync1 ∷ OpenGate ∷ []
 
 -- the commit is finished and published, the recorder looks, and puts the byte out; at a halt it leaves, and the flusher sees it
 abbrev pub from_gate_on : List Event

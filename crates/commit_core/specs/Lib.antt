@@ -4,4 +4,8 @@ pub mod Events
 pub mod Facts
 pub mod Sessions
 pub mod Headline
+pub mod FailedCalls
 pub mod Example
+pub mod ExampleFailures
+pub mod ExampleGroup
+pub mod ExampleRepair

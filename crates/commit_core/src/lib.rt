@@ -2,7 +2,7 @@
 //! Nothing runs here: each law is the contract of a function that does nothing.
 #![tactic(auto)]
 
-ghost use Rattle.std.specs.Prelude.{◌≡◌, ◌<◌, ℕ, List, [], ◌∷◌, length, Some};
+ghost use Rattle.std.specs.Prelude.{◌≡◌, ◌<◌, ◌++◌, ℕ, List, [], ◌∷◌, length, Some};
 ghost use Rattle.std.specs.List.{AllByRecursion};
 ghost use Rattle.rrv_model.specs.declared.machine.GuestEnd.TheVariants.{Exited};
 ghost use Rattle.rrv_model.specs.declared.record.Record.{Record};
@@ -14,7 +14,11 @@ ghost use Rattle.commit_core.specs.Events.{Event, IsSchedule, run};
 ghost use Rattle.commit_core.specs.Facts.{Facts, Recovers};
 ghost use Rattle.commit_core.specs.Sessions.{Session, AreSessions, AreGrowing, CanOpen, fresh_disk, opened_disk, reports};
 ghost use Rattle.commit_core.specs.Headline.{IsSafeThroughout};
+ghost use Rattle.commit_core.specs.FailedCalls.{IsFailedCall, IsLastCall};
 ghost use Rattle.commit_core.specs.Example.{GateMayTear, example_start, two_sessions, up_to_gate, up_to_release};
+ghost use Rattle.commit_core.specs.ExampleFailures.{EachCallFails};
+ghost use Rattle.commit_core.specs.ExampleGroup.{BothLeave, pair_events, pair_start};
+ghost use Rattle.commit_core.specs.ExampleRepair.{IsRepaired};
 
 /// Whatever the recorders and the flusher do, in any order, the six facts hold; and wherever the machine stops, recovery gives
 /// each guest a beginning of its records that holds every record of which an output byte has left, and whose replay gives, at
@@ -43,6 +47,12 @@ pub fn sessions_always()
         → IsAtRest (opened_disk disk bodies store) (closed_store bodies) }
 {}
 
+/// After a call of the disk that failed no event of a schedule is a call of the disk, and the disk stays as that call left it.
+pub fn failure_is_last()
+    ensures { (start : World) (before : List Event) (failed : Event) (later : List Event) → IsFailedCall failed
+        → IsSchedule start (before ++ failed ∷ later) → IsLastCall start before failed later }
+{}
+
 /// The premises of `safe_always` can be met, and a byte can leave: a guest that writes the first byte of its file and exits is
 /// recorded into a store without bodies, its records are committed, and its byte is put out.
 pub fn byte_leaves()
@@ -64,4 +74,24 @@ pub fn sessions_follow()
     ensures first { CanOpen (closed_store []) }
     ensures second { (written ended : State) × (end : DiskState)
         × AreSessions (fresh_disk (closed_store [])) (two_sessions written ended) end }
+{}
+
+/// Each of the four calls of a commit can fail: the write behind the gate, which leaves any bytes there, no more than it was to write;
+/// the first sync; the write of the gate, which leaves any byte there; and the second sync.
+pub fn calls_fail()
+    ensures start { IsStart example_start [] }
+    ensures fails { (written ended : State) × EachCallFails written ended }
+{}
+
+/// Two guests at once: their records are sent in turn, one body holds those of both, and of each guest a byte leaves.
+pub fn two_guests()
+    ensures start { IsStart pair_start [] }
+    ensures leave { (written : State) × IsSchedule pair_start (pair_events written) × BothLeave (run pair_start (pair_events written)) }
+{}
+
+/// A session can begin with a repair: one committed two records, put its byte out, and was stopped in the write of the next gate, which
+/// is torn; the next one was stopped within its opening. Then `open` closes that gate and cuts off what stands behind it, and the two
+/// records are found.
+pub fn repair_follows()
+    ensures { (written ended : State) × IsRepaired written ended }
 {}

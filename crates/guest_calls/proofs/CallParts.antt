@@ -1,5 +1,5 @@
 -- What calls leave, put together from their parts.
-use Rattle.std.proofs.Common.{◌≡◌, ℕ, ◌^◌, ◌<◌, ◌≤◌, ◌≢◌, Bool, true, false, cond, nat_eq, ◌==◌, if◌then◌else◌, length, List, [], ◌∷◌, All, lit<, take, filter, find, fold, Option, Some, None, Result, Ok, Err, IfOk, OnOk, refl, sym, ◌∙◌, ap, subst, arith}
+use Rattle.std.proofs.Common.{◌≡◌, ◌⊎◌, inl, inr, ℕ, ◌^◌, ◌<◌, ◌≤◌, ◌≢◌, Bool, true, false, cond, nat_eq, ◌==◌, if◌then◌else◌, length, List, [], ◌∷◌, All, lit<, take, filter, find, fold, Option, Some, None, Result, Ok, Err, IfOk, OnOk, refl, sym, ◌∙◌, ap, subst, arith}
 use Rattle.std.proofs.lemmas.Bool.Decides.{nat_tests}
 use Rattle.std.proofs.lemmas.List.Elements.{All-cons}
 use Rattle.std.specs.FinMap.{remove, len}
@@ -8,7 +8,7 @@ use Rattle.rrv_model.specs.declared.record.Written.{Written}
 use Rattle.rrv_model.specs.declared.record.CallRecord.{CallRecord}
 use Rattle.rrv_model.specs.Memory.{Memory, stored, bytes_at}
 use Rattle.rrv_model.specs.State.{State, thread_at, register}
-use Rattle.rrv_model.specs.CallRows.{answers, change_thread, range, with_memory, waits_at, waiters, woken, wakes, leaves, ends, clears, Row, Answers, NoResult, Call, row_of, call_of, write_row, writev_row, exit_row, exit_group_row, set_tid_address_row, brk_row, munmap_row, mmap_row, mprotect_row, fails, argument}
+use Rattle.rrv_model.specs.CallRows.{answers, change_thread, range, with_memory, waits_at, waiters, woken, wakes, leaves, ends, clears, Row, Answers, NoResult, Call, row_of, call_of, write_row, writev_row, exit_row, exit_group_row, set_tid_address_row, futex_row, brk_row, munmap_row, clone_row, mmap_row, mprotect_row, fails, argument}
 use Rattle.rrv_model.specs.CallRows as calls
 use Rattle.rrv_model.specs.Calls.{Silence, write_all, writes, results, call_row, carried_out}
 use Rattle.rrv_model.specs.RecordText.{HasCallText}
@@ -37,6 +37,15 @@ carries_answer value change tid old mid new r is m n = record {
       ∙ ap (λ (r : CallRecord). results tid r.result (writes r.written (change old))) (sym is);
 }
 
+-- an answer after a change is one row
+pub carries_after : (n value : ℕ) (change : State → State) (tid : ℕ) (old mid new : State) (r : CallRecord) →
+    value ≡ n → mid ≡ change old → Carries (answers value) tid mid r new → Carries (Answers n [] change) tid old r new
+carries_after n value change tid old mid new r value_is mid_is p = record {
+  answer = p.answer;
+  records = p.records ∙ ap (λ (k : ℕ). let q : CallRecord = record { result = k; written = [] } in q) value_is;
+  leaves = p.leaves ∙ ap (λ (s : State). results tid r.result (writes r.written s)) mid_is;
+}
+
 -- a call without a result that writes nothing
 pub carries_end : (change : State → State) (tid : ℕ) (old new : State) (r : CallRecord) →
     r ≡ record { result = 0; written = [] } → new ≡ change old → Carries (NoResult [] change) tid old r new
@@ -45,28 +54,6 @@ carries_end change tid old new r is n = record {
   records = is;
   leaves = n ∙ sym (no_writes (change old)) ∙ ap (λ (r : CallRecord). writes r.written (change old)) (sym is);
 }
-
--- ---- waiters
-
-listed : Option ℕ → List ℕ
-listed None = []
-listed (Some x) = x ∷ []
-
-first_kept : (p : ℕ → Bool) (xs : List ℕ) → take 1 (filter p xs) ≡ listed (find p xs)
-unfolding listed
-first_kept p [] = refl
-first_kept p (x ∷ xs) = elim (p x) as (λ b. take 1 (cond b (x ∷ filter p xs) (filter p xs)) ≡ listed (cond b (Some x) (find p xs))) [
-  | true ↦ refl
-  | false ↦ first_kept p xs
-]
-
-pub wakes_none : (a : ℕ) (s : State) → find (waits_at s a) s.waiting ≡ None → wakes a 1 s ≡ s
-unfolding listed
-wakes_none a s e = ap (λ (tids : List ℕ). fold woken s tids) (first_kept (waits_at s a) s.waiting ∙ ap listed e)
-
-pub wakes_one : (a tid : ℕ) (s : State) → find (waits_at s a) s.waiting ≡ Some tid → wakes a 1 s ≡ woken s tid
-unfolding listed
-wakes_one a tid s e = ap (λ (tids : List ℕ). fold woken s tids) (first_kept (waits_at s a) s.waiting ∙ ap listed e)
 
 -- ---- memory, beside the rest
 
@@ -114,11 +101,13 @@ row_for syscalls.Writev tid s t = writev_row s t
 row_for syscalls.Exit tid s t = exit_row tid s t
 row_for syscalls.ExitGroup tid s t = exit_group_row t
 row_for syscalls.SetTidAddress tid s t = set_tid_address_row tid t
+row_for syscalls.Futex tid s t = futex_row tid s t
 row_for syscalls.SchedYield tid s t = answers 0
 row_for syscalls.Getpid tid s t = answers 1
 row_for syscalls.Gettid tid s t = answers tid
 row_for syscalls.Brk tid s t = brk_row s t
 row_for syscalls.Munmap tid s t = munmap_row s t
+row_for syscalls.Clone tid s t = clone_row s t
 row_for syscalls.Mmap tid s t = mmap_row s t
 row_for syscalls.Mprotect tid s t = mprotect_row s t
 row_for syscalls.Other tid s t = fails 38
@@ -133,11 +122,14 @@ row_is syscalls.Writev n tid s t e = ap (λ n. row_at n tid s t) (sym e)
 row_is syscalls.Exit n tid s t e = ap (λ n. row_at n tid s t) (sym e)
 row_is syscalls.ExitGroup n tid s t e = ap (λ n. row_at n tid s t) (sym e)
 row_is syscalls.SetTidAddress n tid s t e = ap (λ n. row_at n tid s t) (sym e)
+row_is syscalls.Futex n tid s t (inl e) = ap (λ n. row_at n tid s t) (sym e)
+row_is syscalls.Futex n tid s t (inr e) = ap (λ n. row_at n tid s t) (sym e)
 row_is syscalls.SchedYield n tid s t e = ap (λ n. row_at n tid s t) (sym e)
 row_is syscalls.Getpid n tid s t e = ap (λ n. row_at n tid s t) (sym e)
 row_is syscalls.Gettid n tid s t e = ap (λ n. row_at n tid s t) (sym e)
 row_is syscalls.Brk n tid s t e = ap (λ n. row_at n tid s t) (sym e)
 row_is syscalls.Munmap n tid s t e = ap (λ n. row_at n tid s t) (sym e)
+row_is syscalls.Clone n tid s t e = ap (λ n. row_at n tid s t) (sym e)
 row_is syscalls.Mmap n tid s t e = ap (λ n. row_at n tid s t) (sym e)
 row_is syscalls.Mprotect n tid s t e = ap (λ n. row_at n tid s t) (sym e)
 row_is syscalls.Other n tid s t e = ap (λ (call : Call). row_of call tid s t) (sym e)
@@ -154,11 +146,13 @@ call_for syscalls.Writev = calls.Writev
 call_for syscalls.Exit = calls.Exit
 call_for syscalls.ExitGroup = calls.ExitGroup
 call_for syscalls.SetTidAddress = calls.SetTidAddress
+call_for syscalls.Futex = calls.Futex
 call_for syscalls.SchedYield = calls.SchedYield
 call_for syscalls.Getpid = calls.Getpid
 call_for syscalls.Gettid = calls.Gettid
 call_for syscalls.Brk = calls.Brk
 call_for syscalls.Munmap = calls.Munmap
+call_for syscalls.Clone = calls.Clone
 call_for syscalls.Mmap = calls.Mmap
 call_for syscalls.Mprotect = calls.Mprotect
 call_for syscalls.Other = calls.Other
@@ -169,11 +163,14 @@ call_is syscalls.Writev n e = ap (λ n. carried_out (call_of n)) (sym e)
 call_is syscalls.Exit n e = ap (λ n. carried_out (call_of n)) (sym e)
 call_is syscalls.ExitGroup n e = ap (λ n. carried_out (call_of n)) (sym e)
 call_is syscalls.SetTidAddress n e = ap (λ n. carried_out (call_of n)) (sym e)
+call_is syscalls.Futex n (inl e) = ap (λ n. carried_out (call_of n)) (sym e)
+call_is syscalls.Futex n (inr e) = ap (λ n. carried_out (call_of n)) (sym e)
 call_is syscalls.SchedYield n e = ap (λ n. carried_out (call_of n)) (sym e)
 call_is syscalls.Getpid n e = ap (λ n. carried_out (call_of n)) (sym e)
 call_is syscalls.Gettid n e = ap (λ n. carried_out (call_of n)) (sym e)
 call_is syscalls.Brk n e = ap (λ n. carried_out (call_of n)) (sym e)
 call_is syscalls.Munmap n e = ap (λ n. carried_out (call_of n)) (sym e)
+call_is syscalls.Clone n e = ap (λ n. carried_out (call_of n)) (sym e)
 call_is syscalls.Mmap n e = ap (λ n. carried_out (call_of n)) (sym e)
 call_is syscalls.Mprotect n e = ap (λ n. carried_out (call_of n)) (sym e)
 call_is syscalls.Other n e = sym e
@@ -193,6 +190,12 @@ pub quiet_call : {E : Type 0} (r : Result CallRecord E) (put : Option Put) (m : 
     IfOk r (λ q. chunks_of put ≡ put_out m t q.result)
 quiet_call (Ok q) put m t n none e a b = ap chunks_of none ∙ quiet_number m t n q.result e a b
 quiet_call (Err x) put m t n none e a b = tt
+
+-- a futex puts nothing out
+pub quiet_futex : {E : Type 0} (r : Result CallRecord E) (put : Option Put) (m : Memory) (t : Thread) → OnOk r (put ≡ None) → (register t.regs 17 ≡ 98) ⊎ (register t.regs 17 ≡ 422) →
+    IfOk r (λ q. chunks_of put ≡ put_out m t q.result)
+quiet_futex r put m t none (inl e) = quiet_call r put m t 98 none e (omega arith) (omega arith)
+quiet_futex r put m t none (inr e) = quiet_call r put m t 422 none e (omega arith) (omega arith)
 
 pub quiet_count : (m : Memory) (t : Thread) (count : ℕ) → 65_536 < count → [] ≡ put_out m t count
 quiet_count m t count a = grind (arith, nat_tests)

@@ -1,10 +1,10 @@
-pub mod ThreadMaps
 pub mod HartSteps
 pub mod Ecalls
 pub mod Lift
+pub mod ThreadParts
 pub mod CallParts
-pub mod RunningTids
-pub mod SameThreads
+pub mod CloneParts
+pub mod Inquiries
 pub mod AcceptedFile
 pub mod ImageLoads
 pub mod ImageParts

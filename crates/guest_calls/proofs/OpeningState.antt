@@ -15,6 +15,7 @@ use Rattle.rrv_model.specs.Memory.{Memory, page_bytes, pages_for}
 use Rattle.rrv_model.specs.State.{State, IsState, IsThread, AreRegs, IsWaiting}
 use Rattle.rrv_model.specs.Elf.{Header, loads, load_end, refusal, elf_entry, is_empty_load}
 use Rattle.rrv_model.specs.Opening.{opening_state, opening_thread, opening_memory, image_break, stack_pointer, IsName}
+use Rattle.guest_threads.specs.Threads.{ThreadsValue, thread_map, with_threads}
 use Rattle.guest_calls.specs.Loading.{IsLoad}
 use Rattle.guest_calls.proofs.ImageParts.{AreLoads, IsAccepted}
 use Rattle.guest_calls.proofs.AcceptedFile.{is_accepted}
@@ -160,35 +161,49 @@ is_opening_state file name random none small is_name random_small =
       threads = λ tid. of_thread_one t tid (λ _. IsThread) (is_first_thread (elf_entry file) (stack_pointer name) (word-small (drop 24 file) (small-drop 24 file (are_bytes file small))) (small-stack_pointer name));
       live = live-one t;
       tids = λ tid. of_thread_one t tid (λ k _. (1 ≤ k) × (k < 2)) (omega arith, omega arith);
+      first = omega arith;
       next_tid = omega arith;
       waiting = λ tid. (λ has. absurd (omega (arith, has.1)), λ waits. absurd (none_waits t tid refl waits));
       waiting_once = λ i j d above below. absurd (omega arith);
+      opening = high_image_break file (is_accepted file none);
       breaks = (omega arith, low_image_break file (is_accepted file none));
     }
 
 -- a state whose parts are those of the opening state
-pub opened : (file name random : List ℕ) (m : Memory) (threads : FinMap nat_cmp Thread) (t : Thread) (waiting : List ℕ) (opening_break program_break : ℕ) →
-    m ≡ opening_memory file name random → threads ≡ insert empty 1 t → t ≡ opening_thread file name → waiting ≡ [] → opening_break ≡ image_break file → program_break ≡ image_break file →
+pub opened : (file name random : List ℕ) (m : Memory) (v : ThreadsValue) (t : Thread) (opening_break program_break : ℕ) →
+    m ≡ opening_memory file name random →
+    ((s : State) → with_threads v s ≡ record s { threads = insert empty 1 t; waiting = []; next_tid = 2 }) →
+    t ≡ opening_thread file name → opening_break ≡ image_break file → program_break ≡ image_break file →
     (let s : State = record {
       memory = m;
-      threads = threads;
-      waiting = waiting;
-      next_tid = 2;
+      threads = thread_map v.threads;
+      waiting = v.waiting;
+      next_tid = v.next_tid;
       opening_break = opening_break;
       program_break = program_break;
       reservation = None;
       ended = None;
     } in s) ≡ opening_state file name random
-opened file name random m threads t waiting opening_break program_break memory_is threads_are t_is nobody_waits opening_is program_is i = record {
-  memory = memory_is i;
-  threads = (threads_are ∙ ap (λ (u : Thread). insert empty 1 u) t_is) i;
-  waiting = nobody_waits i;
-  next_tid = 2;
-  opening_break = opening_is i;
-  program_break = program_is i;
-  reservation = None;
-  ended = None;
-}
+opened file name random m v t opening_break program_break memory_is threads_are t_is opening_is program_is =
+    threads_are (record {
+      memory = m;
+      threads = empty;
+      waiting = [];
+      next_tid = 2;
+      opening_break = opening_break;
+      program_break = program_break;
+      reservation = None;
+      ended = None;
+    }) ∙ (λ i. record {
+      memory = memory_is i;
+      threads = ap (λ (u : Thread). insert empty 1 u) t_is i;
+      waiting = [];
+      next_tid = 2;
+      opening_break = opening_is i;
+      program_break = program_is i;
+      reservation = None;
+      ended = None;
+    })
 
 pub opened_is_state : (s : State) (file name random : List ℕ) → s ≡ opening_state file name random →
     refusal file ≡ None → All (λ b. b < 256) file → IsName name → All (λ b. b < 256) random → IsState s

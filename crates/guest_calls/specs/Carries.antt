@@ -1,5 +1,5 @@
 -- What a call leaves, by its row.
-use Rattle.std.specs.Prelude.{◌≡◌, ℕ, Option, Some, None}
+use Rattle.std.specs.Prelude.{◌≡◌, ◌⊎◌, ℕ, Option, Some, None}
 use Rattle.rrv_model.specs.declared.machine.Thread.{Thread}
 use Rattle.rrv_model.specs.declared.record.CallRecord.{CallRecord}
 use Rattle.rrv_model.specs.State.{State}
@@ -38,11 +38,13 @@ IsNumber syscalls.Writev n = n ≡ 66
 IsNumber syscalls.Exit n = n ≡ 93
 IsNumber syscalls.ExitGroup n = n ≡ 94
 IsNumber syscalls.SetTidAddress n = n ≡ 96
+IsNumber syscalls.Futex n = (n ≡ 98) ⊎ (n ≡ 422)
 IsNumber syscalls.SchedYield n = n ≡ 124
 IsNumber syscalls.Getpid n = n ≡ 172
 IsNumber syscalls.Gettid n = n ≡ 178
 IsNumber syscalls.Brk n = n ≡ 214
 IsNumber syscalls.Munmap n = n ≡ 215
+IsNumber syscalls.Clone n = n ≡ 220
 IsNumber syscalls.Mmap n = n ≡ 222
 IsNumber syscalls.Mprotect n = n ≡ 226
 IsNumber syscalls.Other n = carried_out (call_of n) ≡ Other

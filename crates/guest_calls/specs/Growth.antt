@@ -1,10 +1,11 @@
 -- Which calls may take memory.
-use Rattle.std.specs.Prelude.{◌≡◌, ℕ, ◌-◌, ◌*◌, ◌^◌, ◌<◌, ◌≤◌, IsTrue, Option, Some, None}
+use Rattle.std.specs.Prelude.{◌≡◌, ℕ, ◌-◌, ◌*◌, ◌/◌, ◌%◌, ◌^◌, ◌<◌, ◌≤◌, IsTrue, Option, Some, None}
 use Rattle.rrv_model.specs.declared.machine.Thread.{Thread}
 use Rattle.rrv_model.specs.Memory.{readable, pages_for}
 use Rattle.rrv_model.specs.State.{State, register}
 use Rattle.rrv_model.specs.CallRows.{Row, Answers, NoResult, AsksInput, AsksRandom, AsksTime, Call, Read, Write, Writev, Exit, ExitGroup, SetTidAddress, Futex, SchedYield, Getpid, Gettid, Brk, Munmap, Clone, Mmap, Mprotect, Getrandom, ClockGettime, Other, argument, call_of, clears, is_output, read_row, write_row, futex_row, brk_row, clone_row, mmap_row, getrandom_row, clock_gettime_row}
 use Rattle.rrv_model.specs.Calls.{carried_out}
+use Rattle.guest_calls.specs.Carries.{Asks}
 
 -- the call answers no negated error number, which is -4095 to -1 (Linux man pages, intro(2) and errno(3))
 abbrev pub Succeeds : Row → Type 0
@@ -39,15 +40,21 @@ pub record RaisesBreak (s : State) (t : Thread) : Type 0 where
   pub pages : pages_for s.program_break < pages_for (argument t 0)
   pub answers : AnswersWith (argument t 0) (brk_row s t)
 
--- the call puts bytes out, clears a word or maps pages; the others take no memory
+-- a futex that waits
+pub record BeginsWait (tid : ℕ) (s : State) (t : Thread) : Type 0 where
+  -- WAIT, also with the bit 128
+  pub waits : argument t 1 - argument t 1 / 128 % 2 * 128 ≡ 0
+  pub succeeds : Succeeds (futex_row tid s t)
+
+-- the call puts bytes out, clears a word, waits, makes a thread, maps pages or asks the outside; the others take no memory
 abbrev pub MayGrow : Call → ℕ → State → Thread → Type 0
-MayGrow Read tid s t = Succeeds (read_row s t)
+MayGrow Read tid s t = Asks (read_row s t)
 MayGrow Write tid s t = PutsBytes s t
 MayGrow Writev tid s t = ReadsBuffers s t
 MayGrow Exit tid s t = IsTrue (clears s t)
 MayGrow ExitGroup tid s t = ⊥
 MayGrow SetTidAddress tid s t = ⊥
-MayGrow Futex tid s t = Succeeds (futex_row tid s t)
+MayGrow Futex tid s t = BeginsWait tid s t
 MayGrow SchedYield tid s t = ⊥
 MayGrow Getpid tid s t = ⊥
 MayGrow Gettid tid s t = ⊥
@@ -56,8 +63,8 @@ MayGrow Munmap tid s t = ⊥
 MayGrow Clone tid s t = Succeeds (clone_row s t)
 MayGrow Mmap tid s t = Succeeds (mmap_row s t)
 MayGrow Mprotect tid s t = ⊥
-MayGrow Getrandom tid s t = Succeeds (getrandom_row s t)
-MayGrow ClockGettime tid s t = Succeeds (clock_gettime_row s t)
+MayGrow Getrandom tid s t = Asks (getrandom_row s t)
+MayGrow ClockGettime tid s t = Asks (clock_gettime_row s t)
 MayGrow Other tid s t = ⊥
 
 -- the call that the thread makes may take memory

@@ -1,21 +1,18 @@
 -- What a guest stands for.
 use Rattle.std.specs.Prelude.{ℕ, ◌+◌, ◌^◌, ◌-◌, min, List, [], ◌∷◌, Option, Some, None}
-use Rattle.rrv_model.specs.declared.machine.Thread.{Thread}
 use Rattle.rrv_model.specs.declared.machine.GuestEnd.{GuestEnd}
 use Rattle.rrv_model.specs.State.{State, thread_at, IsRunning}
 use Rattle.rrv_model.specs.FrameStep.{closed, closed_at_end}
 use Rattle.rrv_model.specs.Output.{Chunk}
 use Rattle.guest_pages.specs.Space.{SpaceValue, memory_of}
 use Rattle.guest_calls.specs.declared.put.Put.{Put}
-use Rattle.guest_calls.specs.Threads.{thread_map}
+use Rattle.guest_threads.specs.Threads.{ThreadsValue, thread_map}
 
 -- a guest as contracts see it: the parts of its state, its steps so far, and what its last call put out
 pub record GuestValue : Type 0 where
   pub space : SpaceValue
-  -- by rising tid
-  pub threads : List (ℕ × Thread)
-  pub waiting : List ℕ
-  pub next_tid : ℕ
+  -- with the waiting order and the next tid
+  pub threads : ThreadsValue
   pub opening_break : ℕ
   pub program_break : ℕ
   pub reservation : Option ℕ
@@ -30,9 +27,9 @@ pub record GuestValue : Type 0 where
 abbrev pub state_of : GuestValue → State
 state_of g = record {
   memory = memory_of g.space;
-  threads = thread_map g.threads;
-  waiting = g.waiting;
-  next_tid = g.next_tid;
+  threads = thread_map g.threads.threads;
+  waiting = g.threads.waiting;
+  next_tid = g.threads.next_tid;
   opening_break = g.opening_break;
   program_break = g.program_break;
   reservation = g.reservation;

@@ -1,8 +1,9 @@
-pub mod Threads
 pub mod Guest
 pub mod Runs
 pub mod HartRuns
+pub mod Asking
 pub mod Carries
+pub mod Clones
 pub mod Growth
 pub mod Snapshots
 pub mod Loading

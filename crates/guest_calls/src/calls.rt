@@ -2,13 +2,14 @@
 
 ghost use Rattle.std.specs.Prelude.{◌≡◌, [], ◌∷◌, Some, None, MatchOption, true, IsTrue, IfOk, OnOk, OnErr, length, if◌then◌else◌, ◌==◌, ◌+◌, ◌≤◌, ◌^◌};
 ghost use Rattle.rrv_model.specs.Memory.{readable, writable, bytes_at};
-ghost use Rattle.rrv_model.specs.State.{thread_at, register, IsRunning};
+ghost use Rattle.rrv_model.specs.State.{thread_at, register, IsRunning, IsThread};
 ghost use Rattle.rrv_model.specs.CallRows.{NoResult, range, answers, call_of, clears, leaves, wakes, write_row, exit_row, exit_group_row, set_tid_address_row};
 ghost use Rattle.rrv_model.specs.Calls.{call_row, carried_out};
 ghost use Rattle.rrv_model.specs.RecordText.{HasCallText};
 ghost use Rattle.rrv_model.specs.Output.{put_out, put_out_by};
 ghost use Rattle.guest_pages.specs.Space.{snapshots_of};
 ghost use Rattle.guest_calls.specs.Guest.{state_of, chunks_of};
+ghost use Rattle.guest_calls.specs.Asking.{CallIsAnswered, IsQuiet};
 ghost use Rattle.guest_calls.specs.Carries.{Carries, CallDoes, CallAsks};
 ghost use Rattle.guest_calls.specs.Growth.{CallMayGrow, MayGrow, PutsBytes};
 
@@ -26,16 +27,18 @@ use std::alloc::Global;
 /// The numbers of errors (Linux man pages, errno(3)).
 pub(crate) const BAD_DESCRIPTOR: u32 = 9;
 
+pub(crate) const TRY_AGAIN: u32 = 11;
+
 pub(crate) const NO_MEMORY: u32 = 12;
 
 pub(crate) const BAD_ADDRESS: u32 = 14;
 
 pub(crate) const INVALID: u32 = 22;
 
-const NO_SUCH_CALL: u32 = 38;
+pub(crate) const NO_SUCH_CALL: u32 = 38;
 
 /// The register that has a call's number, a7.
-const NUMBER: usize = 17;
+pub(crate) const NUMBER: usize = 17;
 
 /// The result of a call that failed.
 pub(crate) fn failure(errno: u32) -> u32
@@ -75,8 +78,8 @@ pub(crate) fn put_of(descriptor: u32, bytes: Vec<u8>) -> Option<Put>
 }
 
 impl Guest {
-    /// Makes the call of a running thread, whose `pc` is past its ECALL. Where a growth is refused, all is as before,
-    /// and the outside was not asked.
+    /// Makes the call of a running thread, whose `pc` is past its ECALL. The outside is asked once at most, and only where
+    /// the call's rule looks at it. Where a growth is refused, all is as before, and the outside was not asked.
     pub fn call<O: Outside>(
         &mut self,
         alloc: Global,
@@ -86,6 +89,8 @@ impl Guest {
         requires running { IsRunning (thread_at (state_of self.old) tid) }
         requires runs { (state_of self.old).ended ≡ None }
         ensures calls { IfOk result (λ r. CallDoes (state_of self.old) tid r (state_of self.new)) }
+        ensures answered { IfOk result (λ r.
+            CallIsAnswered O.gives (state_of self.old) tid (thread_at (state_of self.old) tid) r outside.old outside.new) }
         ensures text { IfOk result HasCallText }
         ensures puts { IfOk result (λ r. chunks_of self.new.put
             ≡ put_out_by (thread_at (state_of self.old) tid) (state_of self.old).memory r.result) }
@@ -97,7 +102,7 @@ impl Guest {
         ensures unasked { ¬ CallAsks (state_of self.old) tid (thread_at (state_of self.old) tid) → outside.new ≡ outside.old }
     {
         let thread = self.running_thread(tid);
-        self.carry_out(alloc, tid, &thread)
+        self.make_call(alloc, tid, &thread, outside)
     }
 
     /// What the last call put out: a descriptor and bytes.
@@ -111,8 +116,17 @@ impl Guest {
         }
     }
 
-    fn carry_out(&mut self, alloc: Global, tid: u32, thread: &Thread) -> Result<CallRecord, Memory>
-        requires { thread_at (state_of self.old) tid ≡ Some thread.now }
+    /// Makes a call that doesn't ask the outside.
+    pub(crate) fn carry_out(
+        &mut self,
+        alloc: Global,
+        tid: u32,
+        thread: &Thread,
+    ) -> Result<CallRecord, Memory>
+        requires there { thread_at (state_of self.old) tid ≡ Some thread.now }
+        requires running { thread.now.waits_at ≡ None }
+        requires fits { IsThread thread.now }
+        requires quiet { IsQuiet (register thread.now.regs 17) }
         ensures carries { IfOk result (λ r.
             Carries (call_row (state_of self.old) tid thread.now) tid (state_of self.old) r (state_of self.new)) }
         ensures text { IfOk result HasCallText }
@@ -128,11 +142,13 @@ impl Guest {
             Syscall::Exit => self.exit(alloc, tid, thread),
             Syscall::ExitGroup => Ok(self.exit_group(alloc, tid, thread)),
             Syscall::SetTidAddress => Ok(self.set_tid_address(alloc, tid, thread)),
+            Syscall::Futex => self.futex(alloc, tid, thread),
             Syscall::SchedYield => Ok(self.answer(alloc, tid, 0)),
             Syscall::Getpid => Ok(self.answer(alloc, tid, 1)),
             Syscall::Gettid => Ok(self.answer(alloc, tid, tid)),
             Syscall::Brk => self.brk(alloc, tid, thread),
             Syscall::Munmap => Ok(self.munmap(alloc, tid, thread)),
+            Syscall::Clone => self.clone_thread(alloc, tid, thread),
             Syscall::Mmap => self.mmap(alloc, tid, thread),
             Syscall::Mprotect => Ok(self.mprotect(alloc, tid, thread)),
             Syscall::Other => Ok(self.answer(alloc, tid, failure(NO_SUCH_CALL))),
@@ -199,6 +215,7 @@ impl Guest {
 
     /// exit(status)
     fn exit(&mut self, alloc: Global, tid: u32, thread: &Thread) -> Result<CallRecord, Memory>
+        requires { IsRunning (thread_at (state_of self.old) tid) }
         ensures carries { IfOk result (λ r.
             Carries (exit_row tid (state_of self.old) thread.now) tid (state_of self.old) r (state_of self.new)) }
         ensures value { IfOk result (λ r. r.result ≡ 0) }
@@ -229,7 +246,8 @@ impl Guest {
         clear: u32,
         status: u32,
     ) -> Result<CallRecord, Memory>
-        requires { IsTrue (writable (state_of self.old).memory clear 4) }
+        requires running { IsRunning (thread_at (state_of self.old) tid) }
+        requires allowed { IsTrue (writable (state_of self.old).memory clear 4) }
         ensures carries { IfOk result (λ r.
             Carries (NoResult (range clear (0 ∷ 0 ∷ 0 ∷ 0 ∷ [])) (λ s. leaves tid status (wakes clear 1 s)))
             tid (state_of self.old) r (state_of self.new)) }
@@ -242,7 +260,7 @@ impl Guest {
     {
         let written = cleared_word(alloc, clear)?;
         self.clear_word(clear)?;
-        self.wake_first(clear);
+        let _ = self.wake(clear, 1);
         self.leave(tid, status);
         self.put = None;
         Ok(CallRecord { result: 0, written })

@@ -1,34 +1,31 @@
 //! Small changes of a guest's state.
 
-ghost use Rattle.std.specs.Prelude.{◌≡◌, ◌==◌, not, filter, find, OnOk, OnErr, IsTrue};
+ghost use Rattle.std.specs.Prelude.{◌≡◌, ◌≤◌, ◌<◌, OnOk, OnErr, IsTrue, length};
 ghost use Rattle.std.specs.Int.{w32, to_le_bytes};
 ghost use Rattle.rrv_model.specs.Memory.{writable, stored};
-ghost use Rattle.rrv_model.specs.State.{thread_at, IsThread};
-ghost use Rattle.rrv_model.specs.CallRows.{change_thread, set_register, waits_at, woken, wakes, leaves, clears, ends, with_memory};
+ghost use Rattle.rrv_model.specs.State.{thread_at, with_register, AreRegs, IsRunning};
+ghost use Rattle.rrv_model.specs.CallRows.{change_thread, waiters, waits, wakes, leaves, clears, ends, with_memory};
 ghost use Rattle.rrv_model.specs.Calls.{results};
 ghost use Rattle.guest_pages.specs.Space.{snapshots_of};
 ghost use Rattle.guest_calls.specs.Guest.{state_of};
 
 use crate::guest::Guest;
-use rrv_model::machine::{GuestEnd, Thread};
+use rrv_model::machine::{GuestEnd, Regs, Thread};
 use rrv_model::refusal::Memory;
 
-/// The thread with a call's result in a0.
-fn with_result(thread: Thread, value: u32) -> Thread
-    requires { IsThread thread }
-    ensures fits { IsThread result }
-    ensures value { result ≡ set_register 10 value thread }
-{
-    let mut thread = thread;
-    thread.regs.registers[10] = value;
-    thread
-}
+/// The register of a call's result.
+pub(crate) const A0: usize = 10;
 
-/// Takes a tid out of a list.
-fn take_out(tids: &mut Vec<u32>, tid: u32)
-    ensures { tids.new.items ≡ filter (λ t. not (t == tid)) tids.old.items }
+/// The registers with one of x1 to x31 set.
+pub(crate) fn with_register(regs: Regs, register: usize, value: u32) -> Regs
+    requires fits { AreRegs regs }
+    requires register { (1 ≤ register) × (register < 32) }
+    ensures fits { AreRegs result }
+    ensures value { result ≡ with_register register value regs }
 {
-    tids.retain(|t| *t != tid);
+    let mut regs = regs;
+    regs.registers[register] = value;
+    regs
 }
 
 impl Guest {
@@ -39,7 +36,8 @@ impl Guest {
         ensures snapshots { snapshots_of self.new.space ≡ snapshots_of self.old.space }
     {
         if let Some(thread) = self.threads.get(tid) {
-            self.threads.set(tid, with_result(thread, value));
+            self.threads
+                .set_regs(tid, with_register(thread.regs, A0, value));
         }
     }
 
@@ -49,10 +47,7 @@ impl Guest {
         ensures ran { self.new.ran ≡ self.old.ran }
         ensures snapshots { snapshots_of self.new.space ≡ snapshots_of self.old.space }
     {
-        if let Some(mut thread) = self.threads.get(tid) {
-            thread.clear = address;
-            self.threads.set(tid, thread);
-        }
+        self.threads.set_clear(tid, address);
     }
 
     /// Tests whether an exit of the thread clears a word.
@@ -77,50 +72,28 @@ impl Guest {
         }
     }
 
-    fn waits_at(&self, tid: u32, address: u32) -> bool
-        ensures { result ≡ waits_at (state_of self.now) address tid }
-    {
-        match self.threads.get(tid) {
-            Some(thread) => match thread.waits_at {
-                Some(at) => address == at,
-                None => false,
-            },
-            None => false,
-        }
-    }
-
-    /// The first thread in the waiting order that waits at an address.
-    fn first_waiter(&self, address: u32) -> Option<u32>
-        ensures { result ≡ find (waits_at (state_of self.now) address) (state_of self.now).waiting }
-    {
-        self.waiting
-            .iter()
-            .copied()
-            .find(|tid| self.waits_at(*tid, address))
-    }
-
-    /// A waiting thread runs again.
-    fn wake(&mut self, tid: u32)
-        ensures state { state_of self.new ≡ woken (state_of self.old) tid }
+    /// A running thread waits at an address, last in the waiting order.
+    pub(crate) fn wait(&mut self, tid: u32, address: u32) -> Result<(), Memory>
+        requires { IsRunning (thread_at (state_of self.old) tid) }
+        ensures state { OnOk result (state_of self.new ≡ waits tid address (state_of self.old)) }
+        ensures refused { OnErr result (self.new ≡ self.old) }
         ensures ran { self.new.ran ≡ self.old.ran }
         ensures snapshots { snapshots_of self.new.space ≡ snapshots_of self.old.space }
     {
-        take_out(&mut self.waiting, tid);
-        if let Some(mut thread) = self.threads.get(tid) {
-            thread.waits_at = None;
-            self.threads.set(tid, thread);
-        }
+        let Ok(()) = self.threads.wait(tid, address) else {
+            return Err(Memory);
+        };
+        Ok(())
     }
 
-    /// Wakes the first thread that waits at an address.
-    pub(crate) fn wake_first(&mut self, address: u32)
-        ensures state { state_of self.new ≡ wakes address 1 (state_of self.old) }
+    /// Wakes the first count threads that wait at an address, in the waiting order, and answers how many it woke.
+    pub(crate) fn wake(&mut self, address: u32, count: u32) -> u32
+        ensures count { result ≡ length (waiters (state_of self.old) address count) }
+        ensures state { state_of self.new ≡ wakes address count (state_of self.old) }
         ensures ran { self.new.ran ≡ self.old.ran }
         ensures snapshots { snapshots_of self.new.space ≡ snapshots_of self.old.space }
     {
-        if let Some(tid) = self.first_waiter(address) {
-            self.wake(tid);
-        }
+        self.threads.wake(address, count)
     }
 
     /// Ends the guest.
@@ -132,13 +105,16 @@ impl Guest {
         self.ended = Some(GuestEnd::Exited((status % 256) as u8));
     }
 
-    /// A thread leaves; the last one ends the guest.
+    /// A running thread leaves; the last one ends the guest.
     pub(crate) fn leave(&mut self, tid: u32, status: u32)
+        requires { IsRunning (thread_at (state_of self.old) tid) }
         ensures state { state_of self.new ≡ leaves tid status (state_of self.old) }
         ensures ran { self.new.ran ≡ self.old.ran }
         ensures snapshots { snapshots_of self.new.space ≡ snapshots_of self.old.space }
     {
-        self.threads.remove(tid);
+        let Ok(()) = self.threads.exit(tid) else {
+            unreachable!();
+        };
         if self.threads.is_empty() {
             self.end(status);
         }

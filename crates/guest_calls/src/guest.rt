@@ -3,12 +3,12 @@
 ghost use Rattle.std.specs.Prelude.{◌≡◌, ◌↔◌, ◌≤◌, ℕ, IsTrue, IfOk, OnErr, Contains, Some, None};
 ghost use Rattle.std.specs.List.Sorted.{IsStrictlyIncreasing};
 ghost use Rattle.rrv_model.specs.Memory.{page_count, IsMemory};
-ghost use Rattle.rrv_model.specs.State.{thread_at, IsRunning, IsThread};
+ghost use Rattle.rrv_model.specs.State.{thread_at, IsRunning, IsState, IsThread};
 ghost use Rattle.guest_pages.specs.Space.{snapshots_of};
 
 use crate::put::Put;
-use crate::threads::Threads;
 use guest_pages::Space;
+use guest_threads::Threads;
 use rrv_model::machine::{GuestEnd, Reservation, Thread};
 use rrv_model::refusal::Memory;
 use std::alloc::Global;
@@ -19,9 +19,6 @@ use std::marker::Model;
 pub struct Guest {
     pub(crate) space: Space,
     pub(crate) threads: Threads,
-    /// The tids of the waiting threads, in the waiting order.
-    pub(crate) waiting: Vec<u32>,
-    pub(crate) next_tid: u32,
     pub(crate) opening_break: u32,
     pub(crate) program_break: u32,
     pub(crate) reservation: Reservation,
@@ -40,8 +37,6 @@ impl Model for Guest {
     ghost view = { λ g. record {
       space = g.space;
       threads = g.threads;
-      waiting = g.waiting.items;
-      next_tid = g.next_tid;
       opening_break = g.opening_break;
       program_break = g.program_break;
       reservation = g.reservation;
@@ -107,6 +102,17 @@ impl Guest {
         &self.space
     }
 
+    /// The guest's threads, with the waiting order and the next tid. That its state keeps the rules of one is told here,
+    /// too.
+    pub fn threads(&self) -> &Threads
+        ensures value { result.now ≡ self.now.threads }
+        ensures is_state { IsState (state_of self.now) }
+    {
+        let _ = self.space.page_count();
+        let _ = self.threads.live();
+        &self.threads
+    }
+
     /// A thread, by its tid.
     pub fn thread(&self, tid: u32) -> Option<Thread>
         ensures { result ≡ thread_at (state_of self.now) tid }
@@ -119,10 +125,7 @@ impl Guest {
         ensures runs { IsTrue result ↔ IsRunning (thread_at (state_of self.now) tid) }
         ensures tid { IsTrue result → 1 ≤ tid }
     {
-        match self.threads.get(tid) {
-            Some(thread) => thread.waits_at.is_none(),
-            None => false,
-        }
+        self.threads.is_running(tid)
     }
 
     /// Tests whether two guests are in one state.
@@ -130,13 +133,20 @@ impl Guest {
         ensures { IsTrue result ↔ (state_of self.now ≡ state_of other.now) }
     {
         self.space.same(&other.space)
-            && self.threads.same(&other.threads)
-            && self.waiting == other.waiting
-            && self.next_tid == other.next_tid
+            && self.same_threads(other)
             && self.opening_break == other.opening_break
             && self.program_break == other.program_break
             && self.reservation == other.reservation
             && self.ended == other.ended
+    }
+
+    /// Tests whether two guests have the same threads, in the same waiting order, and the same next tid.
+    fn same_threads(&self, other: &Guest) -> bool
+        ensures { IsTrue result ↔ ((state_of self.now).threads ≡ (state_of other.now).threads)
+            × ((state_of self.now).waiting ≡ (state_of other.now).waiting)
+            × ((state_of self.now).next_tid ≡ (state_of other.now).next_tid) }
+    {
+        self.threads.same(&other.threads)
     }
 
     /// Tests whether some thread runs.
@@ -152,7 +162,7 @@ impl Guest {
         ensures running { IfOk result (λ tids. (tid : ℕ) → Contains tids.items tid ↔ IsRunning (thread_at (state_of self.now) tid)) }
         ensures memory { OnErr result (HasRunning (state_of self.now)) }
     {
-        self.threads.running(alloc)
+        self.threads.runnable(alloc)
     }
 
     /// A thread that runs.

@@ -45,7 +45,7 @@ impl Guest {
             &mut self.reservation,
             limit,
         );
-        self.threads.set(tid, thread);
+        self.threads.set_regs(tid, thread.regs);
         run
     }
 
@@ -79,9 +79,9 @@ impl Guest {
         ensures snapshots { snapshots_of self.new.space ≡ snapshots_of self.old.space }
         ensures put { self.new.put ≡ self.old.put }
     {
-        let mut thread = self.running_thread(tid);
-        thread.regs.pc = thread.regs.pc.wrapping_sub(4);
-        self.threads.set(tid, thread);
+        let mut regs = self.running_thread(tid).regs;
+        regs.pc = regs.pc.wrapping_sub(4);
+        self.threads.set_regs(tid, regs);
         self.ran = self.ran_before_call;
     }
 }

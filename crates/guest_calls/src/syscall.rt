@@ -1,5 +1,6 @@
-//! The calls that are carried out, by their numbers.
+//! The calls that are carried out without asking the outside, by their numbers.
 
+ghost use Rattle.guest_calls.specs.Asking.{IsQuiet};
 ghost use Rattle.guest_calls.specs.Carries.{IsNumber};
 
 /// A call that is carried out, or any other, which is refused.
@@ -10,18 +11,21 @@ pub(crate) enum Syscall {
     Exit,
     ExitGroup,
     SetTidAddress,
+    Futex,
     SchedYield,
     Getpid,
     Gettid,
     Brk,
     Munmap,
+    Clone,
     Mmap,
     Mprotect,
     Other,
 }
 
-/// The call with a number.
+/// The call with a number, which isn't that of a call that asks the outside.
 pub(crate) fn syscall_of(number: u32) -> Syscall
+    requires { IsQuiet number }
     ensures { IsNumber result number }
 {
     match number {
@@ -30,11 +34,13 @@ pub(crate) fn syscall_of(number: u32) -> Syscall
         93 => Syscall::Exit,
         94 => Syscall::ExitGroup,
         96 => Syscall::SetTidAddress,
+        98 | 422 => Syscall::Futex,
         124 => Syscall::SchedYield,
         172 => Syscall::Getpid,
         178 => Syscall::Gettid,
         214 => Syscall::Brk,
         215 => Syscall::Munmap,
+        220 => Syscall::Clone,
         222 => Syscall::Mmap,
         226 => Syscall::Mprotect,
         _ => Syscall::Other,

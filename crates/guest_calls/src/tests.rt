@@ -1,17 +1,24 @@
 //! Small guests, each up to its first call. Results are negated errno values of Linux (man pages, errno(3)).
 
-ghost use Rattle.std.specs.Prelude.{◌≡◌, ◌≤◌, ◌<◌};
-ghost use Rattle.rrv_model.specs.State.{IsThread};
+pub(crate) mod scripted;
 
+ghost use Rattle.std.specs.Prelude.{◌≤◌, ◌<◌};
+ghost use Rattle.rrv_model.specs.State.{AreRegs};
+
+use crate::changes::with_register;
 use crate::guest::Guest;
 use crate::outside::Outside;
 use crate::run::RunEnd;
 use elf_load::image::parse;
-use rrv_model::machine::{GuestEnd, Thread};
+use rrv_model::machine::{GuestEnd, Regs};
 use rrv_model::record::CallRecord;
+use rrv_model::refusal::Memory;
 use std::alloc::Global;
 use std::process::Abort;
 use std::test::Fail;
+
+mod memory;
+mod refusals;
 
 /// An ELF header and one program header, for a file of 116 bytes that is loaded at 0x10000 and starts behind them.
 const HEADERS: [u8; 84] = [
@@ -52,6 +59,8 @@ fn a7(n: u32) -> u32 {
 pub(crate) struct Nothing;
 
 impl Outside for Nothing {
+    ghost gives = { λ _ _ _ _. Unit {0} };
+
     fn read(&mut self, _: &mut [u8]) -> usize {
         0
     }
@@ -78,16 +87,72 @@ pub(crate) fn guest_of(alloc: Global, code: [u32; 8]) -> Result<Guest, Fail> {
     Ok(Guest::open(alloc, &image, b"a", [7; 16])?)
 }
 
-/// The thread with a register set.
-fn with(thread: Thread, register: usize, value: u32) -> Thread
-    requires fits { IsThread thread }
+/// The registers with one of them set.
+fn with(regs: Regs, register: usize, value: u32) -> Regs
+    requires fits { AreRegs regs }
     requires register { (1 ≤ register) × (register < 32) }
-    ensures fits { IsThread result }
-    ensures waits { result.waits_at ≡ thread.waits_at }
+    ensures { AreRegs result }
 {
-    let mut thread = thread;
-    thread.regs.registers[register] = value;
-    thread
+    with_register(regs, register, value)
+}
+
+/// The call of this number that a running thread makes, with the arguments a0 to a4.
+fn call_by<O: Outside>(
+    rt: &impl Abort,
+    alloc: Global,
+    guest: &mut Guest,
+    tid: u32,
+    outside: &mut O,
+    number: u32,
+    arguments: [u32; 5],
+) -> Result<CallRecord, Memory> {
+    assert!(rt; guest.is_running(tid));
+    assert!(rt; guest.ended().is_none());
+    let regs = with(guest.running_thread(tid).regs, 17, number);
+    let regs = with(with(regs, 10, arguments[0]), 11, arguments[1]);
+    let regs = with(with(regs, 12, arguments[2]), 13, arguments[3]);
+    guest.threads.set_regs(tid, with(regs, 14, arguments[4]));
+    assert!(rt; guest.is_running(tid));
+    guest.call(alloc, tid, outside)
+}
+
+/// What a running thread is answered to a call of this number, with the arguments a0 to a4.
+pub(crate) fn answer_to(
+    rt: &impl Abort,
+    alloc: Global,
+    guest: &mut Guest,
+    tid: u32,
+    number: u32,
+    arguments: [u32; 5],
+) -> Result<CallRecord, Fail> {
+    Ok(call_by(rt, alloc, guest, tid, &mut Nothing, number, arguments)?)
+}
+
+/// A guest of the threads 1 to count.
+pub(crate) fn guest_with_threads<R: Abort>(
+    rt: &R,
+    alloc: Global,
+    count: u32,
+) -> Result<Guest, Fail> {
+    let mut guest = guest_of(alloc, [0; 8])?;
+    for number in 1..count {
+        let record = answer_to(rt, alloc, &mut guest, 1, 220, [0x1_0F00, 0, 0, 0, 0])?;
+        assert_eq!(rt; record.result, number + 1);
+    }
+    Ok(guest)
+}
+
+/// The call of this number, with these arguments, that the guest's thread 1 makes.
+pub(crate) fn call_of<O: Outside>(
+    rt: &impl Abort,
+    alloc: Global,
+    guest: &mut Guest,
+    outside: &mut O,
+    number: u32,
+    arguments: [u32; 4],
+) -> Result<CallRecord, Memory> {
+    let arguments = [arguments[0], arguments[1], arguments[2], arguments[3], 0];
+    call_by(rt, alloc, guest, 1, outside, number, arguments)
 }
 
 /// What the guest's thread 1 is answered to a call of this number, with these arguments.
@@ -99,14 +164,7 @@ pub(crate) fn answer_of<O: Outside>(
     number: u32,
     arguments: [u32; 4],
 ) -> Result<CallRecord, Fail> {
-    assert!(rt; guest.is_running(1));
-    assert!(rt; guest.ended().is_none());
-    let thread = with(guest.running_thread(1), 17, number);
-    let thread = with(with(thread, 10, arguments[0]), 11, arguments[1]);
-    let thread = with(with(thread, 12, arguments[2]), 13, arguments[3]);
-    guest.threads.set(1, thread);
-    assert!(rt; guest.is_running(1));
-    Ok(guest.call(alloc, 1, outside)?)
+    Ok(call_of(rt, alloc, guest, outside, number, arguments)?)
 }
 
 /// The guest behind its first call, and what that answered.

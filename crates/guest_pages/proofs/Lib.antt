@@ -6,3 +6,4 @@ pub mod Ranges
 pub mod Same
 pub mod Kept
 pub mod Changes
+pub mod WordStores

@@ -2,3 +2,4 @@ pub mod Pages
 pub mod Space
 pub mod Mapping
 pub mod Snapshots
+pub mod Stores

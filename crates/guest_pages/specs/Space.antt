@@ -111,3 +111,7 @@ IsLoadRefusal m a count faults.NotMapped = (present m a count ≡ false) × (rea
 IsLoadRefusal m a count faults.NotAllowed = (present m a count ≡ true) × (readable m a count ≡ false)
 IsLoadRefusal m a count faults.TooManyPages = ⊥
 IsLoadRefusal m a count faults.Memory = ⊥
+
+-- a fill of count bytes from a takes no memory: they are there, in pages that the space has for itself, as it has all of its pages
+abbrev pub CanFill : SpaceValue → ℕ → ℕ → Type 0
+CanFill s a count = IsTrue (present (memory_of s) a count)

@@ -3,7 +3,7 @@
 ghost use Rattle.std.specs.Prelude.{◌≡◌, ◌≢◌, ℕ, ◌+◌, ◌<◌, ◌≤◌, ◌^◌, OnOk, OnErr, IfErr, IfOk, IsTrue, IsSome, IsSomeAnd, Some, None, true, false, length, slice_index, ◌%◌, ◌*◌, ◌↔◌};
 ghost use Rattle.std.specs.Int.{w8, w16, w32, to_le_bytes};
 ghost use Rattle.rrv_model.specs.Memory.{all_free, all_mapped, byte_or_zero, bytes_at, highest_free_up_to, mapped, no_memory, page_bytes, protected, readable, unmapped, writable, all_cells, stored, page_count, is_mapped, IsMemory};
-ghost use Rattle.guest_pages.specs.Space.{memory_of, memory_in, snapshots_of, fetched_word, loaded_byte, loaded_half, loaded_word, cell_byte, page_at, page_passes, test_of, present, IsLoadRefusal, IsStoreRefusal};
+ghost use Rattle.guest_pages.specs.Space.{memory_of, memory_in, snapshots_of, fetched_word, loaded_byte, loaded_half, loaded_word, cell_byte, page_at, page_passes, test_of, present, CanFill, IsLoadRefusal, IsStoreRefusal};
 ghost use Rattle.guest_pages.specs.Mapping.{IsMapRefusal, covered};
 ghost use Rattle.guest_pages.specs.Snapshots.{AreChanges, IsPageOf};
 
@@ -443,19 +443,35 @@ impl Space {
         ensures err { OnErr result (self.new ≡ self.old) }
         ensures snapshots { snapshots_of self.new ≡ snapshots_of self.old }
     {
-        if !self.passes(address, bytes.len(), Access::Presence) {
+        self.prepare(address, bytes.len())?;
+        self.fill(address, bytes);
+        Ok(())
+    }
+
+    /// Tests whether so many bytes can be stored, and makes ready for them, which changes nothing: a [`Space::fill`] of them
+    /// then takes no memory. Refused as [`Space::store`] is, so that memory is wanted here and not at the fill. No page is
+    /// shared with a snapshot, so none is copied.
+    pub fn prepare(&mut self, address: u32, count: usize) -> Result<(), PageFault>
+        ensures allowed { OnOk result (IsTrue (writable (memory_of self.old) address count)) }
+        ensures ready { OnOk result (CanFill self.new address count) }
+        ensures refused { IfErr result (IsStoreRefusal (memory_of self.old) address count) }
+        ensures some { OnErr result (1 ≤ count) }
+        ensures memory { memory_of self.new ≡ memory_of self.old }
+        ensures err { OnErr result (self.new ≡ self.old) }
+        ensures snapshots { snapshots_of self.new ≡ snapshots_of self.old }
+    {
+        if !self.passes(address, count, Access::Presence) {
             return Err(PageFault::NotMapped);
         }
-        if !self.passes(address, bytes.len(), Access::Write) {
+        if !self.passes(address, count, Access::Write) {
             return Err(PageFault::NotAllowed);
         }
-        self.fill(address, bytes);
         Ok(())
     }
 
     /// Writes bytes that are there, whatever their permissions, as a loader does. It takes no memory.
     pub fn fill(&mut self, address: u32, bytes: &[u8])
-        requires { IsTrue (present (memory_of self.old) address (length bytes.now)) }
+        requires { CanFill self.old address (length bytes.now) }
         ensures memory { memory_of self.new ≡ stored address bytes.now (memory_of self.old) }
         ensures snapshots { snapshots_of self.new ≡ snapshots_of self.old }
     {

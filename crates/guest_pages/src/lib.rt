@@ -6,6 +6,7 @@ pub mod fault;
 mod mapping;
 pub mod page;
 mod snapshot;
+mod words;
 
 pub use address_space::Space;
 pub use fault::PageFault;

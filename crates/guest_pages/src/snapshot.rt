@@ -24,12 +24,14 @@ impl Model for Snapshot {
 }
 
 impl Snapshot {
+    /// The token of a snapshot by its number.
     pub(crate) fn new(number: usize) -> Snapshot
         ensures { result ≡ number }
     {
         Snapshot { number }
     }
 
+    /// The number of the snapshot that it stands for.
     pub(crate) fn number(&self) -> usize
         ensures { result ≡ self.now }
     {

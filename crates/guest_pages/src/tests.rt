@@ -146,3 +146,18 @@ fn a_loader_fills_what_it_covers(rt: HostRuntime) -> Result<(), Fail> {
     assert_eq!(rt; space.load_half(0x3FFE), Some(0x0201));
     Ok(())
 }
+
+#[test]
+fn what_is_prepared_is_filled(rt: HostRuntime) -> Result<(), Fail> {
+    let mut space = Space::new(rt.alloc());
+    space.map(1, 2, DATA)?;
+    space.map(3, 1, CONSTANTS)?;
+    assert_eq!(rt; space.prepare(0x2FFF, 2), Err(PageFault::NotAllowed));
+    assert_eq!(rt; space.prepare(0x3FFF, 2), Err(PageFault::NotMapped));
+    assert_eq!(rt; space.prepare(0, 0), Ok(()));
+    space.prepare(0x1FFE, 4)?;
+    assert_eq!(rt; space.load_word(0x1FFE), Some(0));
+    space.fill(0x1FFE, &[1, 2, 3, 4]);
+    assert_eq!(rt; space.load_word(0x1FFE), Some(0x0403_0201));
+    Ok(())
+}

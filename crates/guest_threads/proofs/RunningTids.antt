@@ -1,5 +1,5 @@
 -- The tids of the threads that run.
-use Rattle.std.proofs.Common.{◌≡◌, ◌↔◌, ℕ, Bool, true, false, cond, ◌||◌, List, [], ◌∷◌, filter, Contains, Option, Some, None, refl, sym, ◌∙◌, ap, subst}
+use Rattle.std.proofs.Common.{◌≡◌, ◌↔◌, ℕ, Bool, true, false, cond, ◌||◌, List, [], ◌∷◌, filter, Contains, Option, Some, None, Result, Ok, Err, OnErr, refl, sym, ◌∙◌, ap, subst}
 use Rattle.std.proofs.lemmas.Bool.{false≢true}
 use Rattle.std.proofs.lemmas.Map.Keys.{IsStrictlyIncreasing-from_sorted}
 use Rattle.std.proofs.lemmas.Map.Views.{list_any-from_Contains, Contains-from_any}
@@ -14,6 +14,10 @@ use Rattle.rrv_model.specs.declared.machine.Thread.{Thread}
 use Rattle.rrv_model.specs.State.{IsRunning}
 use Rattle.guest_threads.specs.Threads.{thread_map, running_in, runs}
 use Rattle.guest_threads.proofs.ByTid.{entry_at, get_thread, same_tid, runs_is, is_runs, none_later}
+
+pub on_err : {T E P : Type 0} (r : Result T E) → P → OnErr r P
+on_err (Ok x) p = tt
+on_err (Err e) p = p
 
 -- ---- their order
 

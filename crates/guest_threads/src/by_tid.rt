@@ -54,6 +54,15 @@ pub(crate) fn remove_thread(threads: &mut BTreeMap<u32, Thread>, tid: u32)
     let _ = threads.remove(&tid);
 }
 
+/// The same threads once more.
+pub(crate) fn clone_threads(
+    threads: &BTreeMap<u32, Thread>,
+) -> Result<BTreeMap<u32, Thread>, Memory>
+    ensures { IfOk result (λ copy. copy.entries ≡ threads.now.entries) }
+{
+    Ok(threads.clone()?)
+}
+
 /// How many threads there are.
 pub(crate) fn count_threads(threads: &BTreeMap<u32, Thread>) -> usize
     ensures { result ≡ len (thread_map threads.now.entries) }
@@ -120,7 +129,8 @@ pub(crate) fn some_thread_runs(threads: &BTreeMap<u32, Thread>) -> bool
 
 /// The tids of the threads that run, rising.
 fn list_running(alloc: Global, threads: &BTreeMap<u32, Thread>) -> Result<Vec<u32>, Memory>
-    ensures { IfOk result (λ tids. tids.items ≡ running_in threads.now.entries) }
+    ensures tids { IfOk result (λ tids. tids.items ≡ running_in threads.now.entries) }
+    ensures memory { OnErr result ((tid : ℕ) × Contains (running_in threads.now.entries) tid) }
 {
     let mut tids = Vec::new(alloc);
     for (tid, thread) in threads {
@@ -141,6 +151,7 @@ pub(crate) fn running_tids(
     ensures rising { IfOk result (λ tids. IsStrictlyIncreasing tids.items) }
     ensures running { IfOk result (λ tids. (tid : ℕ)
         → Contains tids.items tid ↔ IsRunning (get (thread_map threads.now.entries) tid)) }
+    ensures memory { OnErr result ((tid : ℕ) × IsRunning (get (thread_map threads.now.entries) tid)) }
 {
     let _ordered = threads.len();
     let tids = list_running(alloc, threads)?;

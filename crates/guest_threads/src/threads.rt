@@ -1,13 +1,14 @@
 //! The threads of a guest, and what they tell.
 
-ghost use Rattle.std.specs.Prelude.{◌≡◌, ◌↔◌, ℕ, ◌<◌, ◌≤◌, IsTrue, IfSome, OnSome, IfOk, Contains, [], Some, None};
+ghost use Rattle.std.specs.Prelude.{◌≡◌, ◌↔◌, ℕ, ◌<◌, ◌≤◌, IsTrue, IfSome, OnSome, IfOk, OnErr, Contains, [], Some, None};
 ghost use Rattle.std.specs.FinMap.{insert, empty};
 ghost use Rattle.std.specs.List.Sorted.{IsStrictlyIncreasing};
 ghost use Rattle.rrv_model.specs.Memory.{IsMemory};
 ghost use Rattle.rrv_model.specs.State.{State, IsState, IsThread, IsRunning};
 
 use crate::by_tid::{
-    add_thread, count_threads, find_thread, running_tids, same_threads, some_thread_runs,
+    add_thread, clone_threads, count_threads, find_thread, running_tids, same_threads,
+    some_thread_runs,
 };
 use rrv_model::limits::{MAX_THREADS, MAX_TID};
 use rrv_model::machine::Thread;
@@ -56,6 +57,17 @@ impl Threads {
         }
     }
 
+    /// The same threads once more, with their waiting order and next tid. Refused where a growth is.
+    pub fn try_clone(&self, alloc: Global) -> Result<Threads, Memory>
+        ensures { IfOk result (λ threads. threads ≡ self.now) }
+    {
+        Ok(Threads {
+            threads: clone_threads(&self.threads)?,
+            waiting: self.waiting().to_vec(alloc)?,
+            next_tid: self.next_tid,
+        })
+    }
+
     /// A thread, by its tid.
     #[inline]
     pub fn get(&self, tid: u32) -> Option<Thread>
@@ -85,11 +97,12 @@ impl Threads {
         some_thread_runs(&self.threads)
     }
 
-    /// The tids of the threads that run, rising.
+    /// The tids of the threads that run, rising. Refused only for want of memory, where some thread runs.
     pub fn runnable(&self, alloc: Global) -> Result<Vec<u32>, Memory>
         ensures rising { IfOk result (λ tids. IsStrictlyIncreasing tids.items) }
         ensures running { IfOk result (λ tids. (tid : ℕ)
             → Contains tids.items tid ↔ IsRunning (thread_in self.now tid)) }
+        ensures memory { OnErr result ((tid : ℕ) × IsRunning (thread_in self.now tid)) }
     {
         running_tids(alloc, &self.threads)
     }
@@ -99,7 +112,7 @@ impl Threads {
     pub fn live(&self) -> u32
         ensures count { result ≡ live_count self.now }
         ensures rules { KeepRules self.now }
-        ensures state { (s : State) → IsMemory s.memory
+        ensures state { (s : State) → IsMemory s.memory → 0x1000 ≤ s.opening_break
             → (s.opening_break ≤ s.program_break) × (s.program_break ≤ 0x70000000) → IsState (with_threads self.now s) }
     {
         count_threads(&self.threads) as u32

@@ -2,6 +2,7 @@ pub mod Gained
 pub mod Lines
 pub mod Recorded
 pub mod Refused
+pub mod Silent
 pub mod Told
 pub mod Turns
 pub mod Tried

@@ -40,3 +40,5 @@ mod recording_tests;
 mod tests;
 #[cfg(test)]
 mod text_tests;
+#[cfg(test)]
+mod threads;

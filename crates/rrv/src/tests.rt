@@ -93,6 +93,46 @@ fn try_puts_the_output_out(rt: HostRuntime) {
 }
 
 #[test]
+fn each_descriptor_has_its_stream(rt: HostRuntime) -> Result<(), Fail> {
+    let mut words = HELLO_CODE;
+    words[4] = 0x0020_0513;
+    let elf = guest_of(rt.alloc(), &words)?;
+    assert!(rt; fs::write(&rt, "errors", elf.as_slice()).is_ok());
+    let mut out = Vec::new(rt.alloc());
+    let mut err = Vec::new(rt.alloc());
+    let status = run(&rt, &["try", "errors"], &mut out, &mut err);
+    assert!(rt; fs::remove_file(&rt, "errors").is_ok());
+    assert_eq!(rt; status, 0);
+    let want: &[u8] = b"0 opening name=g0 elf=128\n1 call tid=1 count=8 result=00000003 written=0\n\
+        2 call tid=1 count=3 result=00000000 written=0\nok records=3 instructions=11 end exited 0\n";
+    assert_eq!(rt; out.as_slice(), want);
+    assert_eq!(rt; err.as_slice(), b"hi\n".as_slice());
+    Ok(())
+}
+
+#[test]
+fn a_trial_has_zeros_for_random_bytes(rt: HostRuntime) -> Result<(), Fail> {
+    // It writes the 16 random bytes of its opening, at 0x7FFFFFF0, and exits with 16.
+    let words = [
+        0x800005B7, 0xFF058593, 0x00100513, 0x01000613, 0x04000893, 0x00000073, 0x05D00893,
+        0x00000073,
+    ];
+    let elf = guest_of(rt.alloc(), &words)?;
+    assert!(rt; fs::write(&rt, "random", elf.as_slice()).is_ok());
+    let mut out = Vec::new(rt.alloc());
+    let mut err = Vec::new(rt.alloc());
+    let status = run(&rt, &["try", "random"], &mut out, &mut err);
+    assert!(rt; fs::remove_file(&rt, "random").is_ok());
+    assert_eq!(rt; status, 0);
+    let want: &[u8] = b"\0\0\0\0\0\0\0\0\0\0\0\0\0\0\0\00 opening name=g0 elf=116\n\
+        1 call tid=1 count=6 result=00000010 written=0\n\
+        2 call tid=1 count=2 result=00000000 written=0\nok records=3 instructions=8 end exited 16\n";
+    assert_eq!(rt; out.as_slice(), want);
+    assert!(rt; err.is_empty());
+    Ok(())
+}
+
+#[test]
 fn bad_files_are_refused_by_name(rt: HostRuntime) {
     let text: &[u8] =
         b"This is a text and no program, though it has more than the 52 bytes of a header.\n";

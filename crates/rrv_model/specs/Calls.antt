@@ -23,16 +23,16 @@ carried_out SetTidAddress = SetTidAddress
 carried_out SchedYield = SchedYield
 carried_out Getpid = Getpid
 carried_out Gettid = Gettid
-carried_out Read = Other
+carried_out Read = Read
 carried_out Writev = Writev
-carried_out Futex = Other
+carried_out Futex = Futex
 carried_out Brk = Brk
 carried_out Munmap = Munmap
-carried_out Clone = Other
+carried_out Clone = Clone
 carried_out Mmap = Mmap
 carried_out Mprotect = Mprotect
-carried_out Getrandom = Other
-carried_out ClockGettime = Other
+carried_out Getrandom = Getrandom
+carried_out ClockGettime = ClockGettime
 carried_out Other = Other
 
 -- the number is in a7

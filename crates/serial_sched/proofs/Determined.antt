@@ -1,60 +1,133 @@
--- The calls that are carried out ask nobody, so their records are determined by the state.
-use Rattle.std.proofs.Common.{◌≡◌, ℕ, Bool, true, false, cond, Option, Some, None, refl, sym, ◌∙◌, subst, arith}
-use Rattle.std.proofs.lemmas.Bool.{false≢true}
+-- A recorded call that is made again from its state is answered as it was, so its record is determined by the state.
+use Rattle.std.proofs.Common.{◌≡◌, ℕ, ◌^◌, ◌<◌, ◌≤◌, min, not, ◌||◌, ◌==◌, nat_le, if◌then◌else◌, List, [], ◌∷◌, ◌++◌, length, take, drop, All, Option, Some, None, refl, sym, ◌∙◌, ap, subst, arith}
 use Rattle.std.proofs.lemmas.Bool.Decides.{nat_tests}
+use Rattle.std.proofs.lemmas.List.{append-nil, take-append-le}
+use Rattle.std.proofs.lemmas.Nat.{from_le_bytes-to_le_bytes_8}
+use Rattle.std.proofs.Math.Seq.{take-length, drop-length}
+use Rattle.std.specs.Int.{w64, to_le_bytes, from_le_bytes}
 use Rattle.rrv_model.specs.declared.machine.Thread.{Thread}
+use Rattle.rrv_model.specs.declared.record.Written.{Written}
 use Rattle.rrv_model.specs.declared.record.CallRecord.{CallRecord}
-use Rattle.rrv_model.specs.State.{State, register}
-use Rattle.rrv_model.specs.CallRows.{Row, Answers, NoResult, AsksInput, AsksRandom, AsksTime, Call, Read, Write, Writev, Exit, ExitGroup, SetTidAddress, Futex, SchedYield, Getpid, Gettid, Brk, Munmap, Clone, Mmap, Mprotect, Getrandom, ClockGettime, Other, call_of, row_of, fails, maps_at, mmap_place}
-use Rattle.rrv_model.specs.Calls.{Answer, Calls, Records, call_row, carried_out}
-use Rattle.rrv_model.proofs.CallLaws.{same_thread}
+use Rattle.rrv_model.specs.State.{State, thread_at}
+use Rattle.rrv_model.specs.CallRows.{Row, Answers, NoResult, AsksInput, AsksRandom, AsksTime, argument, range}
+use Rattle.rrv_model.specs.Calls.{Answer, Silence, Bytes, Time, Calls, Records, call_row}
+use Rattle.guest_calls.specs.Asking.{Question, Input, Random, Clock, IsAnswered, CallIsAnswered}
+use Rattle.serial_sched.specs.declared.recorded.Recorded.{Recorded}
+use Rattle.serial_sched.specs.Answered.{answered, moment_in, IsMoment, Recalls}
 
-abbrev asks : Row → Bool
-asks (Answers result written change) = false
-asks (NoResult written change) = false
-asks (AsksInput a count) = true
-asks (AsksRandom a count) = true
-asks (AsksTime a) = true
+-- what the outside of a recorded call gives
+abbrev pub recalled : Recorded → Question → Answer → Recorded → Type 0
+recalled before question answer after = Recalls before.bytes.now question answer
 
-either : (b : Bool) (x y : Row) → asks x ≡ false → asks y ≡ false → asks (cond b x y) ≡ false
-either true x y p q = p
-either false x y p q = q
+-- ---- what a record tells of the answer
 
-maps_asks_nobody : (s : State) (t : Thread) (place : Option ℕ) → asks (maps_at s t place) ≡ false
-maps_asks_nobody s t None = refl
-maps_asks_nobody s t (Some page) = grind (arith, nat_tests, either)
+answered_range : (a : ℕ) (bytes : List ℕ) → answered (range a bytes) ≡ bytes
+answered_range a [] = refl
+answered_range a (b ∷ bytes) = refl
 
-asks_nobody : (call : Call) (tid : ℕ) (s : State) (t : Thread) → asks (row_of (carried_out call) tid s t) ≡ false
-unfolding row_of
-asks_nobody Read tid s t = refl
-asks_nobody Write tid s t = grind (arith, nat_tests, either)
-asks_nobody Writev tid s t = grind (arith, nat_tests, either)
-asks_nobody Exit tid s t = grind (arith, nat_tests, either)
-asks_nobody ExitGroup tid s t = refl
-asks_nobody SetTidAddress tid s t = refl
-asks_nobody Futex tid s t = refl
-asks_nobody SchedYield tid s t = refl
-asks_nobody Getpid tid s t = refl
-asks_nobody Gettid tid s t = refl
-asks_nobody Brk tid s t = grind (arith, nat_tests, either)
-asks_nobody Munmap tid s t = grind (arith, nat_tests, either)
-asks_nobody Clone tid s t = refl
-asks_nobody Mmap tid s t = either _ (fails 22) (maps_at s t (mmap_place s t)) refl (maps_asks_nobody s t (mmap_place s t))
-asks_nobody Mprotect tid s t = grind (arith, nat_tests, either)
-asks_nobody Getrandom tid s t = refl
-asks_nobody ClockGettime tid s t = refl
-asks_nobody Other tid s t = refl
+answered_in : (r : CallRecord) (result a : ℕ) (bytes : List ℕ) → r ≡ record { result = result; written = range a bytes } → answered r.written ≡ bytes
+answered_in r result a bytes is = ap (λ (r : CallRecord). answered r.written) is ∙ answered_range a bytes
 
-one_record : (row : Row) (x y : Answer) (q r : CallRecord) → asks row ≡ false → Records row x q → Records row y r → q ≡ r
-one_record (Answers result written change) x y q r e p p' = p ∙ sym p'
-one_record (NoResult written change) x y q r e p p' = p ∙ sym p'
-one_record (AsksInput a count) x y q r e p p' = absurd (false≢true (sym e))
-one_record (AsksRandom a count) x y q r e p p' = absurd (false≢true (sym e))
-one_record (AsksTime a) x y q r e p p' = absurd (false≢true (sym e))
+-- ---- a call that is made again
 
--- a call has one record
-pub one_call_record : (s : State) (tid : ℕ) (x y : Answer) (q r : CallRecord) (after after' : State) → Calls s tid x q after → Calls s tid y r after' → q ≡ r
-one_call_record s tid x y q r after after' p p' =
-    let e : p'.thread ≡ p.thread = same_thread _ _ _ p'.there p.there in
-    one_record (call_row s tid p.thread) x y q r (asks_nobody (call_of (register p.thread.regs 17)) tid s p.thread) p.records
-    (subst (λ (t : Thread). Records (call_row s tid t) y r) e p'.records)
+abbrev ranged : ℕ → List ℕ → ℕ → CallRecord
+ranged a bytes result = record { result = result; written = range a bytes }
+
+module _ {O : Type 0} (gives : O → Question → Answer → O → Type 0) (t : Thread) (told found : CallRecord) (before after : O)
+    (recalls : (question : Question) (answer : Answer) → gives before question answer after → Recalls (answered told.written) question answer) where
+  input_again : (a count : ℕ) (bytes : List ℕ) → Records (AsksInput a count) (Bytes bytes) told → IsAnswered gives (AsksInput a count) t found before after → found ≡ told
+  input_again a count bytes was p =
+      let same : answered told.written ≡ bytes = answered_in told (length bytes) a bytes was.2 in
+      let fits : length (answered told.written) ≤ count = subst (λ (bs : List ℕ). length bs ≤ count) (sym same) was.0 in
+      let answer : p.answer ≡ Bytes bytes = recalls (Input count) p.answer p.given fits ∙ ap Bytes same in
+      let again : Records (AsksInput a count) (Bytes bytes) found = subst (λ (x : Answer). Records (AsksInput a count) x found) answer p.records in
+      again.2 ∙ sym was.2
+
+  random_again : (a count : ℕ) (bytes : List ℕ) → Records (AsksRandom a count) (Bytes bytes) told → IsAnswered gives (AsksRandom a count) t found before after → found ≡ told
+  random_again a count bytes was p =
+      let same : answered told.written ≡ bytes = answered_in told count a bytes was.2 in
+      let fits : length (answered told.written) ≡ count = ap (λ (bs : List ℕ). length bs) same ∙ was.0 in
+      let answer : p.answer ≡ Bytes bytes = recalls (Random count) p.answer p.given fits ∙ ap Bytes same in
+      let again : Records (AsksRandom a count) (Bytes bytes) found = subst (λ (x : Answer). Records (AsksRandom a count) x found) answer p.records in
+      again.2 ∙ sym was.2
+
+  time_again : (a seconds nanoseconds : ℕ) → Records (AsksTime a) (Time seconds nanoseconds) told → IsAnswered gives (AsksTime a) t found before after → found ≡ told
+  time_again a seconds nanoseconds was p =
+      let moment : IsMoment (answered told.written) seconds nanoseconds = record {
+        seconds_low = was.0;
+        nanoseconds_low = was.1;
+        are = answered_in told 0 a (to_le_bytes w64 seconds ++ to_le_bytes w64 nanoseconds) was.2;
+      } in
+      let answer : p.answer ≡ Time seconds nanoseconds = recalls (Clock (argument t 0)) p.answer p.given seconds nanoseconds moment in
+      let again : Records (AsksTime a) (Time seconds nanoseconds) found = subst (λ (x : Answer). Records (AsksTime a) x found) answer p.records in
+      again.2 ∙ sym was.2
+
+  row_again : (row : Row) (x : Answer) → Records row x told → IsAnswered gives row t found before after → found ≡ told
+  row_again (Answers result written change) x was p = p.records ∙ sym was
+  row_again (NoResult written change) x was p = p.records ∙ sym was
+  row_again (AsksInput a count) Silence was p = absurd was
+  row_again (AsksInput a count) (Bytes bytes) was p = input_again a count bytes was p
+  row_again (AsksInput a count) (Time seconds nanoseconds) was p = absurd was
+  row_again (AsksRandom a count) Silence was p = absurd was
+  row_again (AsksRandom a count) (Bytes bytes) was p = random_again a count bytes was p
+  row_again (AsksRandom a count) (Time seconds nanoseconds) was p = absurd was
+  row_again (AsksTime a) Silence was p = absurd was
+  row_again (AsksTime a) (Bytes bytes) was p = absurd was
+  row_again (AsksTime a) (Time seconds nanoseconds) was p = time_again a seconds nanoseconds was p
+
+-- the record that was told is found again, whatever the outside answered first
+pub told_again : {O : Type 0} (gives : O → Question → Answer → O → Type 0) (s : State) (tid : ℕ) (x : Answer) (told found : CallRecord) (later : State) (before after : O) →
+    ((question : Question) (answer : Answer) → gives before question answer after → Recalls (answered told.written) question answer) →
+    Calls s tid x told later → CallIsAnswered gives s tid (thread_at s tid) found before after → found ≡ told
+told_again gives s tid x told found later before after recalls was again =
+    row_again gives was.thread told found before after recalls (call_row s tid was.thread) x was.records
+    (subst (λ (o : Option Thread). CallIsAnswered gives s tid o found before after) was.there again)
+
+-- ---- bytes that are copied
+
+pub copied_part : (from into new : List ℕ) (n : ℕ) → n ≡ min (length from) (length into) → new ≡ take n from ++ drop n into → length from ≤ length into → take n new ≡ from
+copied_part from into new n count bytes fits =
+    let all : n ≡ length from = omega (arith, count) in
+    let whole : take n from ≡ from = ap (λ (k : ℕ). take k from) all ∙ take-length from in
+    let within : n ≤ length from = omega (arith, all) in
+    let joined : new ≡ from ++ drop n into = bytes ∙ ap (λ (front : List ℕ). front ++ drop n into) whole in
+    ap (take n) joined ∙ take-append-le n from (drop n into) within ∙ whole
+
+pub copied_whole : (from into new : List ℕ) (n : ℕ) → n ≡ min (length from) (length into) → new ≡ take n from ++ drop n into → length from ≡ length into → new ≡ from
+copied_whole from into new n count bytes fits =
+    let all : n ≡ length from = omega (arith, count) in
+    let end : n ≡ length into = omega (arith, count) in
+    let whole : take n from ≡ from = ap (λ (k : ℕ). take k from) all ∙ take-length from in
+    let none : drop n into ≡ [] = ap (λ (k : ℕ). drop k into) end ∙ drop-length into in
+    bytes ∙ ap (λ (front : List ℕ). front ++ drop n into) whole ∙ ap (λ (back : List ℕ). from ++ back) none ∙ append-nil from
+
+-- ---- a moment that is read
+
+abbrev choice : ℕ → ℕ → ℕ → Option (ℕ × ℕ)
+choice n a b = if not (n == 16) then None else if nat_le (2 ^ 63) a || nat_le (10 ^ 9) b then None else Some (a, b)
+
+chosen : (n a b seconds nanoseconds : ℕ) → n ≡ 16 → a ≡ seconds → b ≡ nanoseconds → seconds < 2 ^ 63 → nanoseconds < 10 ^ 9 →
+    choice n a b ≡ Some (seconds, nanoseconds)
+chosen n a b seconds nanoseconds len first last low part = grind (arith, nat_tests)
+
+moment_is : (bytes : List ℕ) (seconds nanoseconds : ℕ) → IsMoment bytes seconds nanoseconds → moment_in bytes ≡ Some (seconds, nanoseconds)
+moment_is bytes seconds nanoseconds p =
+    let len : length bytes ≡ 16 = ap (λ (bs : List ℕ). length bs) p.are in
+    let first : from_le_bytes w64 bytes ≡ seconds = ap (from_le_bytes w64) p.are ∙ from_le_bytes-to_le_bytes_8 seconds (omega (arith, p.seconds_low)) in
+    let last : from_le_bytes w64 (drop 8 bytes) ≡ nanoseconds =
+    ap (λ (bs : List ℕ). from_le_bytes w64 (drop 8 bs)) p.are ∙ from_le_bytes-to_le_bytes_8 nanoseconds (omega (arith, p.nanoseconds_low)) in
+    chosen (length bytes) (from_le_bytes w64 bytes) (from_le_bytes w64 (drop 8 bytes)) seconds nanoseconds len first last p.seconds_low p.nanoseconds_low
+
+same_pair : (moment : ℕ × ℕ) (seconds nanoseconds : ℕ) → Some moment ≡ Some (seconds, nanoseconds) → moment ≡ (seconds, nanoseconds)
+same_pair moment seconds nanoseconds e = cc
+
+pub moment_told : (moment : ℕ × ℕ) (bytes : List ℕ) (seconds nanoseconds : ℕ) → Some moment ≡ moment_in bytes → IsMoment bytes seconds nanoseconds →
+    Time moment.0 moment.1 ≡ Time seconds nanoseconds
+moment_told moment bytes seconds nanoseconds e p =
+    ap (λ (m : ℕ × ℕ). Time m.0 m.1) (same_pair moment seconds nanoseconds (e ∙ moment_is bytes seconds nanoseconds p))
+
+no_pair : (seconds nanoseconds : ℕ) (o : Option (ℕ × ℕ)) → None ≡ o → o ≡ Some (seconds, nanoseconds) → ⊥
+no_pair seconds nanoseconds o e p = cc
+
+pub moment_missing : (bytes : List ℕ) (seconds nanoseconds : ℕ) → None ≡ moment_in bytes → IsMoment bytes seconds nanoseconds → ⊥
+moment_missing bytes seconds nanoseconds e p = no_pair seconds nanoseconds (moment_in bytes) e (moment_is bytes seconds nanoseconds p)

@@ -12,12 +12,14 @@ use Rattle.rrv_model.specs.FrameStep.{Steps, FrameStep, FrameStepBy, EndsInCall,
 use Rattle.rrv_model.specs.Output.{Chunk, put_out_by}
 use Rattle.guest_calls.specs.declared.run.RunEnd.{RunEnd}
 use Rattle.guest_calls.specs.declared.run.RunEnd.TheVariants as ends
+use Rattle.guest_calls.specs.Asking.{Question, CallIsAnswered}
 use Rattle.guest_calls.specs.Growth.{CallMayGrow}
 use Rattle.guest_calls.specs.Runs.{RunsTo, RunsToCall}
+use Rattle.serial_sched.specs.Answered.{answered, Recalls}
 use Rattle.serial_sched.specs.Slices.{CallPuts}
 use Rattle.serial_sched.specs.Follows.{CallMeetsNoMemory, CallPutsAt, EndMeetsNoMemory, FrameMeetsNoMemory, Reaches, ReachesCall, ReachesFault}
 use Rattle.serial_sched.proofs.Ways.{reached, one_run_end, one_called}
-use Rattle.serial_sched.proofs.Determined.{one_call_record}
+use Rattle.serial_sched.proofs.Determined.{told_again}
 use Rattle.serial_sched.proofs.SliceLaws.{call_puts}
 
 reaches_call : (old new : State) (tid count : ℕ) (r : CallRecord) (p : EndsInCall old tid count r new) → ReachesCall count tid old p.called
@@ -51,15 +53,17 @@ pub other_than_fault : (end : RunEnd) (tid count : ℕ) (kind : FaultKind) (old 
 other_than_fault end tid count kind old mid other run new p =
     other (one_run_end end (ends.Fault kind) count tid old mid p.before (reached end count count tid old mid refl run) (reaches_fault old new tid count kind p))
 
--- where the call has another record
-pub other_record : (tid count : ℕ) (q r : CallRecord) (answer : Answer) (old called after : State) → q ≢ r → RunsToCall count tid count old called →
-    Calls called tid answer q after → (new : State) → EndsInCall old tid count r new → ⊥
-other_record tid count q r answer old called after other run calls new p =
+-- where the call has another record, though it is answered as it is told
+pub other_record : {O : Type 0} (gives : O → Question → Answer → O → Type 0) (tid count : ℕ) (q r : CallRecord) (old called : State) (before after : O) →
+    ((question : Question) (answer : Answer) → gives before question answer after → Recalls (answered r.written) question answer) →
+    q ≢ r → RunsToCall count tid count old called → CallIsAnswered gives called tid (thread_at called tid) q before after →
+    (new : State) → EndsInCall old tid count r new → ⊥
+other_record gives tid count q r old called before after recalls other run found new p =
     let e : p.called ≡ called =
     one_called count tid old p.called called (reaches_call old new tid count r p)
     (record { some = run.some; before = run.before; steps = run.steps; calls = run.calls }) in
-    let answered : Calls called tid p.answer r p.after = subst (λ (s : State). Calls s tid p.answer r p.after) e p.answered in
-    other (one_call_record called tid answer p.answer q r after p.after calls answered)
+    let was : Calls called tid p.answer r p.after = subst (λ (s : State). Calls s tid p.answer r p.after) e p.answered in
+    other (told_again gives called tid p.answer r q p.after before after recalls was found)
 
 -- ---- what is followed
 

@@ -16,9 +16,10 @@ use Rattle.rrv_model.specs.FrameStep.{Steps, closed, closed_at_end}
 use Rattle.rrv_model.specs.Output.{Chunk, put_out_by}
 use Rattle.rrv_model.specs.RecordText.{HasCallText}
 use Rattle.guest_calls.specs.Runs.{RunsToCall, RunsToFault, before_call}
+use Rattle.guest_calls.specs.Asking.{Question, CallIsAnswered}
 use Rattle.guest_calls.specs.Carries.{CallAsks}
 use Rattle.guest_calls.specs.Growth.{CallMayGrow}
-use Rattle.serial_sched.specs.Asking.{FrameAsks}
+use Rattle.serial_sched.specs.Asking.{FrameAsks, FrameIsAnswered}
 use Rattle.serial_sched.specs.Slices.{CanRun, CallsToGrow, NextMayGrow, Sliced, IsWhole}
 use Rattle.serial_sched.specs.Follows.{CallPutsAt}
 use Rattle.serial_sched.proofs.Ways.{get-insert_same, running_behind, steps_end_none}
@@ -65,6 +66,24 @@ pub frame_asks : (limit tid count : ℕ) (s called : State) (r : CallRecord) (f 
 frame_asks limit tid count s called r f e p asks =
     subst (λ (x : Frame). FrameAsks x.end s x.tid x.count) (sym e)
     (record { called = called; reaches = record { some = p.some; before = p.before; steps = p.steps; calls = p.calls }; asks = asks })
+
+pub frame_answered : {O : Type 0} (gives : O → Question → Answer → O → Type 0) (limit tid count : ℕ) (s called : State) (r : CallRecord) (f : Frame) (before after : O) →
+    f ≡ record { tid = tid; count = count; end = ends.Call r } → RunsToCall limit tid count s called → CallIsAnswered gives called tid (thread_at called tid) r before after →
+    FrameIsAnswered gives f.end s f.tid f.count before after
+frame_answered gives limit tid count s called r f before after e p answered =
+    subst (λ (x : Frame). FrameIsAnswered gives x.end s x.tid x.count before after) (sym e)
+    (record { called = called; reaches = record { some = p.some; before = p.before; steps = p.steps; calls = p.calls }; answered = answered })
+
+pub preempt_unanswered : {O : Type 0} (gives : O → Question → Answer → O → Type 0) (tid count : ℕ) (s : State) (f : Frame) (before after : O) →
+    f ≡ record { tid = tid; count = count; end = ends.Preempt } → after ≡ before → FrameIsAnswered gives f.end s f.tid f.count before after
+preempt_unanswered gives tid count s f before after e same =
+    subst (λ (x : Frame). FrameIsAnswered gives x.end s x.tid x.count before after) (sym e) same
+
+pub short_unanswered : {O E : Type 0} (gives : O → Question → Answer → O → Type 0) (r : Result Frame E) (tid count : ℕ) (s : State) (before after : O) →
+    IfOk r (λ f. f ≡ record { tid = tid; count = count; end = ends.Preempt }) → after ≡ before →
+    IfOk r (λ f. FrameIsAnswered gives f.end s f.tid f.count before after)
+short_unanswered gives (Ok f) tid count s before after e same = preempt_unanswered gives tid count s f before after e same
+short_unanswered gives (Err x) tid count s before after e same = tt
 
 -- ---- the ends
 

@@ -1,7 +1,8 @@
 //! The outside of a guest that follows a recording.
 
 ghost use Rattle.std.specs.Prelude.{◌≡◌, ◌++◌, ◌≤◌, ◌<◌, ◌^◌, IfSome, drop, length, min, take};
-ghost use Rattle.serial_sched.specs.Answered.{answered};
+ghost use Rattle.std.specs.Int.{w64, from_le_bytes};
+ghost use Rattle.serial_sched.specs.Answered.{answered, moment_in, Recalls};
 
 use guest_calls::Outside;
 use rrv_model::record::CallRecord;
@@ -27,6 +28,8 @@ impl<'a> Recorded<'a> {
 }
 
 impl Outside for Recorded<'_> {
+    ghost gives = { λ old question answer new. Recalls old.bytes.now question answer };
+
     fn read(&mut self, into: &mut [u8]) -> usize {
         copy(self.bytes, into)
     }
@@ -36,7 +39,10 @@ impl Outside for Recorded<'_> {
     }
 
     fn now(&mut self, _clock: u32) -> (u64, u32) {
-        time_of(self.bytes).unwrap_or((0, 0))
+        match moment_of(self.bytes) {
+            Some(moment) => moment,
+            None => (0, 0),
+        }
     }
 }
 
@@ -50,15 +56,28 @@ fn copy(from: &[u8], into: &mut [u8]) -> usize
     len
 }
 
-/// Seconds and nanoseconds, as clock_gettime(2) writes them: two numbers of 8 bytes.
-fn time_of(bytes: &[u8]) -> Option<(u64, u32)>
-    ensures { IfSome result (λ time. (time.0 < 2 ^ 63) × (time.1 < 10 ^ 9)) }
+/// The number that 8 bytes tell, its low byte first.
+fn number_of(bytes: &[u8]) -> u64
+    requires { 8 ≤ length bytes.now }
+    ensures { result ≡ from_le_bytes w64 bytes.now }
 {
-    let seconds = u64::from_le_bytes(*bytes.first_chunk()?);
-    let nanoseconds = u64::from_le_bytes(*bytes.get(8..)?.first_chunk()?);
-    if seconds < 1 << 63 && nanoseconds < 1_000_000_000 {
-        Some((seconds, nanoseconds as u32))
-    } else {
-        None
+    u64::from_le_bytes([
+        bytes[0], bytes[1], bytes[2], bytes[3], bytes[4], bytes[5], bytes[6], bytes[7],
+    ])
+}
+
+/// Seconds and nanoseconds, as clock_gettime(2) writes them: two numbers of 8 bytes.
+fn moment_of(bytes: &[u8]) -> Option<(u64, u32)>
+    ensures moment { result ≡ moment_in bytes.now }
+    ensures bounds { IfSome result (λ moment. (moment.0 < 2 ^ 63) × (moment.1 < 10 ^ 9)) }
+{
+    if bytes.len() != 16 {
+        return None;
     }
+    let seconds = number_of(bytes);
+    let nanoseconds = number_of(&bytes[8..]);
+    if seconds >= 1 << 63 || nanoseconds >= 1_000_000_000 {
+        return None;
+    }
+    Some((seconds, nanoseconds as u32))
 }

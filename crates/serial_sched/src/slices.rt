@@ -7,7 +7,7 @@ ghost use Rattle.rrv_model.specs.FrameStep.{FrameStep, closed};
 ghost use Rattle.rrv_model.specs.RecordText.{HasFrameText};
 ghost use Rattle.guest_calls.specs.Snapshots.{guest_snapshots};
 ghost use Rattle.guest_calls.specs.Guest.{state_of, counted, chunks_of, HasRunning};
-ghost use Rattle.serial_sched.specs.Asking.{FrameAsks};
+ghost use Rattle.serial_sched.specs.Asking.{FrameAsks, FrameIsAnswered};
 ghost use Rattle.serial_sched.specs.Slices.{CanRun, CallPuts, FitsChoice, IsLive, IsQuantum, KeepsPut, NextMayGrow, Sliced};
 
 use crate::fault::SliceFault;
@@ -19,7 +19,8 @@ use rrv_model::refusal::Memory;
 use std::alloc::Global;
 
 /// Runs the chosen thread until it has run the quantum, makes a call or faults, or its next instruction finds no memory.
-/// Where no thread runs, whatever the choice, the guest is stuck, which ends it. The outside is asked by calls alone.
+/// Where no thread runs, whatever the choice, the guest is stuck, which ends it. The outside is asked by calls alone, and
+/// its answer is what the frame tells.
 pub fn slice<O: Outside>(
     guest: &mut Guest,
     alloc: Global,
@@ -33,6 +34,8 @@ pub fn slice<O: Outside>(
     ensures keeps { IfOk result (λ f. KeepsPut f.end guest.old.put guest.new.put) }
     ensures ran { IfOk result (λ f. guest.new.ran ≡ counted guest.old.ran f.count) }
     ensures snapshots { guest_snapshots guest.new ≡ guest_snapshots guest.old }
+    ensures answered { IfOk result (λ f.
+        FrameIsAnswered O.gives f.end (state_of guest.old) f.tid f.count outside.old outside.new) }
     ensures unasked { IfOk result (λ f. ¬ FrameAsks f.end (state_of guest.old) f.tid f.count → outside.new ≡ outside.old) }
     ensures ended { IsErrOf result SliceFault.Ended ↔ IsSome (state_of guest.old).ended }
     ensures stuck { (state_of guest.old).ended ≡ None → ¬ HasRunning (state_of guest.old)
@@ -94,6 +97,8 @@ fn run_slice<O: Outside>(
     ensures keeps { IfOk result (λ f. KeepsPut f.end guest.old.put guest.new.put) }
     ensures ran { IfOk result (λ f. guest.new.ran ≡ counted guest.old.ran f.count) }
     ensures snapshots { guest_snapshots guest.new ≡ guest_snapshots guest.old }
+    ensures answered { IfOk result (λ f.
+        FrameIsAnswered O.gives f.end (state_of guest.old) f.tid f.count outside.old outside.new) }
     ensures unasked { IfOk result (λ f. ¬ FrameAsks f.end (state_of guest.old) f.tid f.count → outside.new ≡ outside.old) }
     ensures memory { OnErr result (ThreadMayTakeMemory (state_of guest.old) choice.tid) }
     ensures grows { OnErr result (NextMayGrow (state_of guest.old) choice.tid) }

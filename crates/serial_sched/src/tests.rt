@@ -1,5 +1,7 @@
 //! Small guests, recorded and followed.
 
+mod asking;
+
 use crate::{FollowFault, SliceFault, follow, slice, steps};
 use elf_load::image::parse;
 use guest_calls::{Guest, Outside};
@@ -7,6 +9,11 @@ use rrv_model::machine::GuestEnd;
 use rrv_model::record::{CallRecord, Choice, End, Frame};
 use std::alloc::Global;
 use std::test::Fail;
+
+mod four_threads;
+mod increments;
+mod memory;
+mod seeded;
 
 /// `li a0, 5; li a7, 93; ecall`, loaded with its headers at 0x10000.
 const EXIT_FIVE: [u8; 96] = [
@@ -44,6 +51,8 @@ const STORE: u32 = 0x18D5_A62F;
 const A7_YIELD: u32 = 0x07C0_0893;
 /// `ecall`
 const ECALL: u32 = 0x0000_0073;
+/// `lui a0, 0x10; lw a2, 0(a0); li a7, 98; ecall`: waits at the file's first word, as long as it has its value.
+const WAIT: [u32; 4] = [0x0001_0537, 0x0005_2603, 0x0620_0893, ECALL];
 
 const CHOICE: Choice = Choice {
     tid: 1,
@@ -55,6 +64,8 @@ const CHOICE: Choice = Choice {
 struct Nothing;
 
 impl Outside for Nothing {
+    ghost gives = { λ _ _ _ _. Unit {0} };
+
     fn read(&mut self, _into: &mut [u8]) -> usize {
         0
     }
@@ -89,6 +100,20 @@ fn reserving(alloc: Global) -> Result<Guest, Fail> {
     }
     let image = parse(alloc, &elf)?;
     Ok(Guest::open(alloc, &image, b"lr", [0; 16])?)
+}
+
+/// A guest whose only thread waits.
+fn waiting(alloc: Global) -> Result<Guest, Fail> {
+    let mut elf = Vec::with_capacity(alloc, 384)?;
+    elf.extend_from_slice(&TWO_LOADS)?;
+    for word in WAIT {
+        push_word(&mut elf, word)?;
+    }
+    for _ in 0..63 {
+        push_word(&mut elf, NO_OP)?;
+    }
+    let image = parse(alloc, &elf)?;
+    Ok(Guest::open(alloc, &image, b"wait", [0; 16])?)
 }
 
 /// What the SC answered, and the word that it is to store to.
@@ -183,5 +208,25 @@ fn a_longer_slice_keeps_its_reservation(rt: HostRuntime) -> Result<(), Fail> {
     assert_eq!(rt; frame.count, 67);
     assert_eq!(rt; stored(&guest)?, (0, Some(0)));
     assert_eq!(rt; guest.page_count(), 258);
+    Ok(())
+}
+
+#[test]
+fn a_guest_whose_only_thread_waits_is_stuck(rt: HostRuntime) -> Result<(), Fail> {
+    let mut guest = waiting(rt.alloc())?;
+    let first = slice(&mut guest, rt.alloc(), CHOICE, &mut Nothing)?;
+    assert_eq!(rt; (first.tid, first.count), (1, 4));
+    assert_eq!(rt; call_of(&first).ok_or("no call")?.result, 0);
+    assert!(rt; guest.ended().is_none());
+    let second = slice(&mut guest, rt.alloc(), CHOICE, &mut Nothing)?;
+    assert_eq!(rt; (second.tid, second.count), (0, 0));
+    assert!(rt; matches!(second.end, End::Stuck));
+    assert_eq!(rt; guest.ended(), Some(GuestEnd::Stuck));
+    let third = slice(&mut guest, rt.alloc(), CHOICE, &mut Nothing).err();
+    assert_eq!(rt; third, Some(SliceFault::Ended));
+    let mut replayed = waiting(rt.alloc())?;
+    follow(&mut replayed, rt.alloc(), &first)?;
+    follow(&mut replayed, rt.alloc(), &second)?;
+    assert!(rt; replayed.same(&guest));
     Ok(())
 }

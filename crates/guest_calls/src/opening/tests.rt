@@ -46,6 +46,9 @@ fn opens_exit_five(rt: HostRuntime) -> Result<(), Fail> {
     let thread = guest.thread(1).ok_or("no thread 1")?;
     assert_eq!(rt; thread.regs.pc, 0x1_0054);
     assert_eq!(rt; thread.regs.registers[2], STACK_POINTER);
+    assert_eq!(rt; guest.threads().live(), 1);
+    assert_eq!(rt; guest.threads().next_tid(), 2);
+    assert!(rt; guest.threads().waiting().is_empty());
     assert_eq!(rt; guest.program_break(), 0x1_1000);
     assert_eq!(rt; guest.space().page_count(), 257);
     assert_eq!(rt; guest.space().fetch(0x1_0054), Some(0x0050_0513));

@@ -1,11 +1,13 @@
-use Rattle.std.proofs.Common.{inl, inr, refl, sym, ◌∙◌, ap, subst}
+use Rattle.std.proofs.Common.{ℕ, List, inl, inr, refl, sym, ◌∙◌, ap, subst}
 use Rattle.std.proofs.lemmas.Bool.{false≢true}
 use Rattle.std.proofs.lemmas.Result.{err_from_is_err_and}
 use Rattle.rrv_model.specs.State.{State}
 use Rattle.rrv_model.specs.FrameStep.{EndsInCall}
 use Rattle.guest_calls.specs.Guest.{state_of, chunks_of}
+use Rattle.serial_sched.specs.Answered.{Recalls}
 use Rattle.serial_sched.specs.declared.fault.FollowFault.TheVariants as faults
 use Rattle.serial_sched.proofs.SliceLaws.{call_running, call_runs_on}
+use Rattle.serial_sched.proofs.Determined.{recalled}
 use Rattle.serial_sched.proofs.FollowLaws.{again, no_call, other_than_call, other_record, call_followed, call_put, call_meets}
 use Rattle.serial_sched.proofs.following.follow_call.Goals as goal
 
@@ -39,8 +41,9 @@ returns-in_err-found-in-Call-clause-memory c =
 pub returns-then-not-is_same_call-clause-nowhere : goal.returns-then-not-is_same_call-clause-nowhere
 returns-then-not-is_same_call-clause-nowhere c =
     let run = rw c.in-Call.is at c.in_ok-run_whole.ensures.runs in
-    λ e new p. other_record c.args.tid c.args.count c.in_ok-found-in-Call.found c.args.told.now c.in_ok-found-in-Call.ensures.calls.0 (state_of c.args.guest.now)
-    (state_of c.run_whole.new.guest) (state_of c.call.new.self) (λ same. false≢true (c.if-not-is_same_call.ensures.1 same)) run c.in_ok-found-in-Call.ensures.calls.1 new p
+    λ e new p. other_record recalled c.args.tid c.args.count c.in_ok-found-in-Call.found c.args.told.now (state_of c.args.guest.now) (state_of c.run_whole.new.guest)
+    c.of-outside.result c.call.new.outside (λ question answer given. subst (λ (bytes : List ℕ). Recalls bytes question answer) c.of-outside.ensures given)
+    (λ same. false≢true (c.if-not-is_same_call.ensures.1 same)) run c.in_ok-found-in-Call.ensures.answered new p
 
 pub returns-else-not-is_same_call-clause-follows : goal.returns-else-not-is_same_call-clause-follows
 returns-else-not-is_same_call-clause-follows c =

@@ -1,4 +1,4 @@
-use Rattle.std.proofs.Common.{List, refl, sym, ◌∙◌, ap, subst}
+use Rattle.std.proofs.Common.{◌-◌, List, refl, sym, ◌∙◌, ap, subst}
 use Rattle.rrv_model.specs.declared.record.End.TheVariants as ends
 use Rattle.rrv_model.specs.declared.machine.GuestEnd.TheVariants as guest_ends
 use Rattle.rrv_model.specs.State.{State, thread_at, IsRunning}
@@ -6,7 +6,7 @@ use Rattle.rrv_model.specs.FrameStep.{closed, closed_at_end}
 use Rattle.rrv_model.specs.Output.{Chunk}
 use Rattle.guest_calls.specs.Guest.{GuestValue, state_of, chunks_of}
 use Rattle.guest_calls.specs.Runs.{before_call}
-use Rattle.serial_sched.proofs.SliceLaws.{call_running, call_runs_on, frame_asks, limit_sliced, call_sliced, fault_sliced, short_store, store_took, store_grows, refused_call_sliced, refused_call_took, refused_call_grows, same_sliced}
+use Rattle.serial_sched.proofs.SliceLaws.{call_running, call_runs_on, frame_asks, frame_answered, preempt_unanswered, short_unanswered, limit_sliced, call_sliced, fault_sliced, short_store, store_took, store_grows, refused_call_sliced, refused_call_took, refused_call_grows, same_sliced}
 use Rattle.serial_sched.proofs.slices.run_slice.Goals as goal
 
 pub call-requires-clause-running : goal.call-requires-clause-running
@@ -100,3 +100,24 @@ returns-in-Memory-clause-grows g c =
     let p = rw c.in-Memory.is at c.run_thread-run.ensures.runs in
     store_grows c.stop_short-in-Memory.result c.args.choice.tid c.run_thread-run.result.count (state_of c.args.guest.now) (state_of c.run_thread-run.new.self)
     p.steps p.takes c.stop_short-in-Memory.ensures.none
+
+pub returns-in-Limit-clause-answered : goal.returns-in-Limit-clause-answered
+returns-in-Limit-clause-answered g c =
+    preempt_unanswered g.O.Outside.gives c.args.choice.tid c.run_thread-run.result.count (state_of c.args.guest.now) c.closed_frame.result
+    c.args.outside.now c.args.outside.now c.closed_frame.ensures.frame refl
+
+pub returns-in-Ok-clause-answered : goal.returns-in-Ok-clause-answered
+returns-in-Ok-clause-answered g c =
+    let p = rw c.in-Call.is at c.run_thread-run.ensures.runs in
+    frame_answered g.O.Outside.gives c.args.choice.quantum c.args.choice.tid c.run_thread-run.result.count (state_of c.args.guest.now) (state_of c.run_thread-run.new.self)
+    c.in-Ok.told c.closed_frame-in-Ok.result c.args.outside.now c.call.new.outside c.closed_frame-in-Ok.ensures.frame p c.in-Ok.ensures.answered
+
+pub returns-in-Err-clause-answered : goal.returns-in-Err-clause-answered
+returns-in-Err-clause-answered g c =
+    short_unanswered g.O.Outside.gives c.stop_short.result c.args.choice.tid (c.run_thread-run.result.count - 1) (state_of c.args.guest.now)
+    c.args.outside.now c.call.new.outside c.stop_short.ensures.frame c.in-Err.ensures.refused_unasked
+
+pub returns-in-Memory-clause-answered : goal.returns-in-Memory-clause-answered
+returns-in-Memory-clause-answered g c =
+    short_unanswered g.O.Outside.gives c.stop_short-in-Memory.result c.args.choice.tid c.run_thread-run.result.count (state_of c.args.guest.now)
+    c.args.outside.now c.args.outside.now c.stop_short-in-Memory.ensures.frame refl

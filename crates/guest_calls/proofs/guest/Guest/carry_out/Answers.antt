@@ -4,7 +4,7 @@ use Rattle.rrv_model.specs.CallRows.{answers}
 use Rattle.guest_calls.specs.Carries.{Carries}
 use Rattle.guest_calls.specs.declared.syscall.Syscall.TheVariants as syscalls
 use Rattle.guest_calls.specs.Guest.{state_of}
-use Rattle.guest_calls.proofs.CallParts.{carries_at, grows_at, quiet_call, IfOk-map}
+use Rattle.guest_calls.proofs.CallParts.{carries_at, grows_at, quiet_call, quiet_futex, IfOk-map}
 use Rattle.guest_calls.proofs.guest.Guest.carry_out.Goals as goal
 
 pub returns-in-Write-clause-carries : goal.returns-in-Write-clause-carries
@@ -108,3 +108,33 @@ pub returns-in-Mmap-clause-memory : goal.returns-in-Mmap-clause-memory
 returns-in-Mmap-clause-memory c =
     let number = rw c.in-Mmap.is at c.syscall_of.ensures in
     on_err_weaker c.mmap.result (λ p. grows_at syscalls.Mmap c.args.tid (state_of c.args.self.now) c.args.thread.now number p) c.mmap.ensures.memory
+
+pub returns-in-Futex-clause-carries : goal.returns-in-Futex-clause-carries
+returns-in-Futex-clause-carries c =
+    let number = rw c.in-Futex.is at c.syscall_of.ensures in
+    IfOk-map _ _ _ (λ r p. carries_at syscalls.Futex c.args.tid (state_of c.args.self.now) c.args.thread.now r _ number p) c.futex.ensures.carries
+
+pub returns-in-Futex-clause-puts : goal.returns-in-Futex-clause-puts
+returns-in-Futex-clause-puts c =
+    let number = rw c.in-Futex.is at c.syscall_of.ensures in
+    quiet_futex c.futex.result c.futex.new.self.put (state_of c.args.self.now).memory c.args.thread.now c.futex.ensures.put number
+
+pub returns-in-Futex-clause-memory : goal.returns-in-Futex-clause-memory
+returns-in-Futex-clause-memory c =
+    let number = rw c.in-Futex.is at c.syscall_of.ensures in
+    on_err_weaker c.futex.result (λ p. grows_at syscalls.Futex c.args.tid (state_of c.args.self.now) c.args.thread.now number p) c.futex.ensures.memory
+
+pub returns-in-Clone-clause-carries : goal.returns-in-Clone-clause-carries
+returns-in-Clone-clause-carries c =
+    let number = rw c.in-Clone.is at c.syscall_of.ensures in
+    IfOk-map _ _ _ (λ r p. carries_at syscalls.Clone c.args.tid (state_of c.args.self.now) c.args.thread.now r _ number p) c.clone_thread.ensures.carries
+
+pub returns-in-Clone-clause-puts : goal.returns-in-Clone-clause-puts
+returns-in-Clone-clause-puts c =
+    let number = rw c.in-Clone.is at c.syscall_of.ensures in
+    quiet_call c.clone_thread.result c.clone_thread.new.self.put (state_of c.args.self.now).memory c.args.thread.now 220 c.clone_thread.ensures.put number (omega arith) (omega arith)
+
+pub returns-in-Clone-clause-memory : goal.returns-in-Clone-clause-memory
+returns-in-Clone-clause-memory c =
+    let number = rw c.in-Clone.is at c.syscall_of.ensures in
+    on_err_weaker c.clone_thread.result (λ p. grows_at syscalls.Clone c.args.tid (state_of c.args.self.now) c.args.thread.now number p) c.clone_thread.ensures.memory

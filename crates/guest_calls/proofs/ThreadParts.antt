@@ -1,0 +1,75 @@
+-- Changes of a guest's threads, as changes of its state.
+use Rattle.std.proofs.Common.{◌≡◌, ◌≢◌, ◌↔◌, ℕ, ◌≤◌, Bool, true, false, cond, nat_eq, slice_set, List, [], ◌∷◌, fold, Option, Some, None, refl, sym, ◌∙◌, ap, subst, arith}
+use Rattle.std.proofs.lemmas.Bool.Decides.{Decides-eqb}
+use Rattle.std.specs.FinMap.{get, len}
+use Rattle.std.specs.Ordering.{nat_cmp, eq_by_cmp}
+use Rattle.rrv_model.specs.declared.machine.Regs.{Regs}
+use Rattle.rrv_model.specs.declared.machine.Thread.{Thread}
+use Rattle.rrv_model.specs.State.{State, thread_at, with_register, with_thread, IsRunning}
+use Rattle.rrv_model.specs.CallRows.{change_thread, ends, leaves, waiters, wakes, woken}
+use Rattle.guest_threads.specs.Threads.{ThreadsValue, alone, thread_map, with_threads, without_thread}
+use Rattle.guest_threads.proofs.ByTid.{same_tid}
+use Rattle.guest_threads.proofs.Rules.{changed_at, get-changed, resumed, unequal}
+use Rattle.guest_threads.proofs.Waking.{woken_is}
+use Rattle.guest_calls.proofs.Lift.{changed_there}
+
+-- ---- all threads
+
+abbrev pub AreSameParts : ThreadsValue → ThreadsValue → Type 0
+AreSameParts v w = (thread_map v.threads ≡ thread_map w.threads) × (v.waiting ≡ w.waiting) × (v.next_tid ≡ w.next_tid)
+
+pub same_parts : (v w : ThreadsValue) → ((s : State) → with_threads v s ≡ with_threads w s) ↔ AreSameParts v w
+same_parts v w = (
+  λ h. let e = h (alone v) in (ap (λ (s : State). s.threads) e, ap (λ (s : State). s.waiting) e, ap (λ (s : State). s.next_tid) e),
+  λ p s i. record s { threads = p.0 i; waiting = p.1 i; next_tid = p.2 i },
+)
+
+-- ---- one thread
+
+pub running_there : (o : Option Thread) (t : Thread) → o ≡ Some t → t.waits_at ≡ None → IsRunning o
+running_there o t there runs = subst (λ (o : Option Thread). IsRunning o) (sym there) runs
+
+pub set_above_zero : (r value : ℕ) (regs : Regs) → 1 ≤ r →
+    (let after : Regs = record regs { registers = slice_set regs.registers r value } in after) ≡ with_register r value regs
+set_above_zero r value regs low =
+    sym (ap (λ b. cond b regs (record regs { registers = slice_set regs.registers r value })) (unequal r 0 (λ e. omega arith)))
+
+-- registers that are put into a thread change it so
+pub regs_changed : (tid : ℕ) (change : Thread → Thread) (s : State) (t : Thread) (regs : Regs) → thread_at s tid ≡ Some t →
+    record t { regs = regs } ≡ change t → change_thread tid (λ u. record u { regs = regs }) s ≡ change_thread tid change s
+regs_changed tid change s t regs there is =
+    changed_there tid (λ u. record u { regs = regs }) s t there ∙ ap (λ (u : Thread). with_thread tid u s) is ∙ sym (changed_there tid change s t there)
+
+-- ---- a thread that leaves
+
+abbrev left_with : ℕ → State → State
+left_with status rest = cond (nat_eq (len rest.threads) 0) (ends status rest) rest
+
+pub last_left : (tid status : ℕ) (s rest : State) → rest ≡ without_thread tid s → len rest.threads ≡ 0 → ends status rest ≡ leaves tid status s
+last_left tid status s rest is none =
+    sym (ap (λ b. cond b (ends status rest) rest) ((Decides-eqb (len rest.threads) 0).1 none)) ∙ ap (left_with status) is
+
+pub others_left : (tid status : ℕ) (s rest : State) → rest ≡ without_thread tid s → len rest.threads ≢ 0 → rest ≡ leaves tid status s
+others_left tid status s rest is some =
+    sym (ap (λ b. cond b (ends status rest) rest) (unequal (len rest.threads) 0 some)) ∙ ap (left_with status) is
+
+-- ---- a running thread still runs when others are woken
+
+still : (w : ℕ) (o : Option Thread) → IsRunning o → IsRunning (changed_at w resumed o)
+still w None r = r
+still w (Some t) r = refl
+
+woken_running : (s : State) (w tid : ℕ) → IsRunning (thread_at s tid) → IsRunning (thread_at (woken s w) tid)
+woken_running s w tid r =
+    subst (λ (o : Option Thread). IsRunning o) (sym (ap (λ (s' : State). get s'.threads tid) (woken_is s w) ∙ get-changed s.threads w resumed tid))
+    (by (eq_by_cmp nat_cmp tid w) refl) where
+      by : (b : Bool) → eq_by_cmp nat_cmp tid w ≡ b → IsRunning (cond b (changed_at w resumed (get s.threads w)) (get s.threads tid))
+      by true e = still w (get s.threads w) (subst (λ k. IsRunning (get s.threads k)) (same_tid tid w e) r)
+      by false e = r
+
+all_woken_running : (tids : List ℕ) (s : State) (tid : ℕ) → IsRunning (thread_at s tid) → IsRunning (thread_at (fold woken s tids) tid)
+all_woken_running [] s tid r = r
+all_woken_running (w ∷ tids) s tid r = all_woken_running tids (woken s w) tid (woken_running s w tid r)
+
+pub wakes_running : (a count tid : ℕ) (s : State) → IsRunning (thread_at s tid) → IsRunning (thread_at (wakes a count s) tid)
+wakes_running a count tid s r = all_woken_running (waiters s a count) s tid r

@@ -1,6 +1,0 @@
-use Rattle.std.proofs.Common.{◌≡◌, ◌++◌}
-use Rattle.guest_calls.specs.Threads.{running_in}
-use Rattle.guest_calls.proofs.threads.running_keys.Given as goal
-
-abbrev pub invariant-loop-tid : goal.invariant-loop-tid
-invariant-loop-tid l = l.tids.items ++ running_in l.tid-iterator ≡ running_in l.threads.entries

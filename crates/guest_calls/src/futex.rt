@@ -1,0 +1,105 @@
+//! futex: a thread waits at a word, and others wake it (Linux man pages, futex(2)).
+
+ghost use Rattle.std.specs.Prelude.{◌≡◌, ◌==◌, ◌%◌, ◌/◌, ◌*◌, ◌-◌, [], None, not, IfOk, OnOk, OnErr, length};
+ghost use Rattle.rrv_model.specs.Memory.{readable};
+ghost use Rattle.rrv_model.specs.State.{thread_at, IsRunning};
+ghost use Rattle.rrv_model.specs.Step.{word_at};
+ghost use Rattle.rrv_model.specs.CallRows.{Answers, argument, futex_row, waiters, waits, wakes};
+ghost use Rattle.rrv_model.specs.RecordText.{HasCallText};
+ghost use Rattle.guest_pages.specs.Space.{snapshots_of};
+ghost use Rattle.guest_calls.specs.Guest.{state_of};
+ghost use Rattle.guest_calls.specs.Carries.{Carries};
+ghost use Rattle.guest_calls.specs.Growth.{BeginsWait};
+
+use crate::calls::{BAD_ADDRESS, INVALID, NO_SUCH_CALL, TRY_AGAIN, failure};
+use crate::guest::Guest;
+use rrv_model::machine::Thread;
+use rrv_model::record::CallRecord;
+use rrv_model::refusal::Memory;
+use std::alloc::Global;
+
+#[cfg(test)]
+mod tests;
+
+/// FUTEX_WAKE; FUTEX_WAIT is 0.
+const WAKE: u32 = 1;
+/// FUTEX_PRIVATE_FLAG, which says nothing where one process is.
+const PRIVATE: u32 = 128;
+
+/// The operation, without the private flag.
+fn operation_of(op: u32) -> u32
+    ensures { result ≡ op - op / 128 % 2 * 128 }
+{
+    op - op / PRIVATE % 2 * PRIVATE
+}
+
+impl Guest {
+    /// futex(a, op, val, timeout)
+    pub(crate) fn futex(
+        &mut self,
+        alloc: Global,
+        tid: u32,
+        thread: &Thread,
+    ) -> Result<CallRecord, Memory>
+        requires { IsRunning (thread_at (state_of self.old) tid) }
+        ensures carries { IfOk result (λ r.
+            Carries (futex_row tid (state_of self.old) thread.now) tid (state_of self.old) r (state_of self.new)) }
+        ensures text { IfOk result HasCallText }
+        ensures put { OnOk result (self.new.put ≡ None) }
+        ensures memory { OnErr result (BeginsWait tid (state_of self.old) thread.now) }
+        ensures refused { OnErr result (self.new ≡ self.old) }
+        ensures ran { self.new.ran ≡ self.old.ran }
+        ensures snapshots { snapshots_of self.new.space ≡ snapshots_of self.old.space }
+    {
+        let address = thread.regs.registers[10];
+        let operation = operation_of(thread.regs.registers[11]);
+        if operation > WAKE {
+            return Ok(self.answer(alloc, tid, failure(NO_SUCH_CALL)));
+        }
+        if address % 4 != 0 {
+            return Ok(self.answer(alloc, tid, failure(INVALID)));
+        }
+        if operation == WAKE {
+            return Ok(self.wake_waiters(alloc, tid, address, thread.regs.registers[12]));
+        }
+        if thread.regs.registers[13] != 0 {
+            return Ok(self.answer(alloc, tid, failure(NO_SUCH_CALL)));
+        }
+        let Some(word) = self.space.load_word(address) else {
+            return Ok(self.answer(alloc, tid, failure(BAD_ADDRESS)));
+        };
+        if word != thread.regs.registers[12] {
+            return Ok(self.answer(alloc, tid, failure(TRY_AGAIN)));
+        }
+        let record = self.begin_wait(alloc, tid, address)?;
+        Ok(record)
+    }
+
+    /// Wakes the first count waiters at an address, in the waiting order, and answers how many there were.
+    fn wake_waiters(&mut self, alloc: Global, tid: u32, address: u32, count: u32) -> CallRecord
+        ensures carries { Carries (Answers (length (waiters (state_of self.old) address count)) [] (wakes address count))
+            tid (state_of self.old) result (state_of self.new) }
+        ensures text { HasCallText result }
+        ensures put { self.new.put ≡ None }
+        ensures ran { self.new.ran ≡ self.old.ran }
+        ensures snapshots { snapshots_of self.new.space ≡ snapshots_of self.old.space }
+    {
+        let woken = self.wake(address, count);
+        self.answer(alloc, tid, woken)
+    }
+
+    /// A running thread waits at an address, last in the waiting order; when it is woken it finds 0.
+    fn begin_wait(&mut self, alloc: Global, tid: u32, address: u32) -> Result<CallRecord, Memory>
+        requires { IsRunning (thread_at (state_of self.old) tid) }
+        ensures carries { IfOk result (λ r.
+            Carries (Answers 0 [] (waits tid address)) tid (state_of self.old) r (state_of self.new)) }
+        ensures text { IfOk result HasCallText }
+        ensures put { OnOk result (self.new.put ≡ None) }
+        ensures refused { OnErr result (self.new ≡ self.old) }
+        ensures ran { self.new.ran ≡ self.old.ran }
+        ensures snapshots { snapshots_of self.new.space ≡ snapshots_of self.old.space }
+    {
+        self.wait(tid, address)?;
+        Ok(self.answer(alloc, tid, 0))
+    }
+}

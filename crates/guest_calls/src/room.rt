@@ -1,0 +1,43 @@
+//! Room for what the outside answers.
+
+ghost use Rattle.std.specs.Prelude.{◌≡◌, [], length, vec_len, vec_capacity, IfOk};
+ghost use Rattle.rrv_model.specs.CallRows.{range};
+
+use rrv_model::items::Items;
+use rrv_model::record::Written;
+use rrv_model::refusal::Memory;
+use std::alloc::Global;
+
+/// Room for an answer: for its bytes, and in the list of what the call wrote for the range that tells them.
+#[derive(Drop)]
+pub(crate) struct Room {
+    /// As many bytes as the answer may have, until they are cut to what it has.
+    pub(crate) bytes: Vec<u8>,
+    written: Vec<Written>,
+    ghost empty: { written.items ≡ [] },
+    ghost none: { vec_len written ≡ 0 },
+    ghost room: { vec_capacity written ≡ 1 },
+}
+
+impl Room {
+    pub(crate) fn new(alloc: Global, count: u32) -> Result<Room, Memory>
+        ensures { IfOk result (λ room. length room.bytes.items ≡ count) }
+    {
+        let bytes = vec![in alloc; 0u8; count as usize]?;
+        let written = Vec::with_capacity(alloc, 1)?;
+        Ok(Room { bytes, written })
+    }
+
+    /// What a call wrote that wrote these bytes. It takes no memory.
+    pub(crate) fn into_written(self, address: u32) -> Items<Written>
+        ensures { result ≡ range address self.bytes.items }
+    {
+        let Room { bytes, mut written } = self;
+        if bytes.is_empty() {
+            return Items::from_vec(written);
+        }
+        let bytes = Items::from_vec(bytes);
+        written.push(Written { address, bytes }).unwrap();
+        Items::from_vec(written)
+    }
+}

@@ -1,0 +1,41 @@
+use Rattle.std.proofs.Common.{◌≡◌, ℕ, ◌+◌, true, List, drop, get_or, length, refl, sym, ◌∙◌, ap, subst}
+use Rattle.std.proofs.lemmas.List.{drop_all}
+use Rattle.std.specs.Int.{w32, to_le_bytes}
+use Rattle.rrv_model.specs.Memory.{Memory, stored}
+use Rattle.rrv_model.specs.CallRows.{all_writable}
+use Rattle.guest_pages.specs.Space.{memory_of, present}
+use Rattle.guest_pages.specs.Stores.{stored_at_each}
+use Rattle.guest_pages.proofs.WordStores.{writable_present, next_place, allowed_after, next_stored, all_stored}
+use Rattle.guest_pages.proofs.address_space.Space.store_words.Goals as goal
+
+pub loop-place-init : goal.loop-place-init
+loop-place-init c = record { stored = refl; allowed = c.requires; snapshots = refl }
+
+pub fill-requires : goal.fill-requires
+fill-requires c =
+    let m = memory_of c.loop-place.self in
+    let next = next_place m c.args.places.now c.loop-place.place-index c.loop-place-test.true c.loop-place.invariant.allowed in
+    subst (λ (n : ℕ). present m (get_or c.args.places.now c.loop-place.place-index 0) n ≡ true) (sym (ap length c.to_le_bytes.ensures))
+    (writable_present m (get_or c.args.places.now c.loop-place.place-index 0) 4 next.0)
+
+pub loop-place-preserved : goal.loop-place-preserved
+loop-place-preserved c =
+    let m = memory_of c.loop-place.self in
+    let places = c.args.places.now in
+    let i = c.loop-place.place-index in
+    let bytes = to_le_bytes w32 c.args.word in
+    let here : memory_of c.fill.new.self ≡ stored (get_or places i 0) bytes m =
+    c.fill.ensures.memory ∙ ap (λ (b : List ℕ). stored (get_or places i 0) b m) c.to_le_bytes.ensures in
+    let next = next_place m places i c.loop-place-test.true c.loop-place.invariant.allowed in
+    record {
+      stored = ap (λ (m : Memory). stored_at_each (drop (i + 1) places) bytes m) here
+          ∙ next_stored bytes m places i c.loop-place-test.true ∙ c.loop-place.invariant.stored;
+      allowed = ap (λ (m : Memory). all_writable m (drop (i + 1) places)) here ∙ allowed_after (get_or places i 0) bytes m (drop (i + 1) places) next.1;
+      snapshots = c.fill.ensures.snapshots ∙ c.loop-place.invariant.snapshots;
+    }
+
+pub returns-clause-stored : goal.returns-clause-stored
+returns-clause-stored c =
+    sym (all_stored (to_le_bytes w32 c.args.word) (memory_of c.loop-place.self) c.args.places.now c.loop-place.place-index
+    (drop_all c.loop-place.place-index c.args.places.now c.loop-place-test.false))
+    ∙ c.loop-place.invariant.stored

@@ -1,0 +1,310 @@
+#!/usr/bin/env python3
+"""Makes the guests of several threads, and prints their bytes, what qemu-riscv32 prints of them, and what `rrv try` has to print: that is
+worked out here, by a restatement of the guest's rules that shares nothing with rrv. It covers what these guests do: no faults.
+
+Needs riscv64-unknown-elf-gcc and qemu-riscv32. Run in this folder.
+"""
+
+import struct
+import subprocess
+import tempfile
+
+ASM = "-march=rv32ima -mabi=ilp32 -nostdlib -static -s -Wl,-z,max-page-size=4096 -Wl,--build-id=none".split()
+C = ASM + "-ffreestanding -Os".split()
+QUANTUM = 50_000
+MASK = 0xFFFFFFFF
+BASIC, ALLOWED = 0x10F00, 0x17D0F00
+
+
+def signed(word):
+    return word - (1 << 32) if word >> 31 else word
+
+
+def field(word, low, count):
+    return word >> low & (1 << count) - 1
+
+
+def extended(value, bits):
+    return value - (1 << bits) if value >> bits - 1 else value
+
+
+def divided(funct3, a, b):
+    x, y = (a, b) if funct3 & 1 else (signed(a), signed(b))
+    if y == 0:
+        return a if funct3 & 2 else MASK
+    quotient = abs(x) // abs(y) * (1 if (x < 0) == (y < 0) else -1)
+    return (x - quotient * y if funct3 & 2 else quotient) & MASK
+
+
+def computed(funct3, a, b, other, is_m):
+    """What OP and OP-IMM give; other is funct7 0100000."""
+    if is_m:
+        if funct3 >= 4:
+            return divided(funct3, a, b)
+        x = a if funct3 == 3 else signed(a)
+        y = b if funct3 >= 2 else signed(b)
+        return x * y >> (32 if funct3 else 0) & MASK
+    shift = b & 31
+    return [
+        (a - b if other else a + b) & MASK,
+        a << shift & MASK,
+        int(signed(a) < signed(b)),
+        int(a < b),
+        a ^ b,
+        (signed(a) if other else a) >> shift & MASK,
+        a | b,
+        a & b,
+    ][funct3]
+
+
+def amo(funct5, old, b):
+    return {
+        1: b,
+        0: old + b & MASK,
+        4: old ^ b,
+        12: old & b,
+        8: old | b,
+        16: old if signed(old) < signed(b) else b,
+        20: b if signed(old) < signed(b) else old,
+        24: min(old, b),
+        28: max(old, b),
+    }[funct5]
+
+
+class Thread:
+    def __init__(self, pc, x, clear=0):
+        self.pc, self.x, self.clear, self.waits = pc, x, clear, None
+
+
+class Guest:
+    """A guest that commits no fault; where it would, Python stops."""
+
+    def __init__(self, elf, name):
+        self.pages, self.output, self.waiting = {}, b"", []
+        self.reservation, self.ended, self.next_tid = None, None, 2
+        entry, phoff = struct.unpack_from("<II", elf, 24)
+        for at in range(phoff, phoff + 32 * struct.unpack_from("<H", elf, 44)[0], 32):
+            kind, offset, address, _, filesz, memsz, flags, _ = struct.unpack_from("<8I", elf, at)
+            if kind == 1 and memsz:
+                for page in range(address >> 12, (address + memsz + 4095) >> 12):
+                    self.pages.setdefault(page, bytearray(4096))
+                self.put(address, elf[offset : offset + filesz])
+        for page in range(0x7FF00, 0x80000):
+            self.pages[page] = bytearray(4096)
+        name_at = 0x7FFFFFF0 - len(name) - 1
+        self.put(name_at, name)
+        x = [0] * 32
+        x[2] = (name_at - 72) & ~15
+        words = [1, name_at, 0, 0, 3, 0x10034, 4, 32, 5, elf[44], 6, 4096, 9, entry, 25, 0x7FFFFFF0, 0, 0]
+        self.put(x[2], struct.pack("<18I", *words))
+        self.threads = {1: Thread(entry, x)}
+
+    def put(self, address, data):
+        for place, byte in enumerate(data, address):
+            self.pages[place >> 12][place & 4095] = byte
+
+    def get(self, address, count):
+        return bytes(self.pages[place >> 12][place & 4095] for place in range(address, address + count))
+
+    def word(self, address):
+        return struct.unpack("<I", self.get(address, 4))[0]
+
+    def step(self, t):
+        """One instruction; answers whether it is a call."""
+        word, x, pc = self.word(t.pc), t.x, t.pc
+        opcode, rd, funct3, funct7 = word & 127, field(word, 7, 5), field(word, 12, 3), word >> 25
+        a, b = x[field(word, 15, 5)], x[field(word, 20, 5)]
+        immediate = extended(word >> 20, 12)
+        following, value = pc + 4, None
+        if opcode == 0x37:
+            value = word & ~4095
+        elif opcode == 0x17:
+            value = pc + (word & ~4095)
+        elif opcode == 0x6F:
+            jump = field(word, 31, 1) << 20 | field(word, 12, 8) << 12 | field(word, 20, 1) << 11 | field(word, 21, 10) << 1
+            value, following = following, pc + extended(jump, 21)
+        elif opcode == 0x67:
+            value, following = following, a + immediate & ~1
+        elif opcode == 0x63:
+            jump = field(word, 31, 1) << 12 | field(word, 7, 1) << 11 | field(word, 25, 6) << 5 | field(word, 8, 4) << 1
+            if [a == b, signed(a) < signed(b), a < b][[0, 0, 0, 0, 1, 1, 2, 2][funct3]] != bool(funct3 & 1):
+                following = pc + extended(jump, 13)
+        elif opcode == 0x03:
+            data = int.from_bytes(self.get(a + immediate & MASK, 1 << (funct3 & 3)), "little")
+            value = data if funct3 & 4 else extended(data, 8 << funct3)
+        elif opcode == 0x23:
+            offset = extended(funct7 << 5 | rd, 12)
+            self.put(a + offset & MASK, struct.pack("<I", b)[: 1 << funct3])
+        elif opcode == 0x13:
+            value = computed(funct3, a, immediate & MASK, funct3 == 5 and funct7 == 0x20, False)
+        elif opcode == 0x33:
+            value = computed(funct3, a, b, funct7 == 0x20, funct7 == 1)
+        elif opcode == 0x2F and word >> 27 == 2:
+            value, self.reservation = self.word(a), a
+        elif opcode == 0x2F and word >> 27 == 3:
+            value = int(self.reservation != a)
+            if not value:
+                self.put(a, struct.pack("<I", b))
+            self.reservation = None
+        elif opcode == 0x2F:
+            value = self.word(a)
+            self.put(a, struct.pack("<I", amo(word >> 27, value, b)))
+        elif word != 0x73:
+            assert opcode == 0x0F, f"{word:08x} at {pc:08x}"
+        if value is not None and rd:
+            x[rd] = value & MASK
+        t.pc = following & MASK
+        return word == 0x73
+
+    def wake(self, address, count):
+        woken = [tid for tid in self.waiting if self.threads[tid].waits == address][:count]
+        for tid in woken:
+            self.threads[tid].waits = None
+            self.waiting.remove(tid)
+        return len(woken)
+
+    def call(self, tid):
+        """A call; answers its result and how many bytes it wrote."""
+        t = self.threads[tid]
+        a, number, written = t.x[10:16], t.x[17], 0
+        if number == 93:
+            if t.clear:
+                self.put(t.clear, bytes(4))
+                self.wake(t.clear, 1)
+                written = 4
+            del self.threads[tid]
+            if not self.threads:
+                self.ended = a[0] & 255
+            return 0, written
+        if number == 94:
+            self.ended = a[0] & 255
+            return 0, 0
+        if number == 64:
+            assert a[0] == 1
+            self.output += self.get(a[1], a[2])
+            result = a[2]
+        elif number == 124:
+            result = 0
+        elif number == 215:
+            for page in range(a[0] >> 12, (a[0] + a[1] + 4095) >> 12):
+                self.pages.pop(page, None)
+            result = 0
+        elif number == 220:
+            assert a[0] & BASIC == BASIC and not a[0] & ~ALLOWED
+            result, self.next_tid = self.next_tid, self.next_tid + 1
+            for flag, address in [(0x100000, a[2]), (0x1000000, a[4])]:
+                if a[0] & flag:
+                    self.put(address, struct.pack("<I", result))
+                    written += 4
+            child = Thread(t.pc, t.x.copy(), a[4] if a[0] & 0x200000 else 0)
+            child.x[10], child.x[2] = 0, a[1] or t.x[2]
+            if a[0] & 0x80000:
+                child.x[4] = a[3]
+            self.threads[result] = child
+        elif number == 222:
+            count = (a[1] + 4095) >> 12
+            first = max(p for p in range(1, 0x70001 - count) if not any(p + i in self.pages for i in range(count)))
+            for page in range(first, first + count):
+                self.pages[page] = bytearray(4096)
+            result = first << 12
+        elif number in (98, 422) and a[1] & ~128 == 0:
+            if self.word(a[0]) != a[2]:
+                result = -11 & MASK
+            else:
+                t.waits, result = a[0], 0
+                self.waiting.append(tid)
+        else:
+            assert number in (98, 422) and a[1] & ~128 == 1, number
+            result = self.wake(a[0], a[2])
+        t.x[10] = result
+        return result, written
+
+    def slice(self, tid, quantum):
+        """Answers the line of its frame, and how many instructions it has."""
+        t = self.threads[tid]
+        for count in range(1, quantum + 1):
+            if self.step(t):
+                result, written = self.call(tid)
+                line = f"call tid={tid} count={count} result={result:08x} written={written}"
+                break
+        else:
+            line = f"preempt tid={tid} count={count}"
+        self.reservation = None
+        return line, count
+
+    def run(self, chosen):
+        """Runs slices to the end; answers the frames' lines, and how many instructions there are."""
+        lines, total = [], 0
+        while self.ended is None:
+            runnable = [tid for tid, t in sorted(self.threads.items()) if t.waits is None]
+            line, count = self.slice(*chosen(runnable))
+            lines.append(f"{len(lines) + 1} {line}")
+            total += count
+        return lines, total
+
+
+def round_robin():
+    """Each runnable thread in turn, by rising tid."""
+    last = 0
+
+    def chosen(runnable):
+        nonlocal last
+        last = next((tid for tid in runnable if tid > last), runnable[0])
+        return last, QUANTUM
+
+    return chosen
+
+
+def seeded(seed):
+    """Marsaglia's xorshift of 32 bits: a runnable thread, for 64 to 127 instructions."""
+    state = seed * 0x9E3779B9 & MASK
+
+    def chosen(runnable):
+        nonlocal state
+        state ^= state << 13 & MASK
+        state ^= state >> 17
+        state ^= state << 5 & MASK
+        return runnable[(state >> 8) % len(runnable)], 64 + state % 64
+
+    return chosen
+
+
+def array(data):
+    rows = [data[at : at + 16] for at in range(0, len(data), 16)]
+    return "\n".join("    " + " ".join(f"0x{byte:02X}," for byte in row) for row in rows)
+
+
+def show(name, source, flags, at):
+    subprocess.run(["riscv64-unknown-elf-gcc", *flags, "-o", f"{at}/{name}", source], check=True)
+    with open(f"{at}/{name}", "rb") as file:
+        elf = file.read()
+    runs = {subprocess.run(["qemu-riscv32", f"{at}/{name}"], stdout=subprocess.PIPE).stdout for _ in range(20)}
+    guest = Guest(elf, b"g0")
+    lines, total = guest.run(round_robin())
+    print(f"{name}: {len(elf)} bytes\n{array(elf)}")
+    print("under qemu-riscv32:", *sorted(runs))
+    print("output:", guest.output)
+    print(f"0 opening name=g0 elf={len(elf)}", *lines, sep="\n")
+    print(f"ok records={len(lines) + 1} instructions={total} end exited {guest.ended}\n")
+    return elf
+
+
+def main():
+    with tempfile.TemporaryDirectory() as at:
+        show("lock", "lock.c", C, at)
+        show("race", "race.S", ASM, at)
+        elf = show("four_threads", "four_threads.S", ASM, at)
+    outputs, preempts, calls, instructions = set(), 0, 0, 0
+    for seed in range(1, 201):
+        guest = Guest(elf, b"four")
+        lines, total = guest.run(seeded(seed))
+        assert guest.ended == 4
+        outputs.add(guest.output)
+        preempts += sum("preempt" in line for line in lines)
+        calls += sum("call" in line for line in lines)
+        instructions += total
+    print(f"200 seeds: {len(outputs)} outputs, {preempts} preempts, {calls} calls, {instructions} instructions")
+
+
+if __name__ == "__main__":
+    main()
