@@ -10,7 +10,7 @@ use Rattle.rrv_model.specs.Memory.{Memory, stored, bytes_at}
 use Rattle.rrv_model.specs.State.{State, thread_at, register}
 use Rattle.rrv_model.specs.CallRows.{answers, change_thread, range, with_memory, waits_at, waiters, woken, wakes, leaves, ends, clears, Row, Answers, NoResult, Call, row_of, call_of, write_row, writev_row, exit_row, exit_group_row, set_tid_address_row, futex_row, brk_row, munmap_row, clone_row, mmap_row, mprotect_row, fails, argument}
 use Rattle.rrv_model.specs.CallRows as calls
-use Rattle.rrv_model.specs.Calls.{Silence, write_all, writes, results, call_row, carried_out}
+use Rattle.rrv_model.specs.Calls.{Silence, write_all, writes, results, call_row}
 use Rattle.rrv_model.specs.RecordText.{HasCallText}
 use Rattle.rrv_model.specs.Output.{Chunk, put_out}
 use Rattle.guest_pages.proofs.Cells.{length_bytes_at}
@@ -113,7 +113,7 @@ row_for syscalls.Mprotect tid s t = mprotect_row s t
 row_for syscalls.Other tid s t = fails 38
 
 abbrev row_at : ℕ → ℕ → State → Thread → Row
-row_at n tid s t = row_of (carried_out (call_of n)) tid s t
+row_at n tid s t = row_of (call_of n) tid s t
 
 row_is : (sys : Syscall) (n tid : ℕ) (s : State) (t : Thread) → IsNumber sys n → row_for sys tid s t ≡ row_at n tid s t
 unfolding row_of
@@ -157,27 +157,27 @@ call_for syscalls.Mmap = calls.Mmap
 call_for syscalls.Mprotect = calls.Mprotect
 call_for syscalls.Other = calls.Other
 
-call_is : (sys : Syscall) (n : ℕ) → IsNumber sys n → call_for sys ≡ carried_out (call_of n)
-call_is syscalls.Write n e = ap (λ n. carried_out (call_of n)) (sym e)
-call_is syscalls.Writev n e = ap (λ n. carried_out (call_of n)) (sym e)
-call_is syscalls.Exit n e = ap (λ n. carried_out (call_of n)) (sym e)
-call_is syscalls.ExitGroup n e = ap (λ n. carried_out (call_of n)) (sym e)
-call_is syscalls.SetTidAddress n e = ap (λ n. carried_out (call_of n)) (sym e)
-call_is syscalls.Futex n (inl e) = ap (λ n. carried_out (call_of n)) (sym e)
-call_is syscalls.Futex n (inr e) = ap (λ n. carried_out (call_of n)) (sym e)
-call_is syscalls.SchedYield n e = ap (λ n. carried_out (call_of n)) (sym e)
-call_is syscalls.Getpid n e = ap (λ n. carried_out (call_of n)) (sym e)
-call_is syscalls.Gettid n e = ap (λ n. carried_out (call_of n)) (sym e)
-call_is syscalls.Brk n e = ap (λ n. carried_out (call_of n)) (sym e)
-call_is syscalls.Munmap n e = ap (λ n. carried_out (call_of n)) (sym e)
-call_is syscalls.Clone n e = ap (λ n. carried_out (call_of n)) (sym e)
-call_is syscalls.Mmap n e = ap (λ n. carried_out (call_of n)) (sym e)
-call_is syscalls.Mprotect n e = ap (λ n. carried_out (call_of n)) (sym e)
+call_is : (sys : Syscall) (n : ℕ) → IsNumber sys n → call_for sys ≡ call_of n
+call_is syscalls.Write n e = ap (λ n. call_of n) (sym e)
+call_is syscalls.Writev n e = ap (λ n. call_of n) (sym e)
+call_is syscalls.Exit n e = ap (λ n. call_of n) (sym e)
+call_is syscalls.ExitGroup n e = ap (λ n. call_of n) (sym e)
+call_is syscalls.SetTidAddress n e = ap (λ n. call_of n) (sym e)
+call_is syscalls.Futex n (inl e) = ap (λ n. call_of n) (sym e)
+call_is syscalls.Futex n (inr e) = ap (λ n. call_of n) (sym e)
+call_is syscalls.SchedYield n e = ap (λ n. call_of n) (sym e)
+call_is syscalls.Getpid n e = ap (λ n. call_of n) (sym e)
+call_is syscalls.Gettid n e = ap (λ n. call_of n) (sym e)
+call_is syscalls.Brk n e = ap (λ n. call_of n) (sym e)
+call_is syscalls.Munmap n e = ap (λ n. call_of n) (sym e)
+call_is syscalls.Clone n e = ap (λ n. call_of n) (sym e)
+call_is syscalls.Mmap n e = ap (λ n. call_of n) (sym e)
+call_is syscalls.Mprotect n e = ap (λ n. call_of n) (sym e)
 call_is syscalls.Other n e = sym e
 
 -- a call that may grow, by its number
 pub grows_at : (sys : Syscall) (tid : ℕ) (s : State) (t : Thread) → IsNumber sys (register t.regs 17) →
-    MayGrow (call_for sys) tid s t → MayGrow (carried_out (call_of (register t.regs 17))) tid s t
+    MayGrow (call_for sys) tid s t → MayGrow (call_of (register t.regs 17)) tid s t
 grows_at sys tid s t e p = subst (λ (call : Call). MayGrow call tid s t) (call_is sys (register t.regs 17) e) p
 
 -- ---- output

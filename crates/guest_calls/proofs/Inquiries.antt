@@ -8,7 +8,7 @@ use Rattle.rrv_model.specs.declared.record.CallRecord.{CallRecord}
 use Rattle.rrv_model.specs.Memory.{Memory, stored, writable}
 use Rattle.rrv_model.specs.State.{State, register}
 use Rattle.rrv_model.specs.CallRows.{Row, Answers, NoResult, AsksInput, AsksRandom, AsksTime, Call, Read, Write, Writev, Exit, ExitGroup, SetTidAddress, Futex, SchedYield, Getpid, Gettid, Brk, Munmap, Clone, Mmap, Mprotect, Getrandom, ClockGettime, Other, answers, argument, call_of, fails, maps_at, mmap_place, range, row_of, transfer, with_memory, read_row, getrandom_row, clock_gettime_row}
-use Rattle.rrv_model.specs.Calls.{Answer, Bytes, Time, Records, call_row, carried_out, results, write_all, writes}
+use Rattle.rrv_model.specs.Calls.{Answer, Bytes, Time, Records, call_row, results, write_all, writes}
 use Rattle.rrv_model.specs.RecordText.{HasCallText}
 use Rattle.guest_pages.specs.Space.{SpaceValue, CanFill, memory_of}
 use Rattle.guest_pages.proofs.Cells.{all_pass, one_of_all}
@@ -57,7 +57,7 @@ inquires Getrandom = true
 inquires ClockGettime = true
 inquires Other = false
 
-asks_nobody : (call : Call) (tid : ℕ) (s : State) (t : Thread) → inquires call ≡ false → asks (row_of (carried_out call) tid s t) ≡ false
+asks_nobody : (call : Call) (tid : ℕ) (s : State) (t : Thread) → inquires call ≡ false → asks (row_of (call) tid s t) ≡ false
 unfolding row_of
 asks_nobody Read tid s t e = absurd (false≢true (sym e))
 asks_nobody Write tid s t e = grind (arith, nat_tests, either)
@@ -131,7 +131,7 @@ asking_row inquiries.Getrandom s t = getrandom_row s t
 asking_row inquiries.ClockGettime s t = clock_gettime_row s t
 
 abbrev row_at : ℕ → ℕ → State → Thread → Row
-row_at n tid s t = row_of (carried_out (call_of n)) tid s t
+row_at n tid s t = row_of (call_of n) tid s t
 
 asking_row_is : (i : Inquiry) (n tid : ℕ) (s : State) (t : Thread) → IsInquiry (Some i) n → asking_row i s t ≡ row_at n tid s t
 unfolding row_of
@@ -163,13 +163,13 @@ asking_call inquiries.Read = Read
 asking_call inquiries.Getrandom = Getrandom
 asking_call inquiries.ClockGettime = ClockGettime
 
-asking_call_is : (i : Inquiry) (n : ℕ) → IsInquiry (Some i) n → asking_call i ≡ carried_out (call_of n)
-asking_call_is inquiries.Read n e = ap (λ n. carried_out (call_of n)) (sym e)
-asking_call_is inquiries.Getrandom n e = ap (λ n. carried_out (call_of n)) (sym e)
-asking_call_is inquiries.ClockGettime n e = ap (λ n. carried_out (call_of n)) (sym e)
+asking_call_is : (i : Inquiry) (n : ℕ) → IsInquiry (Some i) n → asking_call i ≡ call_of n
+asking_call_is inquiries.Read n e = ap (λ n. call_of n) (sym e)
+asking_call_is inquiries.Getrandom n e = ap (λ n. call_of n) (sym e)
+asking_call_is inquiries.ClockGettime n e = ap (λ n. call_of n) (sym e)
 
 pub asking_grows : (i : Inquiry) (tid : ℕ) (s : State) (t : Thread) → IsInquiry (Some i) (register t.regs 17) →
-    MayGrow (asking_call i) tid s t → MayGrow (carried_out (call_of (register t.regs 17))) tid s t
+    MayGrow (asking_call i) tid s t → MayGrow (call_of (register t.regs 17)) tid s t
 asking_grows i tid s t e p = subst (λ (call : Call). MayGrow call tid s t) (asking_call_is i (register t.regs 17) e) p
 
 -- ---- what an answer leaves

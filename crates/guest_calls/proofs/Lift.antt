@@ -10,10 +10,10 @@ use Rattle.rrv_model.specs.State.{State, thread_at, with_thread, AreRegs}
 use Rattle.rrv_model.specs.Step.{Hart, HartStep, Next, StepsTo, hart_of, with_hart, goes_on}
 use Rattle.rrv_model.specs.CallRows.{change_thread}
 use Rattle.rrv_model.specs.FrameStep.{Steps}
-use Rattle.guest_calls.specs.declared.run.Run.{Run}
-use Rattle.guest_calls.specs.declared.run.RunEnd.{RunEnd}
-use Rattle.guest_calls.specs.declared.run.RunEnd.TheVariants as ends
-use Rattle.guest_calls.specs.HartRuns.{HartSteps, HartRuns, HartRunsTo, HartRunsToCall, HartRunsToFault, HartRunsToMemory}
+use Rattle.rv_machine.specs.declared.run.Run.{Run}
+use Rattle.rv_machine.specs.declared.run.RunEnd.{RunEnd}
+use Rattle.rv_machine.specs.declared.run.RunEnd.TheVariants as ends
+use Rattle.rv_machine.specs.HartRuns.{HartSteps, HartRuns, HartRunsTo, HartRunsToCall, HartRunsToFault, HartRunsToMemory}
 use Rattle.guest_calls.specs.Runs.{Runs, RunsTo, RunsToCall, RunsToFault, RunsToMemory, before_call}
 use Rattle.guest_calls.proofs.Ecalls.{called_hart}
 use Rattle.guest_threads.proofs.ByTid.{same_tid}

@@ -4,7 +4,7 @@ use Rattle.rrv_model.specs.declared.machine.Thread.{Thread}
 use Rattle.rrv_model.specs.declared.record.CallRecord.{CallRecord}
 use Rattle.rrv_model.specs.State.{State}
 use Rattle.rrv_model.specs.CallRows.{Row, Answers, NoResult, AsksInput, AsksRandom, AsksTime, call_of, Other}
-use Rattle.rrv_model.specs.Calls.{Answer, Calls, Records, after_call, carried_out, call_row}
+use Rattle.rrv_model.specs.Calls.{Answer, Calls, Records, after_call, call_row}
 use Rattle.guest_calls.specs.declared.syscall.Syscall.{Syscall}
 use Rattle.guest_calls.specs.declared.syscall.Syscall.TheVariants as syscalls
 
@@ -47,4 +47,4 @@ IsNumber syscalls.Munmap n = n ≡ 215
 IsNumber syscalls.Clone n = n ≡ 220
 IsNumber syscalls.Mmap n = n ≡ 222
 IsNumber syscalls.Mprotect n = n ≡ 226
-IsNumber syscalls.Other n = carried_out (call_of n) ≡ Other
+IsNumber syscalls.Other n = call_of n ≡ Other

@@ -4,7 +4,6 @@ use Rattle.rrv_model.specs.declared.machine.Thread.{Thread}
 use Rattle.rrv_model.specs.Memory.{readable, pages_for}
 use Rattle.rrv_model.specs.State.{State, register}
 use Rattle.rrv_model.specs.CallRows.{Row, Answers, NoResult, AsksInput, AsksRandom, AsksTime, Call, Read, Write, Writev, Exit, ExitGroup, SetTidAddress, Futex, SchedYield, Getpid, Gettid, Brk, Munmap, Clone, Mmap, Mprotect, Getrandom, ClockGettime, Other, argument, call_of, clears, is_output, read_row, write_row, futex_row, brk_row, clone_row, mmap_row, getrandom_row, clock_gettime_row}
-use Rattle.rrv_model.specs.Calls.{carried_out}
 use Rattle.guest_calls.specs.Carries.{Asks}
 
 -- the call answers no negated error number, which is -4095 to -1 (Linux man pages, intro(2) and errno(3))
@@ -70,4 +69,4 @@ MayGrow Other tid s t = ⊥
 -- the call that the thread makes may take memory
 abbrev pub CallMayGrow : State → ℕ → Option Thread → Type 0
 CallMayGrow s tid None = ⊥
-CallMayGrow s tid (Some t) = MayGrow (carried_out (call_of (register t.regs 17))) tid s t
+CallMayGrow s tid (Some t) = MayGrow (call_of (register t.regs 17)) tid s t

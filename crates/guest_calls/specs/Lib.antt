@@ -1,10 +1,8 @@
 pub mod Guest
 pub mod Runs
-pub mod HartRuns
 pub mod Asking
 pub mod Carries
 pub mod Clones
 pub mod Growth
 pub mod Snapshots
-pub mod Loading
-pub mod Buffers
+pub mod Parts

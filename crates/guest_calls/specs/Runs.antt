@@ -8,9 +8,9 @@ use Rattle.rrv_model.specs.CallRows.{change_thread}
 use Rattle.rrv_model.specs.FrameStep.{Steps}
 use Rattle.rv_machine.specs.declared.Stepped.{Stepped}
 use Rattle.rv_machine.specs.declared.Stepped.TheVariants as stepped
-use Rattle.guest_calls.specs.declared.run.Run.{Run}
-use Rattle.guest_calls.specs.declared.run.RunEnd.{RunEnd}
-use Rattle.guest_calls.specs.declared.run.RunEnd.TheVariants.{Limit, Call, Fault, Memory}
+use Rattle.rv_machine.specs.declared.run.Run.{Run}
+use Rattle.rv_machine.specs.declared.run.RunEnd.{RunEnd}
+use Rattle.rv_machine.specs.declared.run.RunEnd.TheVariants.{Limit, Call, Fault, Memory}
 
 -- the thread stands at its last instruction again
 abbrev pub before_call : ℕ → State → State

@@ -4,7 +4,7 @@ ghost use Rattle.std.specs.Prelude.{◌≡◌, ◌<◌, ◌≤◌, All, length, 
 ghost use Rattle.rrv_model.specs.Memory.{writable, stored};
 ghost use Rattle.rrv_model.specs.State.{thread_at, register, IsThread};
 ghost use Rattle.rrv_model.specs.CallRows.{call_of, range, with_memory};
-ghost use Rattle.rrv_model.specs.Calls.{call_row, carried_out, results};
+ghost use Rattle.rrv_model.specs.Calls.{call_row, results};
 ghost use Rattle.rrv_model.specs.RecordText.{HasCallText};
 ghost use Rattle.rrv_model.specs.Output.{put_out};
 ghost use Rattle.guest_pages.specs.Space.{CanFill, snapshots_of};
@@ -15,9 +15,9 @@ ghost use Rattle.guest_calls.specs.Growth.{MayGrow};
 
 use crate::calls::NUMBER;
 use crate::guest::Guest;
-use crate::opening::has_bytes;
 use crate::outside::Outside;
 use crate::room::Room;
+use guest_opening::has_bytes;
 use rrv_model::machine::Thread;
 use rrv_model::record::CallRecord;
 use rrv_model::refusal::Memory;
@@ -61,7 +61,7 @@ impl Guest {
             IsAnswered O.gives (call_row (state_of self.old) tid thread.now) thread.now r outside.old outside.new) }
         ensures text { IfOk result HasCallText }
         ensures puts { IfOk result (λ r. chunks_of self.new.put ≡ put_out (state_of self.old).memory thread.now r.result) }
-        ensures memory { OnErr result (MayGrow (carried_out (call_of (register thread.now.regs 17))) tid (state_of self.old) thread.now) }
+        ensures memory { OnErr result (MayGrow (call_of (register thread.now.regs 17)) tid (state_of self.old) thread.now) }
         ensures refused { OnErr result (self.new ≡ self.old) }
         ensures refused_unasked { OnErr result (outside.new ≡ outside.old) }
         ensures unasked { ¬ Asks (call_row (state_of self.old) tid thread.now) → outside.new ≡ outside.old }
@@ -91,7 +91,7 @@ impl Guest {
             IsAnswered O.gives (call_row (state_of self.old) tid thread.now) thread.now r outside.old outside.new) }
         ensures text { IfOk result HasCallText }
         ensures puts { IfOk result (λ r. chunks_of self.new.put ≡ put_out (state_of self.old).memory thread.now r.result) }
-        ensures memory { OnErr result (MayGrow (carried_out (call_of (register thread.now.regs 17))) tid (state_of self.old) thread.now) }
+        ensures memory { OnErr result (MayGrow (call_of (register thread.now.regs 17)) tid (state_of self.old) thread.now) }
         ensures refused { OnErr result (self.new ≡ self.old) }
         ensures refused_unasked { OnErr result (outside.new ≡ outside.old) }
         ensures unasked { ¬ Asks (call_row (state_of self.old) tid thread.now) → outside.new ≡ outside.old }

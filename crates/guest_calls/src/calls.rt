@@ -4,7 +4,7 @@ ghost use Rattle.std.specs.Prelude.{◌≡◌, [], ◌∷◌, Some, None, MatchO
 ghost use Rattle.rrv_model.specs.Memory.{readable, writable, bytes_at};
 ghost use Rattle.rrv_model.specs.State.{thread_at, register, IsRunning, IsThread};
 ghost use Rattle.rrv_model.specs.CallRows.{NoResult, range, answers, call_of, clears, leaves, wakes, write_row, exit_row, exit_group_row, set_tid_address_row};
-ghost use Rattle.rrv_model.specs.Calls.{call_row, carried_out};
+ghost use Rattle.rrv_model.specs.Calls.{call_row};
 ghost use Rattle.rrv_model.specs.RecordText.{HasCallText};
 ghost use Rattle.rrv_model.specs.Output.{put_out, put_out_by};
 ghost use Rattle.guest_pages.specs.Space.{snapshots_of};
@@ -131,7 +131,7 @@ impl Guest {
             Carries (call_row (state_of self.old) tid thread.now) tid (state_of self.old) r (state_of self.new)) }
         ensures text { IfOk result HasCallText }
         ensures puts { IfOk result (λ r. chunks_of self.new.put ≡ put_out (state_of self.old).memory thread.now r.result) }
-        ensures memory { OnErr result (MayGrow (carried_out (call_of (register thread.now.regs 17))) tid (state_of self.old) thread.now) }
+        ensures memory { OnErr result (MayGrow (call_of (register thread.now.regs 17)) tid (state_of self.old) thread.now) }
         ensures refused { OnErr result (self.new ≡ self.old) }
         ensures ran { self.new.ran ≡ self.old.ran }
         ensures snapshots { snapshots_of self.new.space ≡ snapshots_of self.old.space }

@@ -18,9 +18,6 @@ use rrv_model::record::CallRecord;
 use rrv_model::refusal::Memory;
 use std::alloc::Global;
 
-#[cfg(test)]
-mod tests;
-
 /// CLOCK_MONOTONIC, the greater of the two clocks; CLOCK_REALTIME is 0.
 const MONOTONIC: u32 = 1;
 /// The bytes of a moment: seconds and nanoseconds, 8 bytes each.

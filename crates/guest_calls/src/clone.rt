@@ -23,9 +23,6 @@ use rrv_model::record::{CallRecord, Written};
 use rrv_model::refusal::Memory;
 use std::alloc::Global;
 
-#[cfg(test)]
-mod tests;
-
 /// CLONE_VM, CLONE_FS, CLONE_FILES, CLONE_SIGHAND and CLONE_THREAD, which are required.
 const REQUIRED: u32 = 0x1_0F00;
 /// CLONE_SYSVSEM, CLONE_SETTLS, CLONE_PARENT_SETTID, CLONE_CHILD_CLEARTID, CLONE_DETACHED and CLONE_CHILD_SETTID, which

@@ -18,9 +18,6 @@ use rrv_model::record::CallRecord;
 use rrv_model::refusal::Memory;
 use std::alloc::Global;
 
-#[cfg(test)]
-mod tests;
-
 /// FUTEX_WAKE; FUTEX_WAIT is 0.
 const WAKE: u32 = 1;
 /// FUTEX_PRIVATE_FLAG, which says nothing where one process is.

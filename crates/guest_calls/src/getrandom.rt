@@ -18,9 +18,6 @@ use rrv_model::record::CallRecord;
 use rrv_model::refusal::Memory;
 use std::alloc::Global;
 
-#[cfg(test)]
-mod tests;
-
 /// The greatest flags: those of GRND_NONBLOCK, GRND_RANDOM and GRND_INSECURE.
 const MAX_FLAGS: u32 = 7;
 /// The most random bytes of one call.

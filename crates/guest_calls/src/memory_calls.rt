@@ -18,9 +18,6 @@ use rrv_model::record::CallRecord;
 use rrv_model::refusal::Memory;
 use std::alloc::Global;
 
-#[cfg(test)]
-mod tests;
-
 /// READ and WRITE.
 const READ_WRITE: u32 = 3;
 /// The highest break.

@@ -19,9 +19,6 @@ use rrv_model::record::CallRecord;
 use rrv_model::refusal::Memory;
 use std::alloc::Global;
 
-#[cfg(test)]
-mod tests;
-
 impl Room {
     /// Takes as much input as there is room for, and answers how much it is.
     fn take_input<O: Outside>(&mut self, outside: &mut O) -> u32

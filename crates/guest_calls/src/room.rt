@@ -20,6 +20,7 @@ pub(crate) struct Room {
 }
 
 impl Room {
+    /// Room for an answer of so many bytes.
     pub(crate) fn new(alloc: Global, count: u32) -> Result<Room, Memory>
         ensures { IfOk result (λ room. length room.bytes.items ≡ count) }
     {

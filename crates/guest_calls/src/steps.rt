@@ -8,9 +8,8 @@ ghost use Rattle.guest_calls.specs.Guest.{state_of, counted};
 ghost use Rattle.guest_calls.specs.Runs.{Runs, StepDoes, before_call};
 
 use crate::guest::Guest;
-use crate::run::{Run, RunEnd, run_hart};
 use rrv_model::refusal::Memory;
-use rv_machine::Stepped;
+use rv_machine::{Run, RunEnd, Stepped, run_hart};
 
 impl Guest {
     /// Runs up to `limit` instructions of a running thread: it stops behind a call's ECALL, before a fault, and before an

@@ -7,3 +7,4 @@ pub mod Same
 pub mod Kept
 pub mod Changes
 pub mod WordStores
+pub mod WholePages

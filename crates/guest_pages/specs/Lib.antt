@@ -3,3 +3,4 @@ pub mod Space
 pub mod Mapping
 pub mod Snapshots
 pub mod Stores
+pub mod WholePages

@@ -6,11 +6,13 @@ ghost use Rattle.rrv_model.specs.Memory.{all_free, all_mapped, byte_or_zero, byt
 ghost use Rattle.guest_pages.specs.Space.{memory_of, memory_in, snapshots_of, fetched_word, loaded_byte, loaded_half, loaded_word, cell_byte, page_at, page_passes, test_of, present, CanFill, IsLoadRefusal, IsStoreRefusal};
 ghost use Rattle.guest_pages.specs.Mapping.{IsMapRefusal, covered};
 ghost use Rattle.guest_pages.specs.Snapshots.{AreChanges, IsPageOf};
+ghost use Rattle.guest_pages.specs.WholePages.{with_page, MayHave};
 
 use crate::fault::PageFault;
 use crate::mapping::{
-    add_page, add_pages, all_there, clear_pages, count_missing, first_there, join_permissions,
-    list_changed, list_missing, protect_range, remove_range, same_pages, view_page,
+    add_page, add_pages, all_there, clear_pages, count_missing, first_there, insert_page,
+    join_permissions, list_changed, list_missing, overwrite_page, protect_range, remove_number,
+    remove_range, same_pages, view_page,
 };
 use crate::page::{
     Access, Page, PageView, copy_bytes, half_at, put_byte, put_bytes, put_half, put_word, word_at,
@@ -178,6 +180,35 @@ impl Space {
             return Err(PageFault::TooManyPages);
         }
         let Ok(()) = add_page(self.alloc, &mut self.pages, page, permissions) else {
+            return Err(PageFault::Memory);
+        };
+        Ok(())
+    }
+
+    /// Puts a page with its permissions and bytes, as [`Space::page`] reads one, in place of what was there; None unmaps it.
+    /// Refused with TooManyPages where more than 16,384 pages would be mapped, else with Memory where a growth is refused.
+    /// Where the page is mapped already, or is unmapped, it takes no memory, and is not refused.
+    pub fn set_page(&mut self, number: u32, page: Option<PageView<'_>>) -> Result<(), PageFault>
+        requires { MayHave number page }
+        ensures set { OnOk result (memory_of self.new ≡ with_page number page.entry (memory_of self.old)) }
+        ensures refused { IfErr result (IsMapRefusal (with_page number page.entry (memory_of self.old))) }
+        ensures err { OnErr result (self.new ≡ self.old) }
+        ensures some { OnErr result (IsSome page.entry) }
+        ensures grows { OnErr result (is_mapped (memory_of self.old) number ≡ false) }
+        ensures snapshots { snapshots_of self.new ≡ snapshots_of self.old }
+    {
+        let Some(page) = page else {
+            remove_number(&mut self.pages, number);
+            return Ok(());
+        };
+        if self.pages.contains_key(&number) {
+            overwrite_page(&mut self.pages, number, page);
+            return Ok(());
+        }
+        if self.pages.len() + 1 > MAX_PAGES as usize {
+            return Err(PageFault::TooManyPages);
+        }
+        let Ok(()) = insert_page(self.alloc, &mut self.pages, number, page) else {
             return Err(PageFault::Memory);
         };
         Ok(())

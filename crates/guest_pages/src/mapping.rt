@@ -8,6 +8,7 @@ ghost use Rattle.rrv_model.specs.Memory.{all_mapped, is_mapped};
 ghost use Rattle.guest_pages.specs.Space.{memory_in, page_at};
 ghost use Rattle.guest_pages.specs.Mapping.{missing, has_number, union, AreProtected, IsClear, IsJoined, SamePage, SameAt, ListsOthers};
 ghost use Rattle.guest_pages.specs.Snapshots.{IsPageOf};
+ghost use Rattle.guest_pages.specs.WholePages.{IsCopyOf, IsCopyOfBytes};
 ghost use Rattle.guest_pages.specs.declared.page.Page.{Page};
 
 use crate::page::{Page, PageView};
@@ -105,6 +106,51 @@ pub(crate) fn add_page(
     Ok(())
 }
 
+/// Puts a copy of a page at a number.
+pub(crate) fn insert_page(
+    alloc: Global,
+    pages: &mut BTreeMap<u32, Page>,
+    number: u32,
+    page: PageView<'_>,
+) -> Result<(), AllocError>
+    ensures here { OnOk result (IsSomeAnd (page_at pages.new.entries number) (IsCopyOf page.entry)) }
+    ensures others { (q : ℕ) → q ≢ number → page_at pages.new.entries q ≡ page_at pages.old.entries q }
+    ensures ordered { OnOk result (IsStrictlySortedBy nat_cmp (keys_of pages.new.entries)) }
+    ensures err { OnErr result (pages.new.entries ≡ pages.old.entries) }
+{
+    let bytes = copy_page(alloc, page.bytes)?;
+    let permissions = page.permissions;
+    pages.insert(number, Page { permissions, bytes })?;
+    Ok(())
+}
+
+/// Gives a page that is there the permissions and the bytes of another.
+pub(crate) fn overwrite_page(pages: &mut BTreeMap<u32, Page>, number: u32, page: PageView<'_>)
+    requires { IsStrictlySortedBy nat_cmp (keys_of pages.old.entries) }
+    ensures here { IsSome (page_at pages.old.entries number) → IsSomeAnd (page_at pages.new.entries number) (IsCopyOf page.entry) }
+    ensures others { (q : ℕ) → q ≢ number → page_at pages.new.entries q ≡ page_at pages.old.entries q }
+    ensures ordered { IsStrictlySortedBy nat_cmp (keys_of pages.new.entries) }
+    ensures len { length pages.new.entries ≡ length pages.old.entries }
+{
+    if let Some(place) = pages.get_mut(&number) {
+        place.permissions = page.permissions;
+        overwrite_bytes(&mut place.bytes, page.bytes);
+    }
+}
+
+fn copy_page(alloc: Global, from: &[u8; 4096]) -> Result<Box<[u8; 4096]>, AllocError>
+    ensures { IfOk result (λ bytes. IsCopyOfBytes from.now bytes.value) }
+{
+    let bytes = Box::new(alloc, *from)?;
+    Ok(bytes)
+}
+
+fn overwrite_bytes(bytes: &mut [u8; 4096], from: &[u8; 4096])
+    ensures { IsCopyOfBytes from.now bytes.new }
+{
+    bytes.copy_from_slice(from);
+}
+
 /// Takes pages away.
 fn remove_pages(pages: &mut BTreeMap<u32, Page>, numbers: &[u32])
     requires { IsStrictlySortedBy nat_cmp (keys_of pages.old.entries) }
@@ -198,7 +244,8 @@ pub(crate) fn remove_range(pages: &mut BTreeMap<u32, Page>, first: u32, count: u
     }
 }
 
-fn remove_number(pages: &mut BTreeMap<u32, Page>, number: u32)
+/// Takes a page away, where it is there.
+pub(crate) fn remove_number(pages: &mut BTreeMap<u32, Page>, number: u32)
     ensures here { page_at pages.new.entries number ≡ None }
     ensures others { (q : ℕ) → q ≢ number → page_at pages.new.entries q ≡ page_at pages.old.entries q }
     ensures ordered { IsStrictlySortedBy nat_cmp (keys_of pages.new.entries) }

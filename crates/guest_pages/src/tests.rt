@@ -3,6 +3,7 @@
 mod edges;
 mod memory;
 mod snapshots;
+mod whole_pages;
 
 use crate::{PageFault, Space};
 use rrv_model::machine::Permissions;

@@ -1,4 +1,4 @@
-//! Why a call on threads refuses.
+//! Why threads refuse.
 
 use thiserror::Error;
 
@@ -11,6 +11,17 @@ pub enum ThreadFault {
     /// No such thread runs.
     #[error("no such thread")]
     NotThere,
+    /// A growth was refused.
+    #[error("out of memory")]
+    Memory,
+}
+
+/// Why no threads were made of parts.
+#[derive(Clone, Copy, Debug, PartialEq, Eq, Error)]
+pub enum PartsFault {
+    /// The parts break the rules of a state.
+    #[error("no state has these threads")]
+    NoState,
     /// A growth was refused.
     #[error("out of memory")]
     Memory,

@@ -4,9 +4,10 @@
 mod by_tid;
 mod changes;
 mod fault;
+mod parts;
 #[cfg(test)]
 mod tests;
 mod threads;
 
-pub use fault::ThreadFault;
+pub use fault::{PartsFault, ThreadFault};
 pub use threads::Threads;

@@ -316,6 +316,7 @@ call_of n =
     else if n == 226 then Mprotect else if n == 278 then Getrandom else if n == 403 then ClockGettime
     else Other
 
+-- sched_yield(2), getpid(2) and gettid(2) have no row of their own: they only answer
 unfoldable pub row_of : Call → ℕ → State → Thread → Row
 row_of Read tid s t = read_row s t
 row_of Write tid s t = write_row s t

@@ -6,7 +6,7 @@ use Rattle.rrv_model.specs.declared.record.Written.{Written}
 use Rattle.rrv_model.specs.declared.record.CallRecord.{CallRecord}
 use Rattle.rrv_model.specs.Memory.{Memory, stored}
 use Rattle.rrv_model.specs.State.{State, thread_at, register}
-use Rattle.rrv_model.specs.CallRows.{Row, Answers, NoResult, AsksInput, AsksRandom, AsksTime, Call, Write, Exit, Other, Read, Writev, ExitGroup, SetTidAddress, Futex, SchedYield, Getpid, Gettid, Brk, Munmap, Clone, Mmap, Mprotect, Getrandom, ClockGettime, call_of, row_of, range, change_thread, set_register}
+use Rattle.rrv_model.specs.CallRows.{Row, Answers, NoResult, AsksInput, AsksRandom, AsksTime, call_of, row_of, range, change_thread, set_register}
 
 -- what the outside answers, where it is asked
 pub data Answer : Type 0 where
@@ -14,30 +14,9 @@ pub data Answer : Type 0 where
   Bytes : List ℕ → Answer
   Time : (seconds nanoseconds : ℕ) → Answer
 
--- The calls that are carried out so far. A number of any other call answers -38, as one that has no row.
-abbrev pub carried_out : Call → Call
-carried_out Write = Write
-carried_out Exit = Exit
-carried_out ExitGroup = ExitGroup
-carried_out SetTidAddress = SetTidAddress
-carried_out SchedYield = SchedYield
-carried_out Getpid = Getpid
-carried_out Gettid = Gettid
-carried_out Read = Read
-carried_out Writev = Writev
-carried_out Futex = Futex
-carried_out Brk = Brk
-carried_out Munmap = Munmap
-carried_out Clone = Clone
-carried_out Mmap = Mmap
-carried_out Mprotect = Mprotect
-carried_out Getrandom = Getrandom
-carried_out ClockGettime = ClockGettime
-carried_out Other = Other
-
 -- the number is in a7
 abbrev pub call_row : State → ℕ → Thread → Row
-call_row s tid t = row_of (carried_out (call_of (register t.regs 17))) tid s t
+call_row s tid t = row_of (call_of (register t.regs 17)) tid s t
 
 -- ---- the relation
 

@@ -1,1 +1,2 @@
+pub mod HartSteps
 pub mod Permissions

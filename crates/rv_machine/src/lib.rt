@@ -1,4 +1,4 @@
-//! One instruction of a hart: RV32I, Zifencei, M and A, at user level
+//! Instructions of a hart, one or several: RV32I, Zifencei, M and A, at user level
 //! (RISC-V Unprivileged ISA 20191213, chapters 2, 3, 7 and 8).
 #![tactic(auto)]
 
@@ -9,6 +9,7 @@ mod execute;
 mod hart;
 mod memory;
 mod registers;
+mod run;
 #[cfg(test)]
 mod tests;
 mod values;
@@ -17,6 +18,7 @@ mod vectors;
 
 pub use hart::step;
 use rrv_model::machine::FaultKind;
+pub use run::{Run, RunEnd, run_hart};
 
 /// What one instruction came to.
 #[derive(Clone, Copy, Debug, PartialEq, Eq)]

@@ -7,7 +7,7 @@ use crate::vectors::{
     ATOMICS, BRANCHES, CONDITIONALS, IMMEDIATES, JUMPS, LOADS, OTHERS, REGISTERS, RESERVING_LOADS,
     STORES,
 };
-use crate::{Stepped, step};
+use crate::{Run, RunEnd, Stepped, run_hart, step};
 use guest_pages::Space;
 use rrv_model::fields::Register;
 use rrv_model::instr::Instr;
@@ -271,6 +271,29 @@ fn reserves_and_stores(rt: HostRuntime) -> Result<(), Fail> {
     assert_eq!(rt; regs.registers[12], 0);
     assert_eq!(rt; space.load_word(DATA), Some(7));
     assert_eq!(rt; reservation, None);
+    Ok(())
+}
+
+#[test]
+fn runs_to_a_call_and_a_fault(rt: HostRuntime) -> Result<(), Fail> {
+    // addi a0, a0, 1, twice, then ecall, and then no instruction
+    let mut space = space_with(rt.alloc(), 0x0015_0513)?;
+    space.store_word(CODE + 4, 0x0015_0513)?;
+    space.store_word(CODE + 8, 0x0000_0073)?;
+    let mut regs = regs_with(CODE, [5, 0, 0, 0]);
+    let run = run_hart(&mut regs, &mut space, &mut None, 1);
+    let end = RunEnd::Limit;
+    assert_eq!(rt; run, Run { count: 1, end });
+    assert_eq!(rt; regs.registers[10], 6);
+    let run = run_hart(&mut regs, &mut space, &mut None, 9);
+    let end = RunEnd::Call;
+    assert_eq!(rt; run, Run { count: 2, end });
+    assert_eq!(rt; regs.registers[10], 7);
+    assert_eq!(rt; regs.pc, CODE + 12);
+    let run = run_hart(&mut regs, &mut space, &mut None, 9);
+    let end = RunEnd::Fault(FaultKind::BadInstruction);
+    assert_eq!(rt; run, Run { count: 1, end });
+    assert_eq!(rt; regs.pc, CODE + 12);
     Ok(())
 }
 

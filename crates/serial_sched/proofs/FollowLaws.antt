@@ -10,8 +10,8 @@ use Rattle.rrv_model.specs.State.{State, thread_at}
 use Rattle.rrv_model.specs.Calls.{Answer, Calls}
 use Rattle.rrv_model.specs.FrameStep.{Steps, FrameStep, FrameStepBy, EndsInCall, EndsInFault, closed}
 use Rattle.rrv_model.specs.Output.{Chunk, put_out_by}
-use Rattle.guest_calls.specs.declared.run.RunEnd.{RunEnd}
-use Rattle.guest_calls.specs.declared.run.RunEnd.TheVariants as ends
+use Rattle.rv_machine.specs.declared.run.RunEnd.{RunEnd}
+use Rattle.rv_machine.specs.declared.run.RunEnd.TheVariants as ends
 use Rattle.guest_calls.specs.Asking.{Question, CallIsAnswered}
 use Rattle.guest_calls.specs.Growth.{CallMayGrow}
 use Rattle.guest_calls.specs.Runs.{RunsTo, RunsToCall}

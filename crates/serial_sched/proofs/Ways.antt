@@ -10,8 +10,8 @@ use Rattle.rrv_model.specs.Step.{Hart, HartStep, Outcome, Next, Called, Faulted,
 use Rattle.rrv_model.specs.FrameStep.{Steps}
 use Rattle.rrv_model.proofs.CallLaws.{same_thread}
 use Rattle.rrv_model.proofs.FrameLaws.{one_outcome, one_step, one_end}
-use Rattle.guest_calls.specs.declared.run.RunEnd.{RunEnd}
-use Rattle.guest_calls.specs.declared.run.RunEnd.TheVariants as ends
+use Rattle.rv_machine.specs.declared.run.RunEnd.{RunEnd}
+use Rattle.rv_machine.specs.declared.run.RunEnd.TheVariants as ends
 use Rattle.guest_calls.specs.Runs.{RunsTo}
 use Rattle.serial_sched.specs.Follows.{Reaches, ReachesCall, ReachesFault}
 

@@ -8,8 +8,8 @@ use Rattle.rrv_model.specs.State.{State, thread_at}
 use Rattle.rrv_model.specs.Step.{CallsFrom, FaultsFrom, ThreadMayStore}
 use Rattle.rrv_model.specs.FrameStep.{Steps}
 use Rattle.rrv_model.specs.Output.{Chunk, put_out_by}
-use Rattle.guest_calls.specs.declared.run.RunEnd.{RunEnd}
-use Rattle.guest_calls.specs.declared.run.RunEnd.TheVariants.{Limit, Call, Fault, Memory}
+use Rattle.rv_machine.specs.declared.run.RunEnd.{RunEnd}
+use Rattle.rv_machine.specs.declared.run.RunEnd.TheVariants.{Limit, Call, Fault, Memory}
 use Rattle.guest_calls.specs.Growth.{CallMayGrow}
 
 -- the last of so many instructions is a call

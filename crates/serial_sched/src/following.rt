@@ -3,7 +3,7 @@
 ghost use Rattle.std.specs.Prelude.{◌≡◌, ◌≤◌, ◌⊎◌, None, IfOk, OnOk, IsErrOf};
 ghost use Rattle.rrv_model.specs.State.{State};
 ghost use Rattle.rrv_model.specs.FrameStep.{FrameStep, FrameStepBy, Steps, Preempts, EndsInCall, EndsInFault, IsStuck};
-ghost use Rattle.guest_calls.specs.declared.run.RunEnd.{RunEnd};
+ghost use Rattle.rv_machine.specs.declared.run.RunEnd.{RunEnd};
 ghost use Rattle.guest_calls.specs.Snapshots.{guest_snapshots};
 ghost use Rattle.guest_calls.specs.Guest.{state_of, counted, chunks_of};
 ghost use Rattle.guest_calls.specs.Runs.{RunsTo};

@@ -6,7 +6,7 @@
 //! rules in Python.
 
 use super::Nothing;
-use crate::{follow, slice};
+use crate::{Chooser, Listed, follow, slice};
 use elf_load::image::parse;
 use guest_calls::Guest;
 use rrv_model::machine::GuestEnd;
@@ -124,26 +124,50 @@ fn take_output(outcome: &mut Outcome, frame: &Frame) -> Result<(), Fail> {
     Ok(())
 }
 
-/// Records the guest to its end, under the choices of a seed.
-fn recorded(rt: &impl Abort, alloc: Global, seed: u32) -> Result<(Outcome, Vec<Frame>), Fail> {
-    let mut outcome = opened(alloc)?;
+/// A guest runs at most so many instructions, and so many slices.
+const SLICES: u32 = 1100;
+
+/// The choices of a seed, each of a thread that then runs, up to the guest's end.
+fn choices(alloc: Global, seed: u32) -> Result<Vec<Choice>, Fail> {
+    let Outcome { mut guest, .. } = opened(alloc)?;
     let mut seeded = Seeded {
         state: seed.wrapping_mul(0x9E37_79B9),
     };
+    let mut choices = Vec::new(alloc);
+    for _ in 0..SLICES {
+        if guest.ended().is_some() {
+            break;
+        }
+        let runnable = guest.running(alloc)?;
+        let choice = seeded.choice(&runnable).ok_or("no thread runs")?;
+        slice(&mut guest, alloc, choice, &mut Nothing)?;
+        choices.push(choice)?;
+    }
+    Ok(choices)
+}
+
+/// Records the guest to its end, by the list of a seed.
+fn recorded(rt: &impl Abort, alloc: Global, seed: u32) -> Result<(Outcome, Vec<Frame>), Fail> {
+    let mut outcome = opened(alloc)?;
+    let list = choices(alloc, seed)?;
+    let choice_count = list.len();
+    let mut chooser = Listed::new(list);
     let mut frames = Vec::new(alloc);
-    // 1,100 instructions at most, and so many slices
-    for _ in 0..1100 {
+    for _ in 0..SLICES {
         if outcome.guest.ended().is_some() {
             break;
         }
         let runnable = outcome.guest.running(alloc)?;
-        let choice = seeded.choice(&runnable).ok_or("no thread runs")?;
+        assert!(rt; !runnable.is_empty());
+        let choice = chooser.next(&runnable).ok_or("the list stops")?;
         let frame = slice(&mut outcome.guest, alloc, choice, &mut Nothing)?;
         assert_eq!(rt; frame.tid, choice.tid);
         take_output(&mut outcome, &frame)?;
         frames.push(frame)?;
     }
     assert_eq!(rt; outcome.guest.ended(), Some(GuestEnd::Exited(4)));
+    assert_eq!(rt; frames.len(), choice_count);
+    assert!(rt; !chooser.done());
     Ok((outcome, frames))
 }
 

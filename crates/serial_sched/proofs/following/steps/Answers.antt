@@ -1,5 +1,5 @@
 use Rattle.std.proofs.lemmas.Result.{err_from_is_err_and}
-use Rattle.guest_calls.specs.declared.run.RunEnd.TheVariants as ends
+use Rattle.rv_machine.specs.declared.run.RunEnd.TheVariants as ends
 use Rattle.guest_calls.specs.Guest.{state_of}
 use Rattle.serial_sched.specs.declared.fault.FollowFault.TheVariants as faults
 use Rattle.serial_sched.proofs.FollowLaws.{other_than_steps, again}

@@ -1,0 +1,27 @@
+use Rattle.std.proofs.Common.{ℕ, List, None, ◌∙◌, ap}
+use Rattle.rrv_model.specs.declared.record.ThreadPart.{ThreadPart}
+use Rattle.rrv_model.specs.State.{State}
+use Rattle.guest_pages.specs.Space.{memory_of}
+use Rattle.guest_threads.specs.Threads.{thread_map}
+use Rattle.guest_threads.specs.ThreadParts.{with_parts}
+use Rattle.guest_calls.specs.Guest.{GuestValue, state_of}
+use Rattle.guest_calls.specs.Parts.{with_rest}
+use Rattle.guest_calls.proofs.guest.Guest.set_rest.Goals as goal
+
+pub returns-in-Ok-clause-state : goal.returns-in-Ok-clause-state
+returns-in-Ok-clause-state c =
+    let rest = c.args.rest.now in
+    let s : State = record {
+      memory = memory_of c.self.inside.space;
+      threads = thread_map c.in-Ok.threads.threads;
+      waiting = c.in-Ok.threads.waiting;
+      next_tid = c.in-Ok.threads.next_tid;
+      opening_break = c.self.inside.opening_break;
+      program_break = rest.program_break;
+      reservation = None;
+      ended = None;
+    } in
+    c.in-Ok.ensures.made s
+    ∙ ap (λ (parts : List ThreadPart). with_parts parts c.as_slice-waiting.result.now rest.next_tid s) c.as_slice-threads.ensures
+    ∙ ap (λ (order : List ℕ). with_parts rest.threads order rest.next_tid s) c.as_slice-waiting.ensures
+    ∙ ap (λ (g : GuestValue). with_rest rest (state_of g)) c.self.view_is

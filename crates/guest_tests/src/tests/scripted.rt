@@ -1,0 +1,45 @@
+//! An outside that counts what it is asked.
+
+use guest_calls::Outside;
+
+/// An outside with some input and one moment, all of whose random bytes are 0x5A.
+#[derive(Drop)]
+pub(crate) struct Scripted<'a> {
+    /// The input that is left.
+    pub(crate) input: &'a [u8],
+    /// How often it was asked.
+    pub(crate) asked: u32,
+}
+
+impl<'a> Scripted<'a> {
+    pub(crate) fn of(input: &'a [u8]) -> Self {
+        Scripted { input, asked: 0 }
+    }
+}
+
+impl Outside for Scripted<'_> {
+    ghost gives = { λ _ _ _ _. Unit {0} };
+
+    fn read(&mut self, into: &mut [u8]) -> usize {
+        self.asked = self.asked.wrapping_add(1);
+        let len = self.input.len().min(into.len());
+        let (part, rest) = self.input.split_at(len);
+        into[..len].copy_from_slice(part);
+        self.input = rest;
+        len
+    }
+
+    fn random(&mut self, into: &mut [u8]) {
+        self.asked = self.asked.wrapping_add(1);
+        into.fill(0x5A);
+    }
+
+    fn now(&mut self, clock: u32) -> (u64, u32) {
+        self.asked = self.asked.wrapping_add(1);
+        if clock == 0 {
+            (0x0807_0605_0403_0201, 0x0D0C_0B0A)
+        } else {
+            (1, 999_999_999)
+        }
+    }
+}

@@ -1,0 +1,190 @@
+//! Threads from the parts of a checkpoint.
+
+ghost use Rattle.std.specs.Prelude.{◌≡◌, ◌↔◌, ◌==◌, ◌<◌, ◌^◌, All, IfSome, IsTrue, IfOk, IfErr, OnOk, find};
+ghost use Rattle.std.specs.List.{AllByRecursion};
+ghost use Rattle.rrv_model.specs.State.{State, IsThread, AreRegs};
+ghost use Rattle.guest_threads.specs.Threads.{thread_map, with_threads};
+ghost use Rattle.guest_threads.specs.ThreadParts.{entries_of, with_parts, tids_rise, waits_in, order_fits, Fits, MakeThreads, IsPartsRefusal};
+
+use crate::by_tid::add_thread;
+use crate::fault::PartsFault;
+use crate::threads::Threads;
+use rrv_model::limits::{MAX_THREADS, MAX_TID};
+use rrv_model::machine::{Regs, Thread};
+use rrv_model::record::ThreadPart;
+use rrv_model::refusal::Memory;
+use std::alloc::Global;
+use std::collections::BTreeMap;
+
+#[cfg(test)]
+mod tests;
+
+impl Threads {
+    /// The threads that a checkpoint tells: by tid, with the waiting order and the next tid. Refused with NoState exactly
+    /// where the tids don't rise or no state has these threads, else with Memory where a growth is refused.
+    pub fn from_parts(
+        alloc: Global,
+        threads: &[ThreadPart],
+        waiting: &[u32],
+        next_tid: u32,
+    ) -> Result<Threads, PartsFault>
+        ensures made { IfOk result (λ made. (s : State)
+            → with_threads made s ≡ with_parts threads.now waiting.now next_tid s) }
+        ensures rules { OnOk result (MakeThreads threads.now waiting.now next_tid) }
+        ensures refused { IfErr result (λ fault. IsPartsRefusal fault threads.now waiting.now next_tid) }
+    {
+        if !make_threads(threads, waiting, next_tid) {
+            return Err(PartsFault::NoState);
+        }
+        let Ok(by_tid) = collect_threads(alloc, threads) else {
+            return Err(PartsFault::Memory);
+        };
+        let Ok(order) = waiting.to_vec(alloc) else {
+            return Err(PartsFault::Memory);
+        };
+        Ok(Threads {
+            threads: by_tid,
+            waiting: order,
+            next_tid,
+        })
+    }
+}
+
+/// Tests whether a state may have these threads, told by rising tid.
+fn make_threads(threads: &[ThreadPart], waiting: &[u32], next_tid: u32) -> bool
+    ensures { IsTrue result ↔ MakeThreads threads.now waiting.now next_tid }
+{
+    if threads.len() > MAX_THREADS as usize {
+        return false;
+    }
+    if next_tid < 1 {
+        return false;
+    }
+    if next_tid > MAX_TID + 1 {
+        return false;
+    }
+    if !tids_rise(threads) {
+        return false;
+    }
+    if !threads_fit(threads, waiting, next_tid) {
+        return false;
+    }
+    order_fits(threads, waiting)
+}
+
+/// Tests whether the tids rise.
+fn tids_rise(threads: &[ThreadPart]) -> bool
+    ensures { result ≡ tids_rise threads.now }
+{
+    let mut left = threads;
+    while let [first, after @ ..] = left {
+        if let [second, ..] = after
+            && second.tid <= first.tid
+        {
+            return false;
+        }
+        left = after;
+    }
+    true
+}
+
+/// Tests whether each thread fits.
+fn threads_fit(threads: &[ThreadPart], waiting: &[u32], next_tid: u32) -> bool
+    ensures { IsTrue result ↔ AllByRecursion (Fits waiting.now next_tid) threads.now }
+{
+    let mut left = threads;
+    while let [first, after @ ..] = left {
+        if !part_fits(first, waiting, next_tid) {
+            return false;
+        }
+        left = after;
+    }
+    true
+}
+
+/// Tests whether the tid is at least 1 and below the next one, the thread is one of a guest, and the waiting order names it
+/// where it waits.
+fn part_fits(part: &ThreadPart, waiting: &[u32], next_tid: u32) -> bool
+    ensures { IsTrue result ↔ Fits waiting.now next_tid part.now }
+{
+    if part.tid < 1 || part.tid >= next_tid {
+        return false;
+    }
+    if part.thread.waits_at.is_some() && !waiting.contains(&part.tid) {
+        return false;
+    }
+    is_thread(&part.thread)
+}
+
+/// Tests whether it is a thread of a guest: x0 is 0.
+fn is_thread(thread: &Thread) -> bool
+    ensures { IsTrue result ↔ IsThread thread.now }
+{
+    is_place(thread.waits_at);
+    let _clear = thread.clear;
+    are_regs(&thread.regs)
+}
+
+/// Tests whether these are registers of a guest: x0 is 0.
+fn are_regs(regs: &Regs) -> bool
+    ensures { IsTrue result ↔ AreRegs regs.now }
+{
+    are_words(&regs.registers);
+    let _pc = regs.pc;
+    regs.registers[0] == 0
+}
+
+/// A law: an address is below 2^32.
+fn is_place(place: Option<u32>)
+    ensures { IfSome place (λ a. a < 2 ^ 32) }
+{
+    if let Some(_address) = place {}
+}
+
+/// A law: words are below 2^32.
+fn are_words(words: &[u32])
+    ensures { All (λ value. value < 2 ^ 32) words.now }
+{}
+
+/// Tests whether the waiting order names waiting threads, each once.
+fn order_fits(threads: &[ThreadPart], waiting: &[u32]) -> bool
+    ensures { result ≡ order_fits threads.now waiting.now }
+{
+    let mut left = waiting;
+    while let [first, after @ ..] = left {
+        if !waits_among(threads, *first) || after.contains(first) {
+            return false;
+        }
+        left = after;
+    }
+    true
+}
+
+/// Tests whether the first part of that tid is a thread that waits.
+fn waits_among(threads: &[ThreadPart], tid: u32) -> bool
+    ensures { result ≡ waits_in (find (λ p. p.tid == tid) threads.now) }
+{
+    match first_part(threads, tid) {
+        Some(part) => part.thread.waits_at.is_some(),
+        None => false,
+    }
+}
+
+/// The first part of a tid.
+fn first_part(threads: &[ThreadPart], tid: u32) -> Option<ThreadPart>
+    ensures { result ≡ find (λ p. p.tid == tid) threads.now }
+{
+    threads.iter().copied().find(|part| part.tid == tid)
+}
+
+/// The threads by tid.
+fn collect_threads(alloc: Global, threads: &[ThreadPart]) -> Result<BTreeMap<u32, Thread>, Memory>
+    ensures { IfOk result (λ by_tid. thread_map by_tid.entries ≡ thread_map (entries_of threads.now)) }
+{
+    let [first, rest @ ..] = threads else {
+        return Ok(BTreeMap::new(alloc));
+    };
+    let mut by_tid = collect_threads(alloc, rest)?;
+    add_thread(&mut by_tid, first.tid, first.thread)?;
+    Ok(by_tid)
+}

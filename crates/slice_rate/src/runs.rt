@@ -1,0 +1,67 @@
+//! Runs of a guest of one thread.
+
+ghost use Rattle.std.specs.Prelude.{IfSome, OnOk};
+ghost use Rattle.rrv_model.specs.StateAt.{StateAtFrom, total};
+ghost use Rattle.guest_calls.specs.Guest.{state_of};
+
+use guest_calls::{Guest, Outside};
+use rrv_model::record::{Choice, Frame};
+use serial_sched::{FollowFault, follow, slice};
+use std::alloc::Global;
+
+/// Each slice is one of the first thread, and so long.
+const CHOICE: Choice = Choice {
+    tid: 1,
+    quantum: 50_000,
+};
+
+/// At most so many slices are recorded.
+const SLICES: u32 = 1_000_000;
+
+/// An outside that has nothing.
+#[derive(Drop)]
+struct Nothing;
+
+impl Outside for Nothing {
+    ghost gives = { λ _ _ _ _. Unit {0} };
+
+    fn read(&mut self, _into: &mut [u8]) -> usize {
+        0
+    }
+
+    fn random(&mut self, _into: &mut [u8]) {}
+
+    fn now(&mut self, _clock: u32) -> (u64, u32) {
+        (0, 0)
+    }
+}
+
+/// Records slices of a guest up to its end, and answers their frames; None where a slice is refused or there is no memory.
+pub fn record(alloc: Global, guest: &mut Guest) -> Option<Vec<Frame>>
+    ensures { IfSome result (λ frames.
+        StateAtFrom (state_of guest.old) frames.items (total frames.items) (state_of guest.new)) }
+{
+    let mut frames = Vec::new(alloc);
+    for _ in 0..SLICES {
+        if guest.ended().is_some() {
+            break;
+        }
+        let Ok(frame) = slice(guest, alloc, CHOICE, &mut Nothing) else {
+            return None;
+        };
+        let Ok(()) = frames.push(frame) else {
+            return None;
+        };
+    }
+    Some(frames)
+}
+
+/// Follows frames, one after the other.
+pub fn follow_all(alloc: Global, guest: &mut Guest, frames: &[Frame]) -> Result<(), FollowFault>
+    ensures { OnOk result (StateAtFrom (state_of guest.old) frames.now (total frames.now) (state_of guest.new)) }
+{
+    for frame in frames {
+        follow(guest, alloc, frame)?;
+    }
+    Ok(())
+}
