@@ -45,7 +45,8 @@ pub record BeginsWait (tid : ℕ) (s : State) (t : Thread) : Type 0 where
   pub waits : argument t 1 - argument t 1 / 128 % 2 * 128 ≡ 0
   pub succeeds : Succeeds (futex_row tid s t)
 
--- the call puts bytes out, clears a word, waits, makes a thread, maps pages or asks the outside; the others take no memory
+-- the call puts bytes out, reads a list of buffers, clears a word, waits, makes a thread, maps pages or asks the outside; the
+-- others take no memory
 abbrev pub MayGrow : Call → ℕ → State → Thread → Type 0
 MayGrow Read tid s t = Asks (read_row s t)
 MayGrow Write tid s t = PutsBytes s t

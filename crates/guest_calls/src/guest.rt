@@ -179,6 +179,7 @@ impl Guest {
     pub fn close_slice(&mut self, end: Option<GuestEnd>)
         ensures state { state_of self.new ≡ closed_by end (state_of self.old) }
         ensures ran { self.new.ran ≡ self.old.ran }
+        ensures ran_before_call { self.new.ran_before_call ≡ self.old.ran_before_call }
         ensures snapshots { snapshots_of self.new.space ≡ snapshots_of self.old.space }
         ensures put { self.new.put ≡ self.old.put }
     {

@@ -29,6 +29,7 @@ impl Guest {
             guest_snapshots self.new n ≡ guest_snapshots self.old n) }
         ensures state { state_of self.new ≡ state_of self.old }
         ensures ran { self.new.ran ≡ self.old.ran }
+        ensures ran_before_call { self.new.ran_before_call ≡ self.old.ran_before_call }
         ensures put { self.new.put ≡ self.old.put }
         ensures err { OnErr result (self.new ≡ self.old) }
     {
@@ -43,6 +44,7 @@ impl Guest {
         ensures others { (n : ℕ) → n ≢ snapshot → guest_snapshots self.new n ≡ guest_snapshots self.old n }
         ensures state { state_of self.new ≡ state_of self.old }
         ensures ran { self.new.ran ≡ self.old.ran }
+        ensures ran_before_call { self.new.ran_before_call ≡ self.old.ran_before_call }
         ensures put { self.new.put ≡ self.old.put }
     {
         self.space.drop_snapshot(snapshot);
@@ -59,6 +61,7 @@ impl Guest {
         ensures some { OnErr result (IsSome page.entry) }
         ensures err { OnErr result (self.new ≡ self.old) }
         ensures ran { self.new.ran ≡ self.old.ran }
+        ensures ran_before_call { self.new.ran_before_call ≡ self.old.ran_before_call }
         ensures put { self.new.put ≡ self.old.put }
         ensures snapshots { guest_snapshots self.new ≡ guest_snapshots self.old }
     {
@@ -81,6 +84,7 @@ impl Guest {
         ensures refused { IfErr result (λ fault. IsSetRestRefusal fault rest.now (state_of self.old)) }
         ensures err { OnErr result (self.new ≡ self.old) }
         ensures ran { self.new.ran ≡ self.old.ran }
+        ensures ran_before_call { self.new.ran_before_call ≡ self.old.ran_before_call }
         ensures put { self.new.put ≡ self.old.put }
         ensures snapshots { guest_snapshots self.new ≡ guest_snapshots self.old }
     {

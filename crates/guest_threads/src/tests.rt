@@ -3,7 +3,7 @@
 ghost use Rattle.std.specs.Prelude.{◌≡◌, None};
 ghost use Rattle.rrv_model.specs.State.{IsThread};
 
-use crate::fault::ThreadFault;
+use crate::fault::{PartsFault, ThreadFault};
 use crate::threads::Threads;
 use rrv_model::machine::{Regs, Thread};
 use std::alloc::Global;
@@ -143,6 +143,13 @@ fn says_why_it_refuses(rt: HostRuntime) -> Result<(), Fail> {
         (ThreadFault::TooMany, "too many threads"),
         (ThreadFault::NotThere, "no such thread"),
         (ThreadFault::Memory, "out of memory"),
+    ] {
+        let told = format!(in alloc; "{}", fault)?;
+        assert_eq!(rt; told.as_str(), text);
+    }
+    for (fault, text) in [
+        (PartsFault::NoState, "no state has these threads"),
+        (PartsFault::Memory, "out of memory"),
     ] {
         let told = format!(in alloc; "{}", fault)?;
         assert_eq!(rt; told.as_str(), text);

@@ -1,4 +1,4 @@
--- Threads that take turns.
+-- Threads that take turns, and an outside that is silent.
 use Rattle.std.specs.Prelude.{◌≢◌, ℕ, ◌≤◌, List, [], ◌∷◌}
 use Rattle.rrv_model.specs.declared.record.End.TheVariants as ends
 use Rattle.rrv_model.specs.declared.record.Frame.{Frame}
@@ -9,12 +9,14 @@ use Rattle.rrv_model.specs.FrameStep.{FrameStep}
 use Rattle.rrv_model.specs.Opening.{Opens}
 use Rattle.serial_sched.specs.Slices.{FitsChoice}
 use Rattle.serial_sched.specs.Turns.{turn}
+use Rattle.rrv.specs.Silent.{IsSilentFrame}
 
 -- The frame is the slice, by this quantum, of the thread whose turn it is: of those that run the first above the one that
--- ran last, else the first. Where no thread runs it is the guest's end.
+-- ran last, else the first. Where no thread runs it is the guest's end. Its call is answered by a silent outside.
 pub record IsTurn (quantum last : ℕ) (s : State) (f : Frame) : Type 0 where
   pub fits : FitsChoice f.end s f (record { tid = f.tid; quantum = quantum })
   pub first : f.end ≢ ends.Stuck → (tid : ℕ) → IsRunning (thread_at s tid) → turn last f.tid ≤ turn last tid
+  pub silent : IsSilentFrame s f
 
 -- the items are frames of threads that take turns, from this state on and after the thread that ran last
 abbrev pub TakesTurnsFrom : ℕ → ℕ → State → List Item → Type 0

@@ -133,6 +133,34 @@ fn a_trial_has_zeros_for_random_bytes(rt: HostRuntime) -> Result<(), Fail> {
 }
 
 #[test]
+fn a_trial_has_a_silent_outside(rt: HostRuntime) -> Result<(), Fail> {
+    // It fills 24 bytes with ones. Then it reads up to ten bytes of input to them, takes three random bytes, and the time
+    // to the last 16; writes the 24 bytes, and exits with 0.
+    let words = [
+        0x7FF00437, 0xFFF00293, 0x00542023, 0x00542223, 0x00542423, 0x00542623, 0x00542823,
+        0x00542A23, 0x00000513, 0x00040593, 0x00A00613, 0x03F00893, 0x00000073, 0x00040513,
+        0x00300593, 0x00000613, 0x11600893, 0x00000073, 0x00000513, 0x00840593, 0x19300893,
+        0x00000073, 0x00100513, 0x00040593, 0x01800613, 0x04000893, 0x00000073, 0x00000513,
+        0x05D00893, 0x00000073,
+    ];
+    let elf = guest_of(rt.alloc(), &words)?;
+    assert!(rt; fs::write(&rt, "silence", elf.as_slice()).is_ok());
+    let mut out = Vec::new(rt.alloc());
+    let mut err = Vec::new(rt.alloc());
+    let status = run(&rt, &["try", "silence"], &mut out, &mut err);
+    assert!(rt; fs::remove_file(&rt, "silence").is_ok());
+    assert_eq!(rt; status, 0);
+    let want: &[u8] = b"\0\0\0\xFF\xFF\xFF\xFF\xFF\0\0\0\0\0\0\0\0\0\0\0\0\0\0\0\x00\
+        0 opening name=g0 elf=204\n1 call tid=1 count=13 result=00000000 written=0\n\
+        2 call tid=1 count=5 result=00000003 written=3\n3 call tid=1 count=4 result=00000000 written=16\n\
+        4 call tid=1 count=5 result=00000018 written=0\n5 call tid=1 count=3 result=00000000 written=0\n\
+        ok records=6 instructions=30 end exited 0\n";
+    assert_eq!(rt; out.as_slice(), want);
+    assert!(rt; err.is_empty());
+    Ok(())
+}
+
+#[test]
 fn bad_files_are_refused_by_name(rt: HostRuntime) {
     let text: &[u8] =
         b"This is a text and no program, though it has more than the 52 bytes of a header.\n";

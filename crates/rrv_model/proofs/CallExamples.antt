@@ -1,4 +1,4 @@
--- Worked rows of calls, computed.
+-- Worked examples of calls, computed.
 use Rattle.std.proofs.Common.{◌≡◌, ℕ, [], ◌∷◌, ◌++◌, refl, None, replicate}
 use Rattle.rrv_model.specs.declared.machine.Thread.{Thread}
 use Rattle.rrv_model.specs.State.{State}

@@ -1,4 +1,4 @@
--- Worked rows, computed.
+-- Worked examples, computed.
 use Rattle.std.proofs.Common.{◌≡◌, ℕ, true, false, List, [], ◌∷◌, refl}
 use Rattle.rrv_model.specs.declared.instr.ImmediateOp.TheVariants.{Addi}
 use Rattle.rrv_model.specs.declared.instr.RegisterOp.TheVariants as ops

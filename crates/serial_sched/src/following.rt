@@ -21,7 +21,7 @@ use std::alloc::Global;
 
 /// Follows a frame: runs its instructions, and gives a call the answers that the frame tells.
 /// After a refusal the guest is fit only to be dropped.
-pub fn follow(guest: &mut Guest, alloc: Global, frame: &Frame) -> Result<(), FollowFault>
+pub fn follow(alloc: Global, guest: &mut Guest, frame: &Frame) -> Result<(), FollowFault>
     ensures follows { OnOk result (FrameStep (state_of guest.old) frame.now (state_of guest.new)) }
     ensures puts { OnOk result (CallPuts frame.now.end (state_of guest.old) frame.now (chunks_of guest.new.put)) }
     ensures keeps { OnOk result (KeepsPut frame.now.end guest.old.put guest.new.put) }
@@ -39,7 +39,7 @@ pub fn follow(guest: &mut Guest, alloc: Global, frame: &Frame) -> Result<(), Fol
     }
     match &frame.end {
         End::Preempt => follow_preempt(guest, frame.tid, frame.count),
-        End::Call(told) => follow_call(guest, alloc, frame.tid, frame.count, told),
+        End::Call(told) => follow_call(alloc, guest, frame.tid, frame.count, told),
         End::Fault(kind) => follow_fault(guest, frame.tid, frame.count, *kind),
         End::Stuck => follow_stuck(guest, frame.tid, frame.count),
     }
@@ -77,8 +77,8 @@ fn follow_preempt(guest: &mut Guest, tid: u32, count: u32) -> Result<(), FollowF
 }
 
 fn follow_call(
-    guest: &mut Guest,
     alloc: Global,
+    guest: &mut Guest,
     tid: u32,
     count: u32,
     told: &CallRecord,

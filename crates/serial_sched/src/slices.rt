@@ -22,8 +22,8 @@ use std::alloc::Global;
 /// Where no thread runs, whatever the choice, the guest is stuck, which ends it. The outside is asked by calls alone, and
 /// its answer is what the frame tells.
 pub fn slice<O: Outside>(
-    guest: &mut Guest,
     alloc: Global,
+    guest: &mut Guest,
     choice: Choice,
     outside: &mut O,
 ) -> Result<Frame, SliceFault>
@@ -63,7 +63,7 @@ pub fn slice<O: Outside>(
     if !guest.is_running(choice.tid) {
         return Err(SliceFault::NotRunnable);
     }
-    Ok(run_slice(guest, alloc, choice, outside)?)
+    Ok(run_slice(alloc, guest, choice, outside)?)
 }
 
 /// Ends a guest of which no thread runs.
@@ -87,8 +87,8 @@ fn get_stuck(guest: &mut Guest) -> Frame
 
 /// The slice of a thread that runs.
 fn run_slice<O: Outside>(
-    guest: &mut Guest,
     alloc: Global,
+    guest: &mut Guest,
     choice: Choice,
     outside: &mut O,
 ) -> Result<Frame, Memory>

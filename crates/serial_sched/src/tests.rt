@@ -133,17 +133,20 @@ fn call_of(frame: &Frame) -> Option<&CallRecord> {
 #[test]
 fn the_third_instruction_exits(rt: HostRuntime) -> Result<(), Fail> {
     let mut guest = opened(rt.alloc())?;
-    let frame = slice(&mut guest, rt.alloc(), CHOICE, &mut Nothing)?;
+    let thread = guest.thread(1).ok_or("no thread 1")?;
+    assert_eq!(rt; thread.regs.registers[2], 0x7FFF_FFA0);
+    assert_eq!(rt; guest.program_break(), 0x1_1000);
+    let frame = slice(rt.alloc(), &mut guest, CHOICE, &mut Nothing)?;
     assert_eq!(rt; (frame.tid, frame.count), (1, 3));
     let told = call_of(&frame).ok_or("no call")?;
     assert_eq!(rt; told.result, 0);
     assert!(rt; told.written.as_slice().is_empty());
     assert_eq!(rt; guest.ended(), Some(GuestEnd::Exited(5)));
     assert_eq!(rt; guest.ran(), 3);
-    let again = slice(&mut guest, rt.alloc(), CHOICE, &mut Nothing).err();
+    let again = slice(rt.alloc(), &mut guest, CHOICE, &mut Nothing).err();
     assert_eq!(rt; again, Some(SliceFault::Ended));
     let mut replayed = opened(rt.alloc())?;
-    follow(&mut replayed, rt.alloc(), &frame)?;
+    follow(rt.alloc(), &mut replayed, &frame)?;
     assert_eq!(rt; replayed.ended(), Some(GuestEnd::Exited(5)));
     Ok(())
 }
@@ -160,11 +163,11 @@ fn choices_that_do_not_fit_are_refused(rt: HostRuntime) -> Result<(), Fail> {
         quantum: 64,
     };
     assert_eq!(rt;
-        slice(&mut guest, rt.alloc(), short, &mut Nothing).err(),
+        slice(rt.alloc(), &mut guest, short, &mut Nothing).err(),
         Some(SliceFault::BadQuantum)
     );
     assert_eq!(rt;
-        slice(&mut guest, rt.alloc(), absent, &mut Nothing).err(),
+        slice(rt.alloc(), &mut guest, absent, &mut Nothing).err(),
         Some(SliceFault::NotRunnable)
     );
     Ok(())
@@ -182,17 +185,17 @@ fn two_steps_and_no_third(rt: HostRuntime) -> Result<(), Fail> {
 #[test]
 fn a_slice_ends_with_its_reservation(rt: HostRuntime) -> Result<(), Fail> {
     let mut guest = reserving(rt.alloc())?;
-    let first = slice(&mut guest, rt.alloc(), CHOICE, &mut Nothing)?;
+    let first = slice(rt.alloc(), &mut guest, CHOICE, &mut Nothing)?;
     assert_eq!(rt; first.count, 64);
     assert!(rt; matches!(first.end, End::Preempt));
     assert_eq!(rt; guest.reservation(), None);
-    let second = slice(&mut guest, rt.alloc(), CHOICE, &mut Nothing)?;
+    let second = slice(rt.alloc(), &mut guest, CHOICE, &mut Nothing)?;
     assert_eq!(rt; second.count, 3);
     assert_eq!(rt; call_of(&second).ok_or("no call")?.result, 0);
     assert_eq!(rt; stored(&guest)?, (1, Some(0x464C_457F)));
     let mut replayed = reserving(rt.alloc())?;
-    follow(&mut replayed, rt.alloc(), &first)?;
-    follow(&mut replayed, rt.alloc(), &second)?;
+    follow(rt.alloc(), &mut replayed, &first)?;
+    follow(rt.alloc(), &mut replayed, &second)?;
     assert!(rt; replayed.same(&guest));
     Ok(())
 }
@@ -204,7 +207,7 @@ fn a_longer_slice_keeps_its_reservation(rt: HostRuntime) -> Result<(), Fail> {
         tid: 1,
         quantum: 128,
     };
-    let frame = slice(&mut guest, rt.alloc(), choice, &mut Nothing)?;
+    let frame = slice(rt.alloc(), &mut guest, choice, &mut Nothing)?;
     assert_eq!(rt; frame.count, 67);
     assert_eq!(rt; stored(&guest)?, (0, Some(0)));
     assert_eq!(rt; guest.page_count(), 258);
@@ -214,19 +217,41 @@ fn a_longer_slice_keeps_its_reservation(rt: HostRuntime) -> Result<(), Fail> {
 #[test]
 fn a_guest_whose_only_thread_waits_is_stuck(rt: HostRuntime) -> Result<(), Fail> {
     let mut guest = waiting(rt.alloc())?;
-    let first = slice(&mut guest, rt.alloc(), CHOICE, &mut Nothing)?;
+    let first = slice(rt.alloc(), &mut guest, CHOICE, &mut Nothing)?;
     assert_eq!(rt; (first.tid, first.count), (1, 4));
     assert_eq!(rt; call_of(&first).ok_or("no call")?.result, 0);
     assert!(rt; guest.ended().is_none());
-    let second = slice(&mut guest, rt.alloc(), CHOICE, &mut Nothing)?;
+    let second = slice(rt.alloc(), &mut guest, CHOICE, &mut Nothing)?;
     assert_eq!(rt; (second.tid, second.count), (0, 0));
     assert!(rt; matches!(second.end, End::Stuck));
     assert_eq!(rt; guest.ended(), Some(GuestEnd::Stuck));
-    let third = slice(&mut guest, rt.alloc(), CHOICE, &mut Nothing).err();
+    let third = slice(rt.alloc(), &mut guest, CHOICE, &mut Nothing).err();
     assert_eq!(rt; third, Some(SliceFault::Ended));
     let mut replayed = waiting(rt.alloc())?;
-    follow(&mut replayed, rt.alloc(), &first)?;
-    follow(&mut replayed, rt.alloc(), &second)?;
+    follow(rt.alloc(), &mut replayed, &first)?;
+    follow(rt.alloc(), &mut replayed, &second)?;
     assert!(rt; replayed.same(&guest));
+    Ok(())
+}
+
+#[test]
+fn says_why_it_refuses(rt: HostRuntime) -> Result<(), Fail> {
+    let alloc = rt.alloc();
+    for (fault, text) in [
+        (SliceFault::NotRunnable, "the thread is not runnable"),
+        (SliceFault::BadQuantum, "the quantum is outside the limits"),
+        (SliceFault::Ended, "the guest has ended"),
+        (SliceFault::Memory, "out of memory"),
+    ] {
+        let told = format!(in alloc; "{}", fault)?;
+        assert_eq!(rt; told.as_str(), text);
+    }
+    for (fault, text) in [
+        (FollowFault::GoesNowhere, "the frame leads nowhere"),
+        (FollowFault::Memory, "out of memory"),
+    ] {
+        let told = format!(in alloc; "{}", fault)?;
+        assert_eq!(rt; told.as_str(), text);
+    }
     Ok(())
 }

@@ -1,6 +1,6 @@
 //! Runs of a guest of one thread.
 
-ghost use Rattle.std.specs.Prelude.{IfSome, OnOk};
+ghost use Rattle.std.specs.Prelude.{◌≡◌, ◌⊎◌, IfSome, IsSome, OnOk, length};
 ghost use Rattle.rrv_model.specs.StateAt.{StateAtFrom, total};
 ghost use Rattle.guest_calls.specs.Guest.{state_of};
 
@@ -36,17 +36,19 @@ impl Outside for Nothing {
     }
 }
 
-/// Records slices of a guest up to its end, and answers their frames; None where a slice is refused or there is no memory.
+/// Records slices of a guest up to its end, or a million, and answers their frames; None where a slice is refused or there is
+/// no memory.
 pub fn record(alloc: Global, guest: &mut Guest) -> Option<Vec<Frame>>
-    ensures { IfSome result (λ frames.
+    ensures leads { IfSome result (λ frames.
         StateAtFrom (state_of guest.old) frames.items (total frames.items) (state_of guest.new)) }
+    ensures whole { IfSome result (λ frames. IsSome (state_of guest.new).ended ⊎ (length frames.items ≡ 1000000)) }
 {
     let mut frames = Vec::new(alloc);
     for _ in 0..SLICES {
         if guest.ended().is_some() {
-            break;
+            return Some(frames);
         }
-        let Ok(frame) = slice(guest, alloc, CHOICE, &mut Nothing) else {
+        let Ok(frame) = slice(alloc, guest, CHOICE, &mut Nothing) else {
             return None;
         };
         let Ok(()) = frames.push(frame) else {
@@ -61,7 +63,7 @@ pub fn follow_all(alloc: Global, guest: &mut Guest, frames: &[Frame]) -> Result<
     ensures { OnOk result (StateAtFrom (state_of guest.old) frames.now (total frames.now) (state_of guest.new)) }
 {
     for frame in frames {
-        follow(guest, alloc, frame)?;
+        follow(alloc, guest, frame)?;
     }
     Ok(())
 }

@@ -63,12 +63,12 @@ fn answers_are_told_and_given_again(rt: HostRuntime) -> Result<(), Fail> {
     let mut guest = asking(rt.alloc())?;
     let mut replayed = asking(rt.alloc())?;
     for (value, word) in [(4, 0x0707_0707), (3, 0x075A_5A5A), (0, 0x0403_0201)] {
-        let frame = slice(&mut guest, rt.alloc(), CHOICE, &mut FourBytes)?;
+        let frame = slice(rt.alloc(), &mut guest, CHOICE, &mut FourBytes)?;
         let told = super::call_of(&frame).ok_or("no call")?;
         assert_eq!(rt; frame.count, 5);
         assert_eq!(rt; told.result, value);
         assert_eq!(rt; guest.space().load_word(STACK), Some(word));
-        follow(&mut replayed, rt.alloc(), &frame)?;
+        follow(rt.alloc(), &mut replayed, &frame)?;
         assert!(rt; replayed.same(&guest));
     }
     Ok(())
@@ -102,7 +102,7 @@ fn a_read_goes_on_with_any_answer_that_fits(rt: HostRuntime) -> Result<(), Fail>
     ] {
         let mut guest = asking(rt.alloc())?;
         let frame = read_frame(rt.alloc(), bytes, value)?;
-        assert_eq!(rt; follow(&mut guest, rt.alloc(), &frame), want);
+        assert_eq!(rt; follow(rt.alloc(), &mut guest, &frame), want);
     }
     Ok(())
 }

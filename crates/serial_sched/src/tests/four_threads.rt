@@ -140,7 +140,7 @@ fn choices(alloc: Global, seed: u32) -> Result<Vec<Choice>, Fail> {
         }
         let runnable = guest.running(alloc)?;
         let choice = seeded.choice(&runnable).ok_or("no thread runs")?;
-        slice(&mut guest, alloc, choice, &mut Nothing)?;
+        slice(alloc, &mut guest, choice, &mut Nothing)?;
         choices.push(choice)?;
     }
     Ok(choices)
@@ -160,7 +160,7 @@ fn recorded(rt: &impl Abort, alloc: Global, seed: u32) -> Result<(Outcome, Vec<F
         let runnable = outcome.guest.running(alloc)?;
         assert!(rt; !runnable.is_empty());
         let choice = chooser.next(&runnable).ok_or("the list stops")?;
-        let frame = slice(&mut outcome.guest, alloc, choice, &mut Nothing)?;
+        let frame = slice(alloc, &mut outcome.guest, choice, &mut Nothing)?;
         assert_eq!(rt; frame.tid, choice.tid);
         take_output(&mut outcome, &frame)?;
         frames.push(frame)?;
@@ -175,7 +175,7 @@ fn recorded(rt: &impl Abort, alloc: Global, seed: u32) -> Result<(Outcome, Vec<F
 fn followed(alloc: Global, frames: &[Frame]) -> Result<Outcome, Fail> {
     let mut outcome = opened(alloc)?;
     for frame in frames {
-        follow(&mut outcome.guest, alloc, frame)?;
+        follow(alloc, &mut outcome.guest, frame)?;
         take_output(&mut outcome, frame)?;
     }
     Ok(outcome)

@@ -120,12 +120,28 @@ fn growing(alloc: Global) -> Result<Guest, Fail> {
 }
 
 /// Follows a frame, and tells whether there was memory.
-fn is_followed(guest: &mut Guest, alloc: Global, frame: &Frame) -> Result<bool, Fail> {
-    match follow(guest, alloc, frame) {
+fn is_followed(alloc: Global, guest: &mut Guest, frame: &Frame) -> Result<bool, Fail> {
+    match follow(alloc, guest, frame) {
         Ok(()) => Ok(true),
         Err(FollowFault::Memory) => Ok(false),
         Err(FollowFault::GoesNowhere) => Err(Fail::new("a frame leads nowhere")),
     }
+}
+
+/// Where each growth finds memory.
+#[test]
+fn a_slice_ends_with_its_call(rt: HostRuntime) -> Result<(), Fail> {
+    let alloc = rt.alloc();
+    let mut guest = growing(alloc)?;
+    for (tid, before, all) in CALLS {
+        let choice = Choice { tid, quantum: 64 };
+        let frame = slice(alloc, &mut guest, choice, &mut Nothing)?;
+        assert_eq!(rt; u64::from(frame.count), u64::from(before) + 1);
+        assert!(rt; call_of(&frame).is_some(), "{all}");
+        assert_eq!(rt; guest.ran(), all);
+    }
+    assert_eq!(rt; guest.ended(), Some(GuestEnd::Exited(0)));
+    Ok(())
 }
 
 #[test]
@@ -135,18 +151,18 @@ fn a_slice_ends_before_what_finds_no_memory(rt: HostRuntime) -> Result<(), Fail>
     let mut twin = growing(alloc)?;
     for (tid, before, all) in CALLS {
         let choice = Choice { tid, quantum: 64 };
-        let mut frame = slice(&mut guest, alloc, choice, &mut Nothing)?;
+        let mut frame = slice(alloc, &mut guest, choice, &mut Nothing)?;
         if let End::Preempt = &frame.end {
             assert!(rt; 1 <= frame.count && frame.count <= before, "{all}");
-            if !is_followed(&mut twin, alloc, &frame)? {
+            if !is_followed(alloc, &mut twin, &frame)? {
                 return Ok(());
             }
             assert!(rt; guest.same(&twin), "{all}");
-            frame = slice(&mut guest, alloc, choice, &mut Nothing)?;
+            frame = slice(alloc, &mut guest, choice, &mut Nothing)?;
         }
         assert!(rt; call_of(&frame).is_some(), "{all}");
         assert_eq!(rt; guest.ran(), all);
-        if !is_followed(&mut twin, alloc, &frame)? {
+        if !is_followed(alloc, &mut twin, &frame)? {
             return Ok(());
         }
         assert!(rt; guest.same(&twin), "{all}");
@@ -165,20 +181,20 @@ fn a_first_instruction_that_finds_no_memory_is_not_run(rt: HostRuntime) -> Resul
         let choice = Choice { tid, quantum: 64 };
         steps(&mut guest, tid, before)?;
         steps(&mut twin, tid, before)?;
-        let frame = match slice(&mut guest, alloc, choice, &mut Nothing) {
+        let frame = match slice(alloc, &mut guest, choice, &mut Nothing) {
             Ok(frame) => frame,
             Err(fault) => {
                 assert_eq!(rt; fault, SliceFault::Memory);
                 assert!(rt; guest.same(&twin), "{all}");
                 assert_eq!(rt; guest.ran(), twin.ran());
                 assert_eq!(rt; guest.put_out(), twin.put_out());
-                slice(&mut guest, alloc, choice, &mut Nothing)?
+                slice(alloc, &mut guest, choice, &mut Nothing)?
             }
         };
         assert_eq!(rt; frame.count, 1);
         assert!(rt; call_of(&frame).is_some(), "{all}");
         assert_eq!(rt; guest.ran(), all);
-        if !is_followed(&mut twin, alloc, &frame)? {
+        if !is_followed(alloc, &mut twin, &frame)? {
             return Ok(());
         }
         assert!(rt; guest.same(&twin), "{all}");

@@ -99,7 +99,7 @@ impl Run {
             let Some(choice) = next_choice(alloc, &self.guest, chooser)? else {
                 return Ok(());
             };
-            let frame = slice(&mut self.guest, alloc, choice, &mut Nothing)?;
+            let frame = slice(alloc, &mut self.guest, choice, &mut Nothing)?;
             self.keep_output(&frame)?;
             self.frames.push(frame)?;
         }
@@ -109,7 +109,7 @@ impl Run {
     /// Follows frames, which it doesn't keep.
     fn follow_all(&mut self, alloc: Global, frames: &[Frame]) -> Result<(), Fail> {
         for frame in frames {
-            follow(&mut self.guest, alloc, frame)?;
+            follow(alloc, &mut self.guest, frame)?;
             self.keep_output(frame)?;
         }
         Ok(())

@@ -1,4 +1,4 @@
-use Rattle.std.proofs.Common.{List, sym, subst}
+use Rattle.std.proofs.Common.{◌+◌, List, [], ◌∷◌, sym, subst, ap, ◌∙◌, length, length-append}
 use Rattle.guest_calls.specs.Guest.{state_of}
 use Rattle.rrv_model.specs.declared.record.Frame.{Frame}
 use Rattle.rrv_model.specs.StateAt.{StateAtFrom, total}
@@ -6,5 +6,6 @@ use Rattle.rrv_model.proofs.RunLaws.{at_total_append}
 use Rattle.slice_rate.proofs.runs.record.Goals as goal
 
 pub loop-preserved : goal.loop-preserved
-loop-preserved c = subst (λ (frames : List Frame). StateAtFrom (state_of c.args.guest.now) frames (total frames) (state_of c.slice.new.guest)) (sym c.in-Ok-push.ensures.items)
-    (at_total_append c.loop.frames.items (state_of c.args.guest.now) (state_of c.loop.guest) (state_of c.slice.new.guest) c.in-Ok.frame c.loop.invariant c.in-Ok.ensures.frame)
+loop-preserved c = (subst (λ (frames : List Frame). StateAtFrom (state_of c.args.guest.now) frames (total frames) (state_of c.slice.new.guest)) (sym c.in-Ok-push.ensures.items)
+    (at_total_append c.loop.frames.items (state_of c.args.guest.now) (state_of c.loop.guest) (state_of c.slice.new.guest) c.in-Ok.frame c.loop.invariant.0 c.in-Ok.ensures.frame),
+    ap length c.in-Ok-push.ensures.items ∙ length-append c.loop.frames.items (c.in-Ok.frame ∷ []) ∙ ap (λ n. n + 1) c.loop.invariant.1)
