@@ -6,6 +6,7 @@ use guest_pages::PageView;
 use rrv_model::items::Items;
 use rrv_model::machine::{GuestEnd, Regs, Thread};
 use rrv_model::record::{CallRecord, Rest, ThreadPart};
+use rrv_model::refusal::Memory;
 use std::alloc::Global;
 use std::process::Abort;
 use std::test::Fail;
@@ -142,7 +143,7 @@ fn rest_with(alloc: Global, guest: &Guest, tid: u32, thread: Thread) -> Result<R
     })
 }
 
-/// What a running thread is answered to a call of this number by this outside, with the arguments a0 to a4.
+/// The call of this number that a running thread makes, with the arguments a0 to a4.
 fn call_by<O: Outside>(
     rt: &impl Abort,
     alloc: Global,
@@ -151,14 +152,14 @@ fn call_by<O: Outside>(
     outside: &mut O,
     number: u32,
     arguments: [u32; 5],
-) -> Result<CallRecord, Fail> {
+) -> Result<Result<CallRecord, Memory>, Fail> {
     assert!(rt; guest.ended().is_none());
     let thread = guest.thread(tid).ok_or("no such thread")?;
     let rest = rest_with(alloc, guest, tid, with_arguments(thread, number, arguments))?;
     guest.set_rest(alloc, &rest)?;
     assert!(rt; guest.is_running(tid));
     assert!(rt; guest.ended().is_none());
-    Ok(guest.call(alloc, tid, outside)?)
+    Ok(guest.call(alloc, tid, outside))
 }
 
 /// What a running thread is answered to a call of this number, with the arguments a0 to a4.
@@ -170,7 +171,7 @@ pub(crate) fn answer_to(
     number: u32,
     arguments: [u32; 5],
 ) -> Result<CallRecord, Fail> {
-    call_by(rt, alloc, guest, tid, &mut Nothing, number, arguments)
+    Ok(call_by(rt, alloc, guest, tid, &mut Nothing, number, arguments)??)
 }
 
 /// A guest of the threads 1 to count.
@@ -187,6 +188,19 @@ pub(crate) fn guest_with_threads<R: Abort>(
     Ok(guest)
 }
 
+/// The call of this number, with these arguments, that the guest's thread 1 makes.
+pub(crate) fn call_of<O: Outside>(
+    rt: &impl Abort,
+    alloc: Global,
+    guest: &mut Guest,
+    outside: &mut O,
+    number: u32,
+    arguments: [u32; 4],
+) -> Result<Result<CallRecord, Memory>, Fail> {
+    let arguments = [arguments[0], arguments[1], arguments[2], arguments[3], 0];
+    call_by(rt, alloc, guest, 1, outside, number, arguments)
+}
+
 /// What the guest's thread 1 is answered to a call of this number, with these arguments.
 pub(crate) fn answer_of<O: Outside>(
     rt: &impl Abort,
@@ -196,8 +210,7 @@ pub(crate) fn answer_of<O: Outside>(
     number: u32,
     arguments: [u32; 4],
 ) -> Result<CallRecord, Fail> {
-    let arguments = [arguments[0], arguments[1], arguments[2], arguments[3], 0];
-    call_by(rt, alloc, guest, 1, outside, number, arguments)
+    Ok(call_of(rt, alloc, guest, outside, number, arguments)??)
 }
 
 /// The guest behind its first call, and what that answered.

@@ -1,7 +1,8 @@
 //! What clock_gettime is answered. A failure is a negated errno value of Linux (man pages, errno(3)).
 
 use crate::tests::scripted::Scripted;
-use crate::tests::{answer_of, guest_of};
+use crate::tests::{answer_of, call_of, guest_of};
+use rrv_model::refusal::Memory;
 use std::test::Fail;
 
 const CLOCK_GETTIME: u32 = 403;
@@ -11,6 +12,8 @@ const EINVAL: u32 = 0xFFFF_FFEA;
 /// An address that can't be written.
 const EFAULT: u32 = 0xFFFF_FFF2;
 
+/// The first page of the stack.
+const STACK: u32 = 0x7FF0_0000;
 /// The page of the program, which may be read and not written.
 const PROGRAM: u32 = 0x1_0000;
 
@@ -65,5 +68,38 @@ fn tells_the_time_of_both_clocks(rt: HostRuntime) -> Result<(), Fail> {
         assert_eq!(rt; guest.space().load_byte(0x7FFF_FFF0), Some(1));
     }
     assert_eq!(rt; outside.asked, 2);
+    Ok(())
+}
+
+#[test]
+fn a_refused_growth_asks_nothing(rt: HostRuntime) -> Result<(), Fail> {
+    let mut guest = guest_of(rt.alloc(), [0; 8])?;
+    let mut outside = Scripted::of(&[]);
+    let arguments = [1, STACK, 0, 0];
+    let record = match call_of(
+        &rt,
+        rt.alloc(),
+        &mut guest,
+        &mut outside,
+        CLOCK_GETTIME,
+        arguments,
+    )? {
+        Ok(record) => record,
+        Err(Memory) => {
+            assert_eq!(rt; outside.asked, 0);
+            assert_eq!(rt; guest.space().load_word(STACK), Some(0));
+            call_of(
+                &rt,
+                rt.alloc(),
+                &mut guest,
+                &mut outside,
+                CLOCK_GETTIME,
+                arguments,
+            )??
+        }
+    };
+    assert_eq!(rt; record.result, 0);
+    assert_eq!(rt; outside.asked, 1);
+    assert_eq!(rt; guest.space().load_word(STACK), Some(1));
     Ok(())
 }

@@ -85,24 +85,21 @@ fn waits_where_the_word_is_equal(rt: HostRuntime) -> Result<(), Fail> {
 fn refuses_in_the_order_of_its_tests(rt: HostRuntime) -> Result<(), Fail> {
     let alloc = rt.alloc();
     let mut guest = guest_of(alloc, [0; 8])?;
-    for number in [98, 422] {
-        for (arguments, want) in [
-            ([WORD + 2, 9, 0, 0, 0], 0xFFFF_FFDA),
-            ([WORD, 9, 0, 0, 0], 0xFFFF_FFDA),
-            ([WORD, 128 + 2, 0, 0, 0], 0xFFFF_FFDA),
-            ([WORD + 2, WAKE, 1, 0, 0], 0xFFFF_FFEA),
-            ([WORD + 2, WAIT, 0, 8, 0], 0xFFFF_FFEA),
-            ([NOWHERE, WAIT, 0, 8, 0], 0xFFFF_FFDA),
-            ([WORD, WAIT, 0, 8, 0], 0xFFFF_FFDA),
-            ([NOWHERE, WAIT, 5, 0, 0], 0xFFFF_FFF2),
-            ([NOWHERE, WAIT, 0, 0, 0], 0xFFFF_FFF2),
-            ([WORD, WAIT, 5, 0, 0], 0xFFFF_FFF5),
-            ([NOWHERE, WAKE, 1, 8, 0], 0),
-        ] {
-            let record = answer_to(&rt, alloc, &mut guest, 1, number, arguments)?;
-            assert_eq!(rt; record.result, want);
-            assert!(rt; guest.threads().waiting().is_empty());
-        }
+    for (arguments, want) in [
+        ([WORD + 2, 9, 0, 0], 0xFFFF_FFDA),
+        ([WORD, 9, 0, 0], 0xFFFF_FFDA),
+        ([WORD, 128 + 2, 0, 0], 0xFFFF_FFDA),
+        ([WORD + 2, WAKE, 1, 0], 0xFFFF_FFEA),
+        ([WORD + 2, WAIT, 0, 8], 0xFFFF_FFEA),
+        ([NOWHERE, WAIT, 0, 8], 0xFFFF_FFDA),
+        ([WORD, WAIT, 0, 8], 0xFFFF_FFDA),
+        ([NOWHERE, WAIT, 5, 0], 0xFFFF_FFF2),
+        ([NOWHERE, WAIT, 0, 0], 0xFFFF_FFF2),
+        ([WORD, WAIT, 5, 0], 0xFFFF_FFF5),
+        ([NOWHERE, WAKE, 1, 8], 0),
+    ] {
+        assert_eq!(rt; futex(&rt, alloc, &mut guest, 1, arguments)?, want);
+        assert!(rt; guest.threads().waiting().is_empty());
     }
     Ok(())
 }
@@ -111,7 +108,15 @@ fn refuses_in_the_order_of_its_tests(rt: HostRuntime) -> Result<(), Fail> {
 fn the_newer_number_is_the_same_call(rt: HostRuntime) -> Result<(), Fail> {
     let alloc = rt.alloc();
     let mut guest = guest_with_threads(&rt, alloc, 2)?;
-    for (tid, arguments, want) in [(2, [WORD, WAIT, 0, 0, 0], 0), (1, [WORD, WAKE, 5, 0, 0], 1)] {
+    for (tid, arguments, want) in [
+        (1, [WORD, 9, 0, 0, 0], 0xFFFF_FFDA),
+        (1, [WORD + 2, WAKE, 1, 0, 0], 0xFFFF_FFEA),
+        (1, [WORD, WAIT, 0, 8, 0], 0xFFFF_FFDA),
+        (1, [NOWHERE, WAIT, 0, 0, 0], 0xFFFF_FFF2),
+        (1, [WORD, WAIT, 5, 0, 0], 0xFFFF_FFF5),
+        (2, [WORD, WAIT, 0, 0, 0], 0),
+        (1, [WORD, WAKE, 5, 0, 0], 1),
+    ] {
         let record = answer_to(&rt, alloc, &mut guest, tid, 422, arguments)?;
         assert_eq!(rt; record.result, want);
     }

@@ -1,7 +1,8 @@
 //! What getrandom is answered. A failure is a negated errno value of Linux (man pages, errno(3)).
 
 use crate::tests::scripted::Scripted;
-use crate::tests::{answer_of, guest_of};
+use crate::tests::{answer_of, call_of, guest_of};
+use rrv_model::refusal::Memory;
 use std::test::Fail;
 
 const GETRANDOM: u32 = 278;
@@ -68,5 +69,37 @@ fn gives_at_most_256_bytes(rt: HostRuntime) -> Result<(), Fail> {
         assert_eq!(rt; guest.space().load_byte(STACK.wrapping_add(want)), Some(0));
     }
     assert_eq!(rt; outside.asked, 3);
+    Ok(())
+}
+
+#[test]
+fn a_refused_growth_asks_nothing(rt: HostRuntime) -> Result<(), Fail> {
+    let mut guest = guest_of(rt.alloc(), [0; 8])?;
+    let mut outside = Scripted::of(&[]);
+    let arguments = [STACK, 16, 0, 0];
+    let record = match call_of(
+        &rt,
+        rt.alloc(),
+        &mut guest,
+        &mut outside,
+        GETRANDOM,
+        arguments,
+    )? {
+        Ok(record) => record,
+        Err(Memory) => {
+            assert_eq!(rt; outside.asked, 0);
+            assert_eq!(rt; guest.space().load_word(STACK), Some(0));
+            call_of(
+                &rt,
+                rt.alloc(),
+                &mut guest,
+                &mut outside,
+                GETRANDOM,
+                arguments,
+            )??
+        }
+    };
+    assert_eq!(rt; record.result, 16);
+    assert_eq!(rt; outside.asked, 1);
     Ok(())
 }

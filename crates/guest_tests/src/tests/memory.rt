@@ -16,8 +16,6 @@ const STACK: u32 = 0x7FF0_0000;
 const A1_STACK: u32 = 0x7FF0_05B7;
 /// `lui a1, 2`: two pages.
 const A1_PAGES: u32 = 0x0000_25B7;
-/// `li a1, 3`
-const A1_THREE: u32 = 0x0030_0593;
 /// `addi a1, a1, 1`
 const A1_ONE_MORE: u32 = 0x0015_8593;
 /// `lui a0, 0x10`: the image's page.
@@ -43,7 +41,7 @@ const A3_PLAIN: u32 = 0x0220_0693;
 /// `li a3, 0x32`: PRIVATE, ANONYMOUS and FIXED.
 const A3_FIXED: u32 = 0x0320_0693;
 
-/// An outside that has four bytes of input each time, and counts how often it is asked.
+/// An outside that counts how often it is asked.
 #[derive(Drop)]
 struct Counting {
     asked: u32,
@@ -52,21 +50,18 @@ struct Counting {
 impl Outside for Counting {
     ghost gives = { λ _ _ _ _. Unit {0} };
 
-    fn read(&mut self, into: &mut [u8]) -> usize {
+    fn read(&mut self, _: &mut [u8]) -> usize {
         self.asked = self.asked.saturating_add(1);
-        let len = into.len().min(4);
-        into[..len].fill(7);
-        len
+        0
     }
 
-    fn random(&mut self, into: &mut [u8]) {
+    fn random(&mut self, _: &mut [u8]) {
         self.asked = self.asked.saturating_add(1);
-        into.fill(0x5A);
     }
 
     fn now(&mut self, _: u32) -> (u64, u32) {
         self.asked = self.asked.saturating_add(1);
-        (0x0807_0605_0403_0201, 0x0D0C_0B0A)
+        (0, 0)
     }
 }
 
@@ -104,7 +99,6 @@ fn called(rt: &impl Abort, alloc: Global, code: [u32; 8]) -> Result<(CallRecord,
             guest.call(alloc, 1, &mut outside)?
         }
     };
-    assert!(rt; outside.asked <= 1);
     Ok((record, guest))
 }
 
@@ -210,40 +204,5 @@ fn a_refused_clone_is_made_again(rt: HostRuntime) -> Result<(), Fail> {
     assert_eq!(rt; guest.space().load_word(STACK), Some(2));
     assert_eq!(rt; guest.space().load_word(STACK + 4096), Some(2));
     assert_eq!(rt; guest.threads().next_tid(), 3);
-    Ok(())
-}
-
-#[test]
-fn a_refused_read_is_made_again(rt: HostRuntime) -> Result<(), Fail> {
-    let code = [a0(0), A1_STACK, a2(10), a7(63), ECALL, 0, 0, 0];
-    let (record, guest) = called(&rt, rt.alloc(), code)?;
-    assert_eq!(rt; record.result, 4);
-    assert_eq!(rt; guest.space().load_word(STACK), Some(0x0707_0707));
-    assert_eq!(rt; guest.space().load_word(STACK + 4), Some(3));
-    Ok(())
-}
-
-#[test]
-fn a_refused_getrandom_is_made_again(rt: HostRuntime) -> Result<(), Fail> {
-    let code = [A0_STACK, A1_THREE, a2(0), a7(278), ECALL, 0, 0, 0];
-    let (record, guest) = called(&rt, rt.alloc(), code)?;
-    assert_eq!(rt; record.result, 3);
-    assert_eq!(rt; guest.space().load_word(STACK), Some(0x005A_5A5A));
-    Ok(())
-}
-
-#[test]
-fn a_refused_clock_gettime_is_made_again(rt: HostRuntime) -> Result<(), Fail> {
-    let code = [a0(1), A1_STACK, a7(403), ECALL, 0, 0, 0, 0];
-    let (record, guest) = called(&rt, rt.alloc(), code)?;
-    assert_eq!(rt; record.result, 0);
-    for (place, word) in [
-        (0, 0x0403_0201),
-        (4, 0x0807_0605),
-        (8, 0x0D0C_0B0A),
-        (12, 0),
-    ] {
-        assert_eq!(rt; guest.space().load_word(STACK + place), Some(word));
-    }
     Ok(())
 }

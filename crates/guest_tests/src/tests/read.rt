@@ -1,7 +1,8 @@
 //! What read takes from the outside. A failure is a negated errno value of Linux (man pages, errno(3)).
 
 use crate::tests::scripted::Scripted;
-use crate::tests::{answer_of, guest_of, put_word};
+use crate::tests::{answer_of, call_of, guest_of, put_word};
+use rrv_model::refusal::Memory;
 use std::test::Fail;
 
 const READ: u32 = 63;
@@ -74,5 +75,24 @@ fn takes_at_most_65536_bytes(rt: HostRuntime) -> Result<(), Fail> {
     assert_eq!(rt; guest.space().load_byte(STACK), Some(0));
     assert_eq!(rt; guest.space().load_byte(STACK + 0x1_0000), Some(7));
     assert_eq!(rt; guest.space().load_byte(STACK + 0x1_0001), Some(0));
+    Ok(())
+}
+
+#[test]
+fn a_refused_growth_loses_no_input(rt: HostRuntime) -> Result<(), Fail> {
+    let mut guest = guest_of(rt.alloc(), [0; 8])?;
+    let mut outside = Scripted::of(&[1, 2, 3, 4]);
+    let arguments = [0, STACK, 10, 0];
+    let record = match call_of(&rt, rt.alloc(), &mut guest, &mut outside, READ, arguments)? {
+        Ok(record) => record,
+        Err(Memory) => {
+            assert_eq!(rt; outside.asked, 0);
+            assert_eq!(rt; guest.space().load_word(STACK), Some(0));
+            call_of(&rt, rt.alloc(), &mut guest, &mut outside, READ, arguments)??
+        }
+    };
+    assert_eq!(rt; record.result, 4);
+    assert_eq!(rt; outside.asked, 1);
+    assert_eq!(rt; guest.space().load_word(STACK), Some(0x0403_0201));
     Ok(())
 }
