@@ -12,6 +12,8 @@ use std::test::Fail;
 const FLAGS: u32 = 0x7D_0F00;
 /// `lui a0, 0x11`
 const A0_FLAGS: u32 = 0x0001_1537;
+/// `lui a0, 0x111`: CLONE_PARENT_SETTID besides.
+const A0_MORE_FLAGS: u32 = 0x0011_1537;
 /// `addi a0, a0, -256`: the flags that are required, and no others.
 const A0_LESS: u32 = 0xF005_0513;
 /// Two addresses on the stack.
@@ -69,6 +71,8 @@ fn a_child_knows_its_tid_and_clears_its_word(rt: HostRuntime) -> Result<(), Fail
     assert_eq!(rt; guest.space().load_word(CHILD_TID), Some(2));
     let gettid = answer_to(&rt, alloc, &mut guest, 2, 178, [0; 5])?;
     assert_eq!(rt; gettid.result, 2);
+    let getpid = answer_to(&rt, alloc, &mut guest, 2, 172, [0; 5])?;
+    assert_eq!(rt; getpid.result, 1);
     let wait = answer_to(&rt, alloc, &mut guest, 1, 98, [CHILD_TID, 0, 2, 0, 0])?;
     assert_eq!(rt; wait.result, 0);
     assert_eq!(rt; guest.running(alloc)?.as_slice(), [2u32].as_slice());
@@ -150,9 +154,10 @@ fn an_exit_wakes_the_first_of_two_waiters(rt: HostRuntime) -> Result<(), Fail> {
     Ok(())
 }
 
-/// What thread 1 of a new guest is answered to a clone where this tid is the next one.
-fn clone_under(rt: &impl Abort, alloc: Global, next_tid: u32) -> Result<u32, Fail> {
-    let mut guest = guest_of(alloc, [A0_FLAGS, A0_LESS, a7(220), ECALL, 0, 0, 0, 0])?;
+/// What thread 1 of a new guest is answered to a clone where this tid is the next one. The instruction gives the flags' upper
+/// bits; the parent's address is 0, which can't be written.
+fn clone_under(rt: &impl Abort, alloc: Global, next_tid: u32, flags: u32) -> Result<u32, Fail> {
+    let mut guest = guest_of(alloc, [flags, A0_LESS, a7(220), ECALL, 0, 0, 0, 0])?;
     assert!(rt; guest.is_running(1));
     let run = guest.run_thread(1, 64);
     assert_eq!(rt; run.end, RunEnd::Call);
@@ -173,7 +178,9 @@ fn clone_under(rt: &impl Abort, alloc: Global, next_tid: u32) -> Result<u32, Fai
 
 #[test]
 fn no_thread_is_made_where_no_tid_is_left(rt: HostRuntime) -> Result<(), Fail> {
-    assert_eq!(rt; clone_under(&rt, rt.alloc(), 0x7FFF_FFFF)?, 0x7FFF_FFFF);
-    assert_eq!(rt; clone_under(&rt, rt.alloc(), 0x8000_0000)?, 0xFFFF_FFF5);
+    let last = clone_under(&rt, rt.alloc(), 0x7FFF_FFFF, A0_FLAGS)?;
+    assert_eq!(rt; last, 0x7FFF_FFFF);
+    let refused = clone_under(&rt, rt.alloc(), 0x8000_0000, A0_MORE_FLAGS)?;
+    assert_eq!(rt; refused, 0xFFFF_FFF5);
     Ok(())
 }

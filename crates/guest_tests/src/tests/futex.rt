@@ -109,10 +109,10 @@ fn the_newer_number_is_the_same_call(rt: HostRuntime) -> Result<(), Fail> {
     let alloc = rt.alloc();
     let mut guest = guest_with_threads(&rt, alloc, 2)?;
     for (tid, arguments, want) in [
-        (1, [WORD, 9, 0, 0, 0], 0xFFFF_FFDA),
-        (1, [WORD + 2, WAKE, 1, 0, 0], 0xFFFF_FFEA),
-        (1, [WORD, WAIT, 0, 8, 0], 0xFFFF_FFDA),
-        (1, [NOWHERE, WAIT, 0, 0, 0], 0xFFFF_FFF2),
+        (1, [WORD + 2, 9, 0, 0, 0], 0xFFFF_FFDA),
+        (1, [WORD + 2, WAIT, 0, 8, 0], 0xFFFF_FFEA),
+        (1, [NOWHERE, WAIT, 0, 8, 0], 0xFFFF_FFDA),
+        (1, [NOWHERE, WAIT, 5, 0, 0], 0xFFFF_FFF2),
         (1, [WORD, WAIT, 5, 0, 0], 0xFFFF_FFF5),
         (2, [WORD, WAIT, 0, 0, 0], 0),
         (1, [WORD, WAKE, 5, 0, 0], 1),

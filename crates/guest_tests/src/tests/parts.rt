@@ -221,3 +221,24 @@ fn no_state_has_this_rest(rt: HostRuntime) -> Result<(), Fail> {
     }
     Ok(())
 }
+
+#[test]
+fn says_why_it_refuses(rt: HostRuntime) -> Result<(), Fail> {
+    let alloc = rt.alloc();
+    for (fault, text) in [
+        (SetPageFault::NoState, "no state has this page"),
+        (SetPageFault::TooManyPages, "too many pages"),
+        (SetPageFault::Memory, "out of memory"),
+    ] {
+        let told = format!(in alloc; "{}", fault)?;
+        assert_eq!(rt; told.as_str(), text);
+    }
+    for (fault, text) in [
+        (SetRestFault::NoState, "no state has this rest"),
+        (SetRestFault::Memory, "out of memory"),
+    ] {
+        let told = format!(in alloc; "{}", fault)?;
+        assert_eq!(rt; told.as_str(), text);
+    }
+    Ok(())
+}
