@@ -3,8 +3,9 @@
 
     crates/guest_tests/tools/refused_growths.py CRATE [TEXT]
 
-runs those tests of a crate whose full names have this text (`a_refused` among guest_tests, `finds_no_memory` among serial_sched, `memory::` among guest_pages),
-once for each of their growths, which is then refused. `rt test` in the crate's folder builds them; a C compiler is needed besides.
+runs those tests of a crate whose full names have this text (`a_refused` among guest_tests, `finds_no_memory` among serial_sched, `memory::`
+among guest_pages), once for each of their growths, which is then refused. `rt test` in the crate's folder builds them; a C compiler is
+needed besides.
 
 A test fails where a growth is refused that it needs before its subject, and passes behind these, where it looks for Memory and makes the
 same call again. So for each test it prints how many growths made it fail, and how many it passed. The end is 1 where a test fails behind
