@@ -1,7 +1,7 @@
-# 40,000,000 turns of a loop of eight instructions, without a load or a store; then exit(0).
+# 4,000,000 turns of a loop of eight instructions, without a load or a store; then exit(0).
     .globl _start
 _start:
-    li   t0, 40000000
+    li   t0, 4000000
     li   a0, 1
     li   a1, 0x1234567
 1:  add  a0, a0, t0
