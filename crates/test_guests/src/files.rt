@@ -1,0 +1,72 @@
+//! Small static programs (System V ABI, ELF32), and guests of them.
+
+use elf_load::image::parse;
+use guest_calls::Guest;
+use std::alloc::{AllocError, Global};
+
+/// An ELF header and the header of one LOAD: the whole file, at 0x10000, to be read and run from its byte 84 on.
+const ONE_LOAD: [u8; 84] = [
+    0x7F, 0x45, 0x4C, 0x46, 1, 1, 1, 0, 0, 0, 0, 0, 0, 0, 0, 0, // identification
+    2, 0, 0xF3, 0, 1, 0, 0, 0, // type, machine, version
+    0x54, 0, 1, 0, 52, 0, 0, 0, 0, 0, 0, 0, // entry, e_phoff, e_shoff
+    0, 0, 0, 0, 52, 0, 32, 0, 1, 0, 0, 0, 0, 0, 0, 0, // flags, sizes and counts
+    1, 0, 0, 0, 0, 0, 0, 0, 0, 0, 1, 0, 0, 0, 1, 0, // PT_LOAD, offset, addresses
+    0, 0, 0, 0, 0, 0, 0, 0, 5, 0, 0, 0, 4, 0, 0, 0, // sizes, flags, alignment
+];
+
+/// An ELF header and the headers of two LOADs: the whole file, at 0x10000, to be read and run from its byte 116 on; and its
+/// first word once more at 0x11000, to be read and written.
+const TWO_LOADS: [u8; 116] = [
+    0x7F, 0x45, 0x4C, 0x46, 1, 1, 1, 0, 0, 0, 0, 0, 0, 0, 0, 0, // identification
+    2, 0, 0xF3, 0, 1, 0, 0, 0, // type, machine, version
+    0x74, 0, 1, 0, 52, 0, 0, 0, 0, 0, 0, 0, // entry, e_phoff, e_shoff
+    0, 0, 0, 0, 52, 0, 32, 0, 2, 0, 0, 0, 0, 0, 0, 0, // flags, sizes and counts
+    1, 0, 0, 0, 0, 0, 0, 0, 0, 0, 1, 0, 0, 0, 1, 0, // PT_LOAD, offset, addresses
+    0, 0, 0, 0, 0, 0, 0, 0, 5, 0, 0, 0, 0, 0x10, 0, 0, // sizes, flags, alignment
+    1, 0, 0, 0, 0, 0, 0, 0, 0, 0x10, 1, 0, 0, 0x10, 1, 0, // PT_LOAD, offset, addresses
+    4, 0, 0, 0, 4, 0, 0, 0, 6, 0, 0, 0, 0, 0x10, 0, 0, // sizes, flags, alignment
+];
+
+/// `li a0, 5; li a7, 93; ecall`: exits with 5.
+pub const EXIT_FIVE: [u32; 3] = [0x0050_0513, 0x05D0_0893, 0x0000_0073];
+
+/// The bytes of headers and words, with the file's length at two places of the headers.
+fn joined(alloc: Global, headers: &[u8], words: &[u32]) -> Result<Vec<u8>, AllocError> {
+    let mut elf = Vec::from_slice(alloc, headers)?;
+    for word in words {
+        elf.extend_from_slice(&word.to_le_bytes())?;
+    }
+    Ok(elf)
+}
+
+/// Puts the file's length where the header of its first LOAD has its sizes.
+fn with_sizes(mut elf: Vec<u8>, at: usize) -> Vec<u8> {
+    let len = elf.len() as u32;
+    for (place, byte) in len.to_le_bytes().iter().enumerate() {
+        if let Some(slot) = elf.get_mut(at.wrapping_add(place)) {
+            *slot = *byte;
+        }
+        if let Some(slot) = elf.get_mut(at.wrapping_add(place).wrapping_add(4)) {
+            *slot = *byte;
+        }
+    }
+    elf
+}
+
+/// A file of these instructions: one LOAD, at 0x10000, which starts with the first of them at 0x10054.
+pub fn file_of(alloc: Global, words: &[u32]) -> Result<Vec<u8>, AllocError> {
+    let elf = joined(alloc, &ONE_LOAD, words)?;
+    Ok(with_sizes(elf, 68))
+}
+
+/// The same with a word at 0x11000 that may be written, the file's first; it starts at 0x10074.
+pub fn file_with_data(alloc: Global, words: &[u32]) -> Result<Vec<u8>, AllocError> {
+    let elf = joined(alloc, &TWO_LOADS, words)?;
+    Ok(with_sizes(elf, 68))
+}
+
+/// A guest of a file, with this byte as each of its random ones; None where the file is none that runs, or no memory is left.
+pub fn guest_of_file(alloc: Global, elf: &[u8], random: u8) -> Option<Guest> {
+    let image = parse(alloc, elf).ok()?;
+    Guest::open(alloc, &image, b"a", [random; 16]).ok()
+}
