@@ -113,7 +113,7 @@
 //! }
 //! ```
 
-use crate::run::run;
+use commands::run;
 use std::fs;
 
 /// The file that the compiler made.

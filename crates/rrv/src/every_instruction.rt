@@ -3,7 +3,7 @@
 //! GNU as 2.40 and ld made it of `tools/every_instruction.S`, and qemu-riscv32 7.2.22 ran it: `tools/every_instruction.py` has the
 //! commands, and prints the arrays and the counts of instructions below.
 
-use crate::run::run;
+use commands::run;
 use std::fs;
 
 /// A static ELF32 executable: code at 0x10000, and a page for data at 0x11000. It writes x1 to x31 after what registers alone give,

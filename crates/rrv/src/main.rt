@@ -1,16 +1,7 @@
 //! `rrv`: records RISC-V programs and replays them.
 #![tactic(auto)]
 
-mod exit_five;
-mod line;
-mod recording;
-mod refusal;
-mod replay;
-mod run;
-mod text;
-mod trial;
-
-use run::{report_unread, run};
+use commands::{report_unread, run};
 use std::process::ExitCode;
 use std::{env, io};
 

@@ -1,7 +1,6 @@
 //! Lines of the program, done, and what they print.
 
-use crate::exit_five::EXIT_FIVE;
-use crate::run::run;
+use commands::{EXIT_FIVE, run};
 use std::alloc::{AllocError, Global};
 use std::fs;
 use std::io::{self, Write};

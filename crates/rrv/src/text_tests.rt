@@ -1,15 +1,17 @@
 //! The printed lines of records that are made by hand.
 
-use crate::refusal::Refusal;
-use crate::text::{EndText, RecordLine, VerifyLine};
+use commands::Refusal;
 use elf_load::fault::ElfFault;
+use recorder::RecordingFault;
 use recover::{OpenFault, ReadFault};
+use replayer::ReplayFault;
 use rrv_model::items::Items;
 use rrv_model::machine::{FaultKind, GuestEnd};
 use rrv_model::record::{CallRecord, End, Frame, Item, PagePart, Part, Record, Rest, Written};
 use std::alloc::{AllocError, Global};
 use std::test::*;
 use trace_log::LogFault;
+use trace_text::{EndText, RecordLine, VerifyLine};
 
 fn line_of(alloc: Global, index: u32, item: Item) -> Result<String, AllocError> {
     let record = Record {
@@ -172,10 +174,22 @@ fn texts_of_refusals(rt: HostRuntime) -> Result<(), Fail> {
 fn refusals_of_the_layers_below(rt: HostRuntime) -> Result<(), Fail> {
     let alloc = rt.alloc();
     let refusals = [
-        (Refusal::from(LogFault::DeviceFailed), "device failed"),
-        (Refusal::from(LogFault::Broken), "device failed"),
-        (Refusal::from(LogFault::TooLong), "store full"),
-        (Refusal::from(LogFault::Memory), "out of memory"),
+        (
+            Refusal::from(RecordingFault::from(LogFault::DeviceFailed)),
+            "device failed",
+        ),
+        (
+            Refusal::from(RecordingFault::from(LogFault::Broken)),
+            "device failed",
+        ),
+        (
+            Refusal::from(RecordingFault::from(LogFault::TooLong)),
+            "store full",
+        ),
+        (
+            Refusal::from(RecordingFault::from(LogFault::Memory)),
+            "out of memory",
+        ),
         (Refusal::from(OpenFault::NotAStore), "not a store"),
         (
             Refusal::from(OpenFault::Damaged { segment: 3 }),
@@ -185,14 +199,17 @@ fn refusals_of_the_layers_below(rt: HostRuntime) -> Result<(), Fail> {
         (Refusal::from(OpenFault::Memory), "out of memory"),
         (Refusal::from(OpenFault::NewerVersion), "newer version"),
         (
-            Refusal::of_item(4, ReadFault::Damaged),
+            Refusal::from(ReplayFault::of_item(4, ReadFault::Damaged)),
             "record 4 unreadable",
         ),
         (
-            Refusal::of_item(4, ReadFault::DeviceFailed),
+            Refusal::from(ReplayFault::of_item(4, ReadFault::DeviceFailed)),
             "device failed",
         ),
-        (Refusal::of_item(4, ReadFault::Memory), "out of memory"),
+        (
+            Refusal::from(ReplayFault::of_item(4, ReadFault::Memory)),
+            "out of memory",
+        ),
         (
             Refusal::of_elf(3, ElfFault::NotElf),
             "guest 3: elf refusal 2",

@@ -6,7 +6,7 @@
 //! and the source, `lock.c` with `-ffreestanding -Os` too. `tools/threads.py` has the commands, runs them under qemu-riscv32, and works
 //! out the records by a restatement of the guest's rules in Python.
 
-use crate::run::run;
+use commands::run;
 use std::fs;
 use std::process::Abort;
 use std::rt::Files;

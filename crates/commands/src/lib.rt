@@ -1,0 +1,13 @@
+//! What the lines of the program do.
+#![tactic(auto)]
+
+mod exit_five;
+mod line;
+mod refusal;
+mod running;
+mod trial;
+
+pub use exit_five::EXIT_FIVE;
+pub use refusal::Refusal;
+pub use running::{report_unread, run};
+pub use trial::{Trial, try_image};

@@ -1,0 +1,5 @@
+pub mod Silent
+pub mod Turns
+pub mod Recorded
+pub mod Told
+pub mod Gained

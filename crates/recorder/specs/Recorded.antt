@@ -1,0 +1,35 @@
+-- What it means that a guest has been recorded: its records, in a log, and the state that they end in.
+use Rattle.std.specs.Prelude.{◌≡◌, ℕ, List, ◌∷◌, map}
+use Rattle.std.specs.List.{AllByRecursion}
+use Rattle.rrv_model.specs.declared.record.Item.TheVariants as items
+use Rattle.rrv_model.specs.declared.record.Record.{Record}
+use Rattle.rrv_model.specs.State.{State}
+use Rattle.rrv_model.specs.Recording.{IsRecording, IsNumbered, EndsIn, items_of}
+use Rattle.rrv_model.specs.RecordText.{HasText, record_text}
+use Rattle.recorder.specs.Turns.{TakesTurns}
+
+-- the texts of records, each a body of its own
+abbrev pub texts_of : List Record → List (List ℕ)
+texts_of records = map record_text records
+
+-- the record of an opening
+abbrev pub opening_of : ℕ → List ℕ → List ℕ → List ℕ → Record
+opening_of guest elf name random = record { guest = guest; index = 0; item = items.Opening (record { elf = elf; name = name; random = random }) }
+
+-- the records of this guest are a recording that ends in this state, and each has a text
+pub record IsRecorded (guest : ℕ) (records : List Record) (s : State) : Type 0 where
+  pub recording : IsRecording records
+  pub numbered : IsNumbered guest 0 records
+  pub ends : EndsIn (items_of records) s
+  pub has_text : AllByRecursion HasText records
+
+-- this is the first of the records
+abbrev pub IsFirst : Record → List Record → Type 0
+IsFirst first records = (rest : List Record) × (records ≡ first ∷ rest)
+
+-- The records of this guest, the first of them this one, are a recording that ends in this state, and each has a text. Its
+-- threads take turns by this quantum.
+pub record IsRecordedBy (guest quantum : ℕ) (first : Record) (records : List Record) (s : State) : Type 0 where
+  pub opens : IsFirst first records
+  pub recorded : IsRecorded guest records s
+  pub turns : TakesTurns quantum (items_of records)

@@ -1,0 +1,67 @@
+//! Why a guest's records were not read, or not replayed.
+
+ghost use Rattle.std.specs.Prelude.{◌≡◌};
+ghost use Rattle.replayer.specs.Told.{read_told};
+ghost use Rattle.replayer.specs.declared.fault.ReplayFault.TheVariants as refusals;
+
+use recover::ReadFault;
+use rrv_model::refusal;
+use std::alloc::{AllocError, AllocFailed};
+use thiserror::Error;
+
+/// Why a guest's records were not read, or not replayed.
+#[derive(Clone, Copy, Debug, PartialEq, Eq, Error)]
+pub enum ReplayFault {
+    /// A call of the disk failed.
+    #[error("device failed")]
+    DeviceFailed,
+    /// The store no longer holds a record that it held.
+    #[error("record {index} unreadable")]
+    Unreadable { index: u32 },
+    /// A record doesn't follow from those before it.
+    #[error("record {index} does not replay")]
+    Mismatch { index: usize },
+    /// The first record is no opening of a guest.
+    #[error("bad opening")]
+    BadOpening,
+    /// A growth was refused.
+    #[error("out of memory")]
+    Memory,
+}
+
+impl ReplayFault {
+    /// The fault of a guest's record of this index.
+    pub fn of_item(index: u32, fault: ReadFault) -> Self
+        ensures { result ≡ read_told index fault }
+    {
+        match fault {
+            ReadFault::DeviceFailed => ReplayFault::DeviceFailed,
+            ReadFault::Damaged => ReplayFault::Unreadable { index },
+            ReadFault::Memory => ReplayFault::Memory,
+        }
+    }
+}
+
+impl From<AllocError> for ReplayFault {
+    ghost from_gives = { λ _ e. e ≡ refusals.Memory };
+
+    fn from(_: AllocError) -> Self {
+        ReplayFault::Memory
+    }
+}
+
+impl<T: Drop> From<AllocFailed<T>> for ReplayFault {
+    ghost from_gives = { λ _ e. e ≡ refusals.Memory };
+
+    fn from(_: AllocFailed<T>) -> Self {
+        ReplayFault::Memory
+    }
+}
+
+impl From<refusal::Memory> for ReplayFault {
+    ghost from_gives = { λ _ e. e ≡ refusals.Memory };
+
+    fn from(_: refusal::Memory) -> Self {
+        ReplayFault::Memory
+    }
+}

@@ -1,9 +1,0 @@
-pub mod Gained
-pub mod Lines
-pub mod Recorded
-pub mod Refused
-pub mod Silent
-pub mod Told
-pub mod Turns
-pub mod Tried
-pub mod Line
