@@ -1,4 +1,3 @@
 pub mod FailOnce
 pub mod MemDisk
-pub mod Reads
-pub mod Replay
+pub mod Started

@@ -1,11 +1,10 @@
 -- What a disk in memory stands for.
-use Rattle.std.specs.Prelude.{◌≤◌, ℕ, ◌+◌, length, reverse, vec_len, vec_capacity}
+use Rattle.std.specs.Prelude.{◌≤◌, ℕ, ◌+◌, length, vec_len, vec_capacity}
 use Rattle.rrv_model.specs.CrashModel.{DiskState}
 use Rattle.trace_disk.specs.declared.mem_disk.MemDisk.{MemDisk}
-use Rattle.trace_disk.specs.Replay.{replay}
 
 abbrev pub memory_state : MemDisk → DiskState
-memory_state disk = replay disk.start.items disk.written.items (reverse disk.calls.items)
+memory_state disk = disk.history.state
 
 abbrev pub memory_size : MemDisk → ℕ
 memory_size disk = length disk.content.items
@@ -15,8 +14,5 @@ memory_failures disk = disk.failures
 
 -- Room for so many bytes in writes and so many calls: within it no call takes memory.
 pub record HasRoom (disk : MemDisk) (bytes calls : ℕ) : Type 0 where
-  pub calls_fit : vec_len disk.calls + calls ≤ vec_capacity disk.calls
   pub ranges_fit : vec_len disk.touched + calls ≤ vec_capacity disk.touched
-  pub written_fit : vec_len disk.written + bytes ≤ vec_capacity disk.written
   pub content_fits : vec_len disk.content + bytes ≤ vec_capacity disk.content
-  pub synced_fits : vec_len disk.content + bytes ≤ vec_capacity disk.synced

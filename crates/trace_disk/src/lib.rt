@@ -3,6 +3,7 @@
 
 mod disk;
 mod fail_once;
+mod history;
 mod mem_disk;
 
 pub use disk::{Disk, DiskFailed, cut_through, write_through};

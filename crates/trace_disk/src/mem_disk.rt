@@ -1,22 +1,15 @@
-//! A disk in memory, which keeps a record of its calls, so that tests can crash it.
+//! A disk in memory, which can be crashed.
 
-ghost use Rattle.std.specs.Prelude.{◌≡◌, ◌≤◌, ◌<◌, ◌+◌, ◌++◌, ◌∷◌, [], max, List, ℕ, length, reverse, take, drop, OnOk, OnErr, IfOk, IsOk, vec_len, vec_capacity, IsTrue, ◌↔◌, ◌⊎◌, get_or};
+ghost use Rattle.std.specs.Prelude.{◌≡◌, ◌≤◌, ◌<◌, ◌+◌, max, ℕ, length, take, drop, OnOk, OnErr, IfOk, IsOk, vec_len, vec_capacity, IsTrue, ◌↔◌, ◌⊎◌, get_or};
 ghost use Rattle.rrv_model.specs.CrashModel.{IsTouched, IsCrash};
 ghost use Rattle.rrv_model.specs.DiskCalls.{overwritten, after_write, after_cut, after_sync};
 ghost use Rattle.rrv_model.specs.Failures.{one_more, IsCounted};
-ghost use Rattle.trace_disk.specs.Replay.{replay, empty_disk, started_with, IsFilledCrash};
+ghost use Rattle.trace_disk.specs.Started.{empty_disk, started_with, IsFilledCrash};
 
+use crate::history::History;
 use crate::{Disk, DiskFailed};
 use rrv_model::refusal::Memory;
 use std::alloc::{AllocError, Global};
-
-// A call that was done. The bytes of the writes stand elsewhere, joined in order.
-#[derive(Clone, Copy, Debug, PartialEq, Eq)]
-enum Call {
-    Wrote(usize, usize),
-    CutTo(usize),
-    Synced,
-}
 
 // Writes over what is there, and past the end.
 fn overwrite(content: &mut Vec<u8>, at: usize, bytes: &[u8]) -> Result<(), AllocError>
@@ -54,49 +47,24 @@ fn reserve_to(content: &mut Vec<u8>, at: usize, count: usize) -> Result<(), Allo
     Ok(())
 }
 
-// Keeps a call, and the bytes that it wrote.
-fn keep_call(
-    calls: &mut Vec<Call>,
-    written: &mut Vec<u8>,
-    call: Call,
-    bytes: &[u8],
-) -> Result<(), AllocError>
-    ensures calls { OnOk result (calls.new.items ≡ calls.old.items ++ call ∷ []) }
-    ensures written { OnOk result (written.new.items ≡ written.old.items ++ bytes.now) }
-    ensures calls_len { OnOk result (vec_len calls.new ≡ vec_len calls.old + 1) }
-    ensures written_len { OnOk result (vec_len written.new ≡ vec_len written.old + length bytes.now) }
-    ensures calls_capacity { vec_capacity calls.old ≤ vec_capacity calls.new }
-    ensures written_capacity { vec_capacity written.old ≤ vec_capacity written.new }
-    ensures err_calls { OnErr result (calls.new.items ≡ calls.old.items) }
-    ensures err_written { OnErr result (written.new.items ≡ written.old.items) }
-    ensures err_calls_len { OnErr result (vec_len calls.new ≡ vec_len calls.old) }
-    ensures err_written_len { OnErr result (vec_len written.new ≡ vec_len written.old) }
-    ensures room { vec_len calls.old < vec_capacity calls.old → vec_len written.old + length bytes.now ≤ vec_capacity written.old → IsOk result }
-{
-    calls.reserve(1)?;
-    written.extend_from_slice(bytes)?;
-    calls.push(call)?;
-    Ok(())
-}
-
-/// An honest disk in memory. It keeps each call since its start, and the bytes of each write.
+/// An honest disk in memory. It keeps what a read gives, and what a crash now may leave.
 ///
-/// Within its room no call takes memory. Past it a refused growth is a failure of the device, which changes nothing and leaves
-/// the room.
+/// A call costs what it reads or writes, and a sync what was written since the last one. Within its room no call takes memory.
+/// Past it a refused growth is a failure of the device, which changes nothing and leaves the room.
 #[derive(Drop)]
 pub struct MemDisk {
-    start: Vec<u8>,
-    calls: Vec<Call>,
-    written: Vec<u8>,
     content: Vec<u8>,
-    synced: Vec<u8>,
     least: usize,
     greatest: usize,
     touched: Vec<(usize, usize)>,
     failures: u64,
-    ghost content_is: { content.items ≡ (replay start.items written.items (reverse calls.items)).content },
-    ghost pending_is: { (replay start.items written.items (reverse calls.items)).pending ≡ record { synced = synced.items; least = least; greatest = greatest; touched = touched.items } },
-    ghost least_within: { least ≤ length synced.items },
+    history: History,
+    ghost content_is: { content.items ≡ history.state.content },
+    ghost least_is: { least ≡ history.state.pending.least },
+    ghost greatest_is: { greatest ≡ history.state.pending.greatest },
+    ghost touched_is: { touched.items ≡ history.state.pending.touched },
+    // What was synced stands in the content still, where no write and no cut has reached.
+    ghost may_stay: { IsCrash history.state.pending history.state.content },
 }
 
 impl MemDisk {
@@ -108,15 +76,12 @@ impl MemDisk {
         ensures failures { memory_failures result ≡ 0 }
     {
         MemDisk {
-            start: Vec::new(alloc),
-            calls: Vec::new(alloc),
-            written: Vec::new(alloc),
             content: Vec::new(alloc),
-            synced: Vec::new(alloc),
             least: 0,
             greatest: 0,
             touched: Vec::new(alloc),
             failures: 0,
+            history: History::started_with(&[]),
         }
     }
 
@@ -127,15 +92,12 @@ impl MemDisk {
         ensures room { IfOk result (λ disk. HasRoom disk bytes calls) }
     {
         Ok(MemDisk {
-            start: Vec::new(alloc),
-            calls: Vec::with_capacity(alloc, calls)?,
-            written: Vec::with_capacity(alloc, bytes)?,
             content: Vec::with_capacity(alloc, bytes)?,
-            synced: Vec::with_capacity(alloc, bytes)?,
             least: 0,
             greatest: 0,
             touched: Vec::with_capacity(alloc, calls)?,
             failures: 0,
+            history: History::started_with(&[]),
         })
     }
 
@@ -165,17 +127,15 @@ impl MemDisk {
         let len = len as usize;
         let mut bytes = Vec::new(alloc);
         bytes.resize(len, fill)?;
-        keep_untouched(&mut bytes, &self.synced, self.least, &self.touched);
+        keep_untouched(&mut bytes, &self.content, self.least, &self.touched);
+        let history = History::started_with(&bytes);
         Ok(MemDisk {
-            start: bytes.to_vec(alloc)?,
-            calls: Vec::new(alloc),
-            written: Vec::new(alloc),
-            content: bytes.to_vec(alloc)?,
-            synced: bytes,
+            content: bytes,
             least: len,
             greatest: len,
             touched: Vec::new(alloc),
             failures: 0,
+            history,
         })
     }
 
@@ -191,52 +151,11 @@ impl MemDisk {
     {
         reserve_to(&mut self.content, at, bytes.len())?;
         self.touched.reserve(1)?;
-        keep_call(
-            &mut self.calls,
-            &mut self.written,
-            Call::Wrote(at, bytes.len()),
-            bytes,
-        )?;
         // From here on there is room.
         overwrite(&mut self.content, at, bytes)?;
         self.touched.push((at, bytes.len()))?;
         self.greatest = self.greatest.max(at + bytes.len());
-        Ok(())
-    }
-
-    fn try_cut(&mut self, len: usize) -> Result<(), AllocError>
-        requires { len ≤ memory_size self.old }
-        ensures cut { OnOk result (memory_state self.new ≡ after_cut (memory_state self.old) len) }
-        ensures size { OnOk result (memory_size self.new ≡ len) }
-        ensures err { OnErr result (memory_state self.new ≡ memory_state self.old) }
-        ensures failures { self.new.failures ≡ self.old.failures }
-        ensures room { (b c : ℕ) → HasRoom self.old b (1 + c) → IsOk result }
-        ensures room_left { (b c : ℕ) → HasRoom self.old b (1 + c) → HasRoom self.new b c }
-        ensures room_err { (b c : ℕ) → HasRoom self.old b c → OnErr result (HasRoom self.new b c) }
-    {
-        keep_call(&mut self.calls, &mut self.written, Call::CutTo(len), &[])?;
-        self.content.truncate(len);
-        self.least = self.least.min(len);
-        Ok(())
-    }
-
-    fn try_sync(&mut self) -> Result<(), AllocError>
-        ensures synced { OnOk result (memory_state self.new ≡ after_sync (memory_state self.old)) }
-        ensures size { memory_size self.new ≡ memory_size self.old }
-        ensures err { OnErr result (memory_state self.new ≡ memory_state self.old) }
-        ensures failures { self.new.failures ≡ self.old.failures }
-        ensures room { (b c : ℕ) → HasRoom self.old b (1 + c) → IsOk result }
-        ensures room_left { (b c : ℕ) → HasRoom self.old b (1 + c) → HasRoom self.new b c }
-        ensures room_err { (b c : ℕ) → HasRoom self.old b c → OnErr result (HasRoom self.new b c) }
-    {
-        reserve_to(&mut self.synced, 0, self.content.len())?;
-        keep_call(&mut self.calls, &mut self.written, Call::Synced, &[])?;
-        // From here on there is room.
-        self.synced.clear();
-        self.synced.extend_from_slice(&self.content)?;
-        self.touched.clear();
-        self.least = self.content.len();
-        self.greatest = self.content.len();
+        self.history.wrote(at, bytes);
         Ok(())
     }
 
@@ -266,24 +185,24 @@ fn is_touched(ranges: &[(usize, usize)], place: usize) -> bool
     false
 }
 
-// Puts back the old bytes where no write can have reached.
-fn keep_untouched(bytes: &mut [u8], synced: &[u8], least: usize, touched: &[(usize, usize)])
+// Puts the content's bytes where no write has reached.
+fn keep_untouched(bytes: &mut [u8], content: &[u8], least: usize, touched: &[(usize, usize)])
     requires bytes { least ≤ length bytes.old }
-    requires synced { least ≤ length synced.now }
-    ensures kept { (k : ℕ) → k < least → ¬ (IsTouched touched.now k) → get_or bytes.new k 0 ≡ get_or synced.now k 0 }
+    requires content { least ≤ length content.now }
+    ensures kept { (k : ℕ) → k < least → ¬ (IsTouched touched.now k) → get_or bytes.new k 0 ≡ get_or content.now k 0 }
     ensures free { (k : ℕ) → ((least ≤ k) ⊎ IsTouched touched.now k) → get_or bytes.new k 0 ≡ get_or bytes.old k 0 }
 {
     for place in 0..least {
         if !is_touched(touched, place) {
-            bytes[place] = synced[place];
+            bytes[place] = content[place];
         }
     }
 }
 
 impl Disk for MemDisk {
     ghost use Rattle.std.specs.Prelude.{⊤};
+    ghost use Rattle.std.proofs.Common.{ap};
     ghost use Rattle.trace_disk.specs.MemDisk.{memory_state, memory_size, memory_failures, HasRoom};
-    ghost use Rattle.trace_disk.specs.Reads.{reads_replay, sizes};
 
     ghost honest = { λ _. ⊤ };
 
@@ -293,9 +212,9 @@ impl Disk for MemDisk {
 
     ghost state = { memory_state };
 
-    ghost sized = { λ m honest. sizes m.content.items _ m.content_is };
+    ghost sized = { λ m honest. ap length m.content_is };
 
-    ghost reads_now = { λ m honest. reads_replay m.start.items m.written.items (reverse m.calls.items) };
+    ghost reads_now = { λ m honest. m.may_stay };
 
     fn len(&self) -> u64 {
         self.content.len() as u64
@@ -342,10 +261,11 @@ impl Disk for MemDisk {
         ensures room_left { (b c : ℕ) → HasRoom self.old b (1 + c) → HasRoom self.new b c }
         ensures room_err { (b c : ℕ) → HasRoom self.old b c → OnErr result (HasRoom self.new b c) }
     {
-        match self.try_cut(len as usize) {
-            Ok(()) => Ok(()),
-            Err(_) => Err(self.failed()),
-        }
+        let len = len as usize;
+        self.content.truncate(len);
+        self.least = self.least.min(len);
+        self.history.cut_to(len);
+        Ok(())
     }
 
     fn sync(&mut self) -> Result<(), DiskFailed>
@@ -357,9 +277,10 @@ impl Disk for MemDisk {
         ensures room_left { (b c : ℕ) → HasRoom self.old b (1 + c) → HasRoom self.new b c }
         ensures room_err { (b c : ℕ) → HasRoom self.old b c → OnErr result (HasRoom self.new b c) }
     {
-        match self.try_sync() {
-            Ok(()) => Ok(()),
-            Err(_) => Err(self.failed()),
-        }
+        self.least = self.content.len();
+        self.greatest = self.content.len();
+        self.touched.clear();
+        self.history.synced();
+        Ok(())
     }
 }

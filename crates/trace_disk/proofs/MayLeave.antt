@@ -1,11 +1,8 @@
--- What a read gives is among what a crash may leave.
+-- What a read gives stays among what a crash may leave.
 use Rattle.std.proofs.Common.{◌≡◌, ◌⊎◌, inl, inr, ⊎_elim, ℕ, ◌+◌, ◌-◌, ◌<◌, ◌≤◌, List, [], ◌∷◌, ◌++◌, length, get_or, take, drop, refl, ◌∙◌, ap, arith, length-append, length-drop}
 use Rattle.std.proofs.lemmas.List.{length-take, get_or-take, get_or-drop, get_or_append_left, get_or-append_right}
-use Rattle.trace_disk.specs.declared.mem_disk.Call.{Call}
-use Rattle.trace_disk.specs.declared.mem_disk.Call.TheVariants.{Wrote, CutTo, Synced}
 use Rattle.rrv_model.specs.CrashModel.{Pending, IsCrash, IsTouched, all_synced}
 use Rattle.rrv_model.specs.DiskCalls.{overwritten, pending_write, pending_cut}
-use Rattle.trace_disk.specs.Replay.{replay}
 
 touched_before : (ranges : List (ℕ × ℕ)) (range : ℕ × ℕ) (place : ℕ) → IsTouched ranges place → IsTouched (ranges ++ range ∷ []) place
 touched_before [] range place touched = absurd touched
@@ -31,7 +28,7 @@ outside content bytes place k h (inr above) =
 where_is : (place count k : ℕ) → ((k < place) ⊎ ((place ≤ k) × (place + count ≤ k))) ⊎ ((place ≤ k) × (k < place + count))
 where_is place count k = grind arith
 
-reads_write : (pending : Pending) (content bytes : List ℕ) (place : ℕ) → IsCrash pending content → IsCrash (pending_write pending place (length bytes)) (overwritten content place bytes)
+pub reads_write : (pending : Pending) (content bytes : List ℕ) (place : ℕ) → IsCrash pending content → IsCrash (pending_write pending place (length bytes)) (overwritten content place bytes)
 reads_write pending content bytes place crash =
     let long = length-append (take place content ++ bytes) (drop (place + length bytes) content) in
     let front = length-append (take place content) bytes in
@@ -48,7 +45,7 @@ reads_write pending content bytes place crash =
           (where_is place (length bytes) k);
     }
 
-reads_cut : (pending : Pending) (content : List ℕ) (size : ℕ) → IsCrash pending content → IsCrash (pending_cut pending size) (take size content)
+pub reads_cut : (pending : Pending) (content : List ℕ) (size : ℕ) → IsCrash pending content → IsCrash (pending_cut pending size) (take size content)
 reads_cut pending content size crash =
     let taken = length-take size content in
     let low = crash.no_shorter in
@@ -59,14 +56,5 @@ reads_cut pending content size crash =
       kept = λ k h untouched. get_or-take size content k 0 (omega arith) ∙ crash.kept k (omega arith) untouched;
     }
 
-reads_synced : (content : List ℕ) → IsCrash (all_synced content) content
+pub reads_synced : (content : List ℕ) → IsCrash (all_synced content) content
 reads_synced content = record { no_shorter = omega arith; no_longer = omega arith; kept = λ k h untouched. refl }
-
-pub reads_replay : (start written : List ℕ) (calls : List Call) → IsCrash (replay start written calls).pending (replay start written calls).content
-reads_replay start written [] = reads_synced start
-reads_replay start written (Wrote place count ∷ older) = reads_write _ _ (drop (length written - count) written) place (reads_replay start (take (length written - count) written) older)
-reads_replay start written (CutTo size ∷ older) = reads_cut _ _ size (reads_replay start written older)
-reads_replay start written (Synced ∷ older) = reads_synced _
-
-pub sizes : (bytes content : List ℕ) → bytes ≡ content → length bytes ≡ length content
-sizes bytes content is = ap length is
