@@ -1,12 +1,15 @@
 #!/usr/bin/env python3
-"""Writes ../src/vectors.rt: instructions, and what qemu-riscv32 makes of them.
+"""Writes the last lines of ../stdin: instructions, and what qemu-riscv32 makes of them.
 
-Needs riscv64-unknown-elf-gcc and qemu-riscv32. Run in this folder: python3 vectors.py && (cd .. && rt fmt)
+Needs riscv64-unknown-elf-gcc and qemu-riscv32. Run in this folder: python3 vectors.py
 
 GNU as makes the words. A driver stores each at CODE, with FENCE.I, and jumps there with rs1 = a0, rs2 = a1 and rd = a2, which
 holds 9. All other words of the two pages below DATA are jumps to the driver, which link in t6, so that t6 tells where the
 hart went on. EBREAK comes back by a handler of SIGTRAP. The driver writes a2, the word at DATA, where the hart went on, the
 signal, and whether DATA was still reserved.
+
+A line names in front of `gives` what the instruction takes, and behind it what it is about; the rest is tested here to be as
+before. What stands in ../stdin above HEAD is kept.
 """
 
 import struct
@@ -215,67 +218,87 @@ def run(rows):
     return list(zip(struct.unpack(f"<{count}I", wrote[: 4 * count]), struct.iter_unpack("<5I", wrote[4 * count :])))
 
 
-def hex_of(value):
-    return f"0x{value:08X}"
-
-
-# The name of a table, what a row of it holds, its type, its rows, and their text, of the word, the row and what was written.
+# Rows, and what their lines say in front of `gives` beside a0, a1 and a2, and behind it.
 TABLES = [
-    ("IMMEDIATES", "Word, rs1; rd after", "(u32, u32, u32)", immediates, lambda w, r, o: (w, r[1], o[0])),
-    ("REGISTERS", "Word, rs1, rs2; rd after", "(u32, u32, u32, u32)", registers, lambda w, r, o: (w, r[1], r[2], o[0])),
-    ("JUMPS", "Word, rs1; rd and `pc` after", "(u32, u32, u32, u32)", jumps, lambda w, r, o: (w, r[1], o[0], o[2])),
-    ("BRANCHES", "Word, rs1, rs2; `pc` after", "(u32, u32, u32, u32)", branches, lambda w, r, o: (w, r[1], r[2], o[2])),
-    ("LOADS", "Word, rs1, memory; rd after", "(u32, u32, u32, u32)", loads, lambda w, r, o: (w, r[1], r[3], o[0])),
-    ("RESERVING_LOADS", "Word, memory; rd after", "(u32, u32, u32)", reserving_loads, lambda w, r, o: (w, r[3], o[0])),
-    ("STORES", "Word, rs1, rs2; memory after", "(u32, u32, u32, u32)", stores, lambda w, r, o: (w, r[1], r[2], o[1])),
-    ("CONDITIONALS", "Word, reservation, rs2; rd and memory after", "(u32, Option<u32>, u32, u32, u32)", conditionals,
-     lambda w, r, o: (w, f"Some({hex_of(r[4])})" if r[4] else "None", r[2], o[0], o[1])),
-    ("ATOMICS", "Word, rs2, memory; rd and memory after", "(u32, u32, u32, u32, u32)", atomics,
-     lambda w, r, o: (w, r[2], r[3], o[0], o[1])),
-    ("OTHERS", "Word, rs1; what came of it, and `pc` after", "(u32, u32, Stepped, u32)", others,
-     lambda w, r, o: (w, r[1], stepped(r, o), o[2])),
+    (immediates, (), ("a2",)),
+    (registers, (), ("a2",)),
+    (jumps, (), ("pc", "a2")),
+    (branches, (), ("pc",)),
+    (loads, ("data",), ("a2",)),
+    (reserving_loads, ("data",), ("a2", "reserved")),
+    (stores, ("data",), ("data",)),
+    (conditionals, ("data", "reserved"), ("a2", "data", "reserved")),
+    (atomics, ("data",), ("a2", "data")),
+    (others, (), ("end", "pc")),
 ]
 
-HEAD = """//! Instructions, and what qemu-riscv32 7.2.22 makes of them; GNU as 2.40 made the words. `tools/vectors.py` wrote this file and
-//! tells how. The instruction is at 0x10000, rs1 is a0, rs2 is a1, and rd is a2, which holds 9 before, or x0. Memory is the word
-//! at 0x11000, which is 0x11111111 before where a row doesn't tell it, and is followed by zeros.
-
-use crate::Stepped;
-use rrv_model::machine::FaultKind;
+HEAD = """\
+# The lines from here on are written by tools/vectors.py, which tells how: what qemu-riscv32 7.2.22 makes of instructions; GNU as 2.40
+# made the words. The instruction's rs1 is a0, its rs2 is a1, and its rd is a2, which holds 9 before, or x0.
 """
 
-
-def stepped(row, wrote):
-    if wrote[3] == 5:
-        return "Stepped::Fault(FaultKind::Breakpoint)"
-    return "Stepped::Call" if row[0] == "ecall" else "Stepped::Next"
+SIGTRAP = 5
 
 
-def check(name, row, wrote):
-    """What a row doesn't tell."""
-    assert wrote[3] == (5 if row[0] == "ebreak" else 0), row
-    if name in ("IMMEDIATES", "REGISTERS", "LOADS", "RESERVING_LOADS", "STORES", "CONDITIONALS", "ATOMICS"):
-        assert wrote[2] == CODE + 4, row
-    if name in ("BRANCHES", "STORES", "OTHERS"):
-        assert wrote[0] == 9, row
-    if name not in ("STORES", "CONDITIONALS", "ATOMICS"):
-        assert wrote[1] == row[3], row
-    if name in ("RESERVING_LOADS", "CONDITIONALS"):
-        assert wrote[4] == (name == "CONDITIONALS"), row
+def number(value):
+    if value is None:
+        return "none"
+    return str(value) if value < 10 else f"0x{value:08X}"
+
+
+def end(text, signal):
+    """How the step ended, by its word in a line."""
+    if signal == SIGTRAP:
+        return "breakpoint"
+    return "call" if text == "ecall" else "next"
+
+
+def check(row, before, behind, wrote):
+    """What a line doesn't tell."""
+    a2, data, pc, signal, freed = wrote
+    assert signal == (SIGTRAP if row[0] == "ebreak" else 0), row
+    assert "pc" in behind or pc == CODE + 4, row
+    assert "a2" in behind or a2 == 9, row
+    assert "data" in behind or data == row[3], row
+    if "reserved" in behind:
+        assert freed == ("reserved" in before), row
+
+
+def line(row, before, behind, word, wrote):
+    """The line of a row, of which this word was made, and this written."""
+    check(row, before, behind, wrote)
+    text, a0, a1, data, reserved = row
+    a2_behind, data_behind, pc, signal, freed = wrote
+    taken = {"a0": a0, "a1": a1, "a2": 9}
+    if "data" in before:
+        taken["data"] = data
+    if "reserved" in before:
+        taken["reserved"] = reserved
+    given = {"pc": pc, "a2": a2_behind, "data": data_behind, "reserved": None if freed else DATA}
+    parts = [f"word 0x{word:08X}"]
+    # what is 0, or not reserved, needs no word
+    parts += [f"{name}={number(value)}" for name, value in taken.items() if value]
+    parts.append("gives")
+    if "end" in behind and end(text, signal) != "next":
+        parts.append(f"end={end(text, signal)}")
+    parts += [f"{name}={number(value)}" for name, value in given.items() if name in behind]
+    # a FENCE comes back without what is ignored of it
+    if text.split()[0] == "fence":
+        parts.append(f"again={number(0xF)}")
+    return " ".join([*parts, "#", text])
 
 
 def main():
-    lines = [HEAD]
-    for name, doc, kind, rows, of in TABLES:
+    with open("../stdin") as file:
+        by_hand = file.read().partition(HEAD)[0]
+    lines = []
+    for rows, before, behind in TABLES:
         rows = list(rows())
-        lines += [f"/// {doc}.", f"pub const {name}: [{kind}; {len(rows)}] = ["]
         for row, (word, wrote) in zip(rows, run(rows)):
-            check(name, row, wrote)
-            cells = [it if isinstance(it, str) else hex_of(it) for it in of(word, row, wrote)]
-            lines.append(f"    ({', '.join(cells)}), // {row[0]}")
-        lines += ["];", ""]
-    with open("../src/vectors.rt", "w") as file:
-        file.write("\n".join(lines))
+            lines.append(line(row, before, behind, word, wrote))
+    with open("../stdin", "w") as file:
+        file.write(by_hand + HEAD + "\n" + "\n".join(lines) + "\n")
 
 
-main()
+if __name__ == "__main__":
+    main()

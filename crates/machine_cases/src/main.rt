@@ -1,0 +1,105 @@
+//! Goes through cases of instructions and of ELF files, which come as lines of text. Prints each line that isn't understood or does
+//! not hold, and last how many lines there were. A number is written as code writes it, as 17 or 0x11; what stands in brackets may be
+//! left out; an empty line, one that begins with `#`, and what stands behind ` # ` say nothing.
+//!
+//! Instructions:
+//! - `word WORD [NAME=VALUE ..] gives [NAME=VALUE ..]`: one step of this instruction. It stands at 0x10000, in a page that may be read,
+//!   written and executed, before a page like it, at 0x11000, that begins with a word of data. A name in front of `gives` is one of
+//!   `pc` (else 0x10000), `a0` to `a3`, `data` (else 0) and `reserved` (else `none`), the reserved address. Behind it stands what the
+//!   step changes: the same names, of which `pc` is the next instruction where nothing is said; `end`, `next` where nothing is said,
+//!   else `call` or the fault as `bad-instruction`; and `again`, the word that the instruction is encoded as, which is the same word
+//!   where nothing is said, and `none` where the word is no instruction. All other registers are 0 before and behind the step.
+//! - `decodes WORD AGAIN INSTRUCTION`: the word stands for this instruction, as `{:?}` prints it, which is encoded as the word AGAIN.
+//!   `decodes WORD none`: it stands for none.
+//!
+//! ELF files, each line about the file that those before it made:
+//! - `file`: an empty one. `bytes BYTE ..` and `words WORD ..` add to it, a word with its low byte first. `length N` cuts it, or adds
+//!   zeros. `put OFFSET BYTE ..` replaces bytes of it.
+//! - `header WORD ..`: puts the next program header at its place in the table behind the ELF header, and counts it there.
+//! - `keep` keeps the file as it is, and `again` takes it up as it was kept.
+//! - `refusal N`: why it is refused, by number; `none` where it is an image.
+//! - `patch OFFSET BYTE .. refusal N`: the same of a copy with these bytes in place of its own.
+//! - `cut FIRST LAST refusal N`: the same of its first FIRST bytes, and so on up to its first LAST bytes.
+//! - `image ENTRY HEADERS COUNT END LOADS`: what it is as an image: its entry, the address of its program headers and their count, the
+//!   opening break, and the count of its PT_LOADs, whose image keeps the bytes of the file.
+//! - `load INDEX KIND OFFSET ADDRESS FILE MEMORY FLAGS`: one of these.
+//! - `mutate COPIES SEED`: this many copies with wrong bytes are each an image, or refused by the fault that a plain reading of them
+//!   finds.
+#![tactic(auto)]
+
+mod files;
+mod instructions;
+mod lines;
+mod mutations;
+mod plain;
+
+use files::Subject;
+use std::alloc::Global;
+use std::io;
+use std::process::ExitCode;
+
+/// How far a run is.
+#[derive(Drop)]
+struct Run {
+    subject: Subject,
+    instructions: u32,
+    files: u32,
+    wrong: u32,
+}
+
+impl Run {
+    fn new(alloc: Global) -> Run {
+        Run {
+            subject: Subject::new(alloc),
+            instructions: 0,
+            files: 0,
+            wrong: 0,
+        }
+    }
+
+    /// Takes a line, and tells whether it holds; None where it isn't understood, or no memory is left.
+    fn take(&mut self, alloc: Global, line: &str) -> Option<bool> {
+        if line.is_empty() || line.starts_with('#') {
+            return Some(true);
+        }
+        let (said, _) = line.split_once(" # ").unwrap_or((line, ""));
+        let (first, rest) = said.split_once(' ').unwrap_or((said, ""));
+        match first {
+            "word" => {
+                self.instructions = self.instructions.saturating_add(1);
+                instructions::steps(alloc, rest)
+            }
+            "decodes" => {
+                self.instructions = self.instructions.saturating_add(1);
+                instructions::decodes(alloc, rest)
+            }
+            _ => {
+                self.files = self.files.saturating_add(1);
+                self.subject.take(alloc, first, rest)
+            }
+        }
+    }
+}
+
+fn main(rt: HostRuntime) -> io::Result<ExitCode> {
+    let mut run = Run::new(rt.alloc());
+    for line in rt.lines(rt.alloc()) {
+        let line = line?;
+        let verdict = match run.take(rt.alloc(), line.as_str()) {
+            Some(true) => continue,
+            Some(false) => "does not hold",
+            None => "isn't understood",
+        };
+        run.wrong = run.wrong.saturating_add(1);
+        println!(rt; "{verdict}: {}", line.as_str())?;
+    }
+    println!(rt;
+        "{} lines of instructions, {} lines of files, {} wrong",
+        run.instructions, run.files, run.wrong
+    )?;
+    if run.wrong == 0 {
+        Ok(ExitCode::SUCCESS)
+    } else {
+        Ok(ExitCode::FAILURE)
+    }
+}

@@ -1,0 +1,64 @@
+//! Growths that may be refused, as under `rt try --test --fail-alloc N`.
+
+use super::rows::{Row, play_on};
+use super::{CODE, DATA, same, same_numbers};
+use guest_pages::{PageFault, Space};
+use rrv_model::refusal::Memory;
+use std::test::Fail;
+
+#[test]
+fn a_refused_mapping_leaves_all_as_before(rt: HostRuntime) -> Result<(), Fail> {
+    let mut space = Space::new(rt.alloc());
+    if let Err(fault) = space.map(1, 3, DATA) {
+        same(&rt, &"the first", fault, PageFault::Memory);
+        same(&rt, &"no page", space.page_count(), 0);
+        space.map(1, 3, DATA)?;
+    }
+    space.store_word(0x3FFC, 0x0403_0201)?;
+    if let Err(fault) = space.map(3, 3, CODE) {
+        same(&rt, &"the second", fault, PageFault::Memory);
+        let rows = [Row::Pages(3), Row::Word(0x3FFC, Some(0x0403_0201))];
+        play_on(&rt, &mut space, &rows);
+        space.map(3, 3, CODE)?;
+    }
+    if let Err(fault) = space.cover(6, DATA) {
+        same(&rt, &"the third", fault, PageFault::Memory);
+        same(&rt, &"five pages", space.page_count(), 5);
+        space.cover(6, DATA)?;
+    }
+    same(&rt, &"six pages", space.page_count(), 6);
+    Ok(())
+}
+
+#[test]
+fn a_refused_snapshot_leaves_all_as_before(rt: HostRuntime) -> Result<(), Fail> {
+    let mut space = Space::new(rt.alloc());
+    match space.map(1, 3, DATA) {
+        Ok(()) => {}
+        Err(_) => space.map(1, 3, DATA)?,
+    }
+    space.store_word(0x1FFE, 0x0403_0201)?;
+    let first = match space.snapshot() {
+        Ok(token) => token,
+        Err(Memory) => space.snapshot()?,
+    };
+    space.store_word(0x1FFE, 0)?;
+    let second = match space.snapshot() {
+        Ok(token) => token,
+        Err(Memory) => {
+            same(&rt, &"the word", space.load_word(0x1FFE), Some(0));
+            let page = space.snapshot_page(&first, 1);
+            let byte = page.map(|page| page.bytes[0xFFE]);
+            same(&rt, &"the byte as it was", byte, Some(1));
+            space.snapshot()?
+        }
+    };
+    let changed = match space.changed_since(&first) {
+        Ok(changed) => changed,
+        Err(Memory) => space.changed_since(&first)?,
+    };
+    same_numbers(&rt, &"since the first", &changed, &[1, 2]);
+    space.drop_snapshot(first);
+    space.drop_snapshot(second);
+    Ok(())
+}

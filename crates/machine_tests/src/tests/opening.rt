@@ -1,0 +1,71 @@
+//! The 96-byte guest at its start.
+
+use super::rows::{Row, play_on};
+use super::{EXIT_FIVE, same};
+use elf_load::image::parse;
+use guest_opening::{open_space, opening_keeps_rules, opening_thread};
+use std::test::Fail;
+
+const STACK_POINTER: u32 = 0x7FFF_FFA0;
+
+/// The words from the stack pointer on.
+const WORDS: [u32; 18] = [
+    1,
+    0x7FFF_FFEE,
+    0,
+    0,
+    3,
+    0x1_0034,
+    4,
+    0x20,
+    5,
+    1,
+    6,
+    0x1000,
+    9,
+    0x1_0054,
+    0x19,
+    0x7FFF_FFF0,
+    0,
+    0,
+];
+
+#[test]
+fn opens_exit_five(rt: HostRuntime) -> Result<(), Fail> {
+    let image = parse(rt.alloc(), &EXIT_FIVE)?;
+    let mut space = open_space(rt.alloc(), &image, b"a", &[7; 16])?;
+    let rows = [
+        Row::Pages(257),
+        Row::Fetch(0x1_0054, Some(0x0050_0513)),
+        // behind the file
+        Row::Word(0x1_0060, Some(0)),
+        // the name, and what stands behind it
+        Row::Byte(0x7FFF_FFEE, Some(b'a')),
+        Row::Byte(0x7FFF_FFEF, Some(0)),
+        // random bytes
+        Row::Word(0x7FFF_FFFC, Some(0x0707_0707)),
+    ];
+    play_on(&rt, &mut space, &rows);
+    Ok(())
+}
+
+#[test]
+fn starts_at_the_entry(rt: HostRuntime) -> Result<(), Fail> {
+    let image = parse(rt.alloc(), &EXIT_FIVE)?;
+    let thread = opening_thread(&image, b"a");
+    same(&rt, &"pc", thread.regs.pc, 0x1_0054);
+    same(&rt, &"sp", thread.regs.registers[2], STACK_POINTER);
+    opening_keeps_rules(&image, b"a", &[7; 16]);
+    Ok(())
+}
+
+#[test]
+fn stands_on_its_words(rt: HostRuntime) -> Result<(), Fail> {
+    let image = parse(rt.alloc(), &EXIT_FIVE)?;
+    let mut space = open_space(rt.alloc(), &image, b"a", &[7; 16])?;
+    for (place, word) in WORDS.iter().enumerate() {
+        let address = STACK_POINTER + 4 * place as u32;
+        play_on(&rt, &mut space, &[Row::Word(address, Some(*word))]);
+    }
+    Ok(())
+}
