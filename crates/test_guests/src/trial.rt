@@ -48,11 +48,15 @@ pub enum Question {
     Clear(u32),
     /// The address at which a thread waits.
     WaitsAt(u32),
+    /// Whether a thread runs: 1 or 0.
+    Runs(u32),
+    /// The address that is reserved.
+    Reservation,
     /// The tid of the next thread.
     NextTid,
     /// How many threads there are.
     Live,
-    /// Whether a thread runs: 1 or 0.
+    /// Whether one of the threads runs: 1 or 0.
     HasRunning,
     /// How many instructions ran.
     Ran,
@@ -319,6 +323,8 @@ impl Trial<'_> {
             Question::Pc(tid) => Some(self.guest.thread(tid)?.regs.pc),
             Question::Clear(tid) => Some(self.guest.thread(tid)?.clear),
             Question::WaitsAt(tid) => self.guest.thread(tid)?.waits_at,
+            Question::Runs(tid) => Some(u32::from(self.guest.is_running(tid))),
+            Question::Reservation => self.guest.reservation(),
             Question::NextTid => Some(self.guest.threads().next_tid()),
             Question::Live => Some(self.guest.threads().live()),
             Question::HasRunning => Some(u32::from(self.guest.has_running())),
