@@ -3,4 +3,5 @@
 
 pub mod files;
 pub mod outsides;
+pub mod trial;
 pub mod words;

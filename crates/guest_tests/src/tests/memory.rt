@@ -1,17 +1,20 @@
-//! Calls of which a growth may be refused, as under `rt try --test --fail-alloc N -- made_again`. Each test opens two guests first, so
+//! Calls of which a growth may be refused, as under `rt try --test --fail-alloc N -- a_refused`. Each test opens two guests first, so
 //! the growths of its call are those behind these.
 
-use super::{A1_HEADER, ECALL, Nothing, a0, a2, a7, answer_of, guest_of, put_word};
-use guest_calls::{Guest, Outside, RunEnd};
+use crate::tests::rows::{Row, play, same, trial_of};
+use guest_calls::RunEnd;
 use rrv_model::machine::GuestEnd;
-use rrv_model::record::CallRecord;
 use rrv_model::refusal::Memory;
 use std::alloc::Global;
 use std::process::Abort;
 use std::test::Fail;
+use test_guests::trial::{Question, Trial};
+use test_guests::words::{A1_FILE, ECALL, a0, a2, a7};
 
 /// The first page of the stack.
 const STACK: u32 = 0x7FF0_0000;
+/// Two buffers, of three and of two bytes, and a word that an exit clears.
+const ON_THE_STACK: [u32; 5] = [0x1_0001, 3, 0x1_0000, 2, 0xFFFF_FFFF];
 /// `lui a1, 0x7ff00`: the first page of the stack.
 const A1_STACK: u32 = 0x7FF0_05B7;
 /// `lui a1, 2`: two pages.
@@ -41,110 +44,121 @@ const A3_PLAIN: u32 = 0x0220_0693;
 /// `li a3, 0x32`: PRIVATE, ANONYMOUS and FIXED.
 const A3_FIXED: u32 = 0x0320_0693;
 
-/// An outside that counts how often it is asked.
-#[derive(Drop)]
-struct Counting {
-    asked: u32,
+/// A guest behind the ECALL of its code, whose clear address is that of the last word on its stack.
+fn behind_call(rt: &impl Abort, alloc: Global, code: &[u32]) -> Result<Trial<'static>, Fail> {
+    let mut trial = trial_of(alloc, code, &[])?;
+    let mut address = STACK;
+    for word in ON_THE_STACK {
+        same(rt, &"a word", trial.put_word(address, word), true);
+        address = address.wrapping_add(4);
+    }
+    let rows = [Row::Call(1, 96, [STACK + 16, 0, 0, 0, 0], 1)];
+    play(rt, alloc, &mut trial, &rows)?;
+    let end = trial.run(1, 64).map(|run| run.end);
+    same(rt, &"up to the call", end, Some(RunEnd::Call));
+    Ok(trial)
 }
 
-impl Outside for Counting {
-    ghost gives = { λ _ _ _ _. Unit {0} };
-
-    fn read(&mut self, _: &mut [u8]) -> usize {
-        self.asked = self.asked.saturating_add(1);
-        0
-    }
-
-    fn random(&mut self, _: &mut [u8]) {
-        self.asked = self.asked.saturating_add(1);
-    }
-
-    fn now(&mut self, _: u32) -> (u64, u32) {
-        self.asked = self.asked.saturating_add(1);
-        (0, 0)
-    }
-}
-
-/// A guest behind the ECALL of its code: at the start of the stack stand two buffers, of three and of two bytes, and the word behind
-/// them is its clear address.
-fn calling(rt: &impl Abort, alloc: Global, code: [u32; 8]) -> Result<Guest, Fail> {
-    let mut guest = guest_of(alloc, code)?;
-    for (place, word) in [0x1_0001, 3, 0x1_0000, 2, 0xFFFF_FFFF].iter().enumerate() {
-        put_word(&mut guest, STACK + 4 * place as u32, *word)?;
-    }
-    let clear = [STACK + 16, 0, 0, 0];
-    let _ = answer_of(rt, alloc, &mut guest, &mut Nothing, 96, clear)?;
-    assert!(rt; guest.is_running(1));
-    let run = guest.run_thread(1, 64);
-    assert_eq!(rt; run.end, RunEnd::Call);
-    Ok(guest)
-}
-
-/// A guest behind its call, and what that recorded. Where a growth is refused, the guest is as it was and nothing was asked, and the
-/// same call is made again.
-fn called(rt: &impl Abort, alloc: Global, code: [u32; 8]) -> Result<(CallRecord, Guest), Fail> {
-    let before = calling(rt, alloc, code)?;
-    let mut guest = calling(rt, alloc, code)?;
-    let mut outside = Counting { asked: 0 };
-    assert!(rt; guest.is_running(1));
-    assert!(rt; guest.ended().is_none());
-    let record = match guest.call(alloc, 1, &mut outside) {
-        Ok(record) => record,
+/// Makes the call of thread 1, and gives its result. Where a growth is refused, the guest is as it was before and nothing was asked,
+/// and the same call is made again.
+fn call_again(
+    rt: &impl Abort,
+    alloc: Global,
+    trial: &mut Trial<'_>,
+    before: &Trial<'_>,
+) -> Result<Option<u32>, Fail> {
+    match trial.answer(alloc, 1) {
+        Ok(answered) => Ok(answered),
         Err(Memory) => {
-            assert!(rt; guest.same(&before));
-            assert!(rt; guest.put_out().is_none());
-            assert_eq!(rt; outside.asked, 0);
-            assert!(rt; guest.is_running(1));
-            assert!(rt; guest.ended().is_none());
-            guest.call(alloc, 1, &mut outside)?
+            same(rt, &"the guest is as it was", trial.same(before), true);
+            same(rt, &"nothing is put out", trial.put_out(), None);
+            same(rt, &"times asked", trial.find(Question::Asked), Some(0));
+            Ok(trial.answer(alloc, 1)?)
         }
-    };
-    Ok((record, guest))
+    }
+}
+
+/// Makes the call that instructions come to, and then takes rows.
+fn check(
+    rt: &impl Abort,
+    alloc: Global,
+    code: &[u32],
+    want: u32,
+    rows: &[Row],
+) -> Result<(), Fail> {
+    let before = behind_call(rt, alloc, code)?;
+    let mut trial = behind_call(rt, alloc, code)?;
+    let answered = call_again(rt, alloc, &mut trial, &before)?;
+    same(rt, &"the result", answered, Some(want));
+    play(rt, alloc, &mut trial, rows)
+}
+
+/// A guest whose thread 1 is to make this call.
+fn before_call<'a>(
+    rt: &impl Abort,
+    alloc: Global,
+    number: u32,
+    arguments: [u32; 5],
+    input: &'a [u8],
+) -> Result<Trial<'a>, Fail> {
+    let mut trial = trial_of(alloc, &[0], input)?;
+    let is_ready = trial.prepare(alloc, 2, 1, number, arguments)?;
+    same(rt, &"the registers of the call", is_ready, true);
+    same(rt, &"the stack", trial.find(Question::Word(STACK)), Some(0));
+    Ok(trial)
+}
+
+/// Makes a call that asks an outside, and then takes rows.
+fn check_asking(
+    rt: &impl Abort,
+    alloc: Global,
+    number: u32,
+    arguments: [u32; 5],
+    want: u32,
+    rows: &[Row],
+) -> Result<(), Fail> {
+    let before = before_call(rt, alloc, number, arguments, &[])?;
+    let mut trial = before_call(rt, alloc, number, arguments, &[1, 2, 3, 4])?;
+    let answered = call_again(rt, alloc, &mut trial, &before)?;
+    same(rt, &"the result", answered, Some(want));
+    let asked = trial.find(Question::Asked);
+    same(rt, &"times asked", asked, Some(1));
+    play(rt, alloc, &mut trial, rows)
 }
 
 #[test]
 fn a_refused_write_is_made_again(rt: HostRuntime) -> Result<(), Fail> {
-    let code = [a0(2), A1_HEADER, a2(4), a7(64), ECALL, 0, 0, 0];
-    let (record, guest) = called(&rt, rt.alloc(), code)?;
-    assert_eq!(rt; record.result, 4);
-    let (descriptor, bytes) = guest.put_out().ok_or("nothing put out")?;
-    assert_eq!(rt; descriptor, 2);
-    assert_eq!(rt; bytes, [0x7F, 0x45, 0x4C, 0x46].as_slice());
-    Ok(())
+    let code = [a0(2), A1_FILE, a2(4), a7(64), ECALL];
+    let rows = [Row::PutOut(Some((2, &[0x7F, 0x45, 0x4C, 0x46])))];
+    check(&rt, rt.alloc(), &code, 4, &rows)
 }
 
 #[test]
 fn a_refused_writev_is_made_again(rt: HostRuntime) -> Result<(), Fail> {
-    let code = [a0(1), A1_STACK, a2(2), a7(66), ECALL, 0, 0, 0];
-    let (record, guest) = called(&rt, rt.alloc(), code)?;
-    assert_eq!(rt; record.result, 5);
-    let (descriptor, bytes) = guest.put_out().ok_or("nothing put out")?;
-    assert_eq!(rt; descriptor, 1);
-    assert_eq!(rt; bytes, [0x45, 0x4C, 0x46, 0x7F, 0x45].as_slice());
-    Ok(())
+    let code = [a0(1), A1_STACK, a2(2), a7(66), ECALL];
+    let rows = [Row::PutOut(Some((1, &[0x45, 0x4C, 0x46, 0x7F, 0x45])))];
+    check(&rt, rt.alloc(), &code, 5, &rows)
 }
 
 #[test]
 fn a_refused_exit_is_made_again(rt: HostRuntime) -> Result<(), Fail> {
-    let code = [a0(5), a7(93), ECALL, 0, 0, 0, 0, 0];
-    let (record, guest) = called(&rt, rt.alloc(), code)?;
-    assert_eq!(rt; record.result, 0);
-    let range = record.written.as_slice().first().ok_or("nothing written")?;
-    assert_eq!(rt; range.address, STACK + 16);
-    assert_eq!(rt; range.bytes.as_slice(), [0; 4].as_slice());
-    assert_eq!(rt; guest.space().load_word(STACK + 16), Some(0));
-    assert_eq!(rt; guest.ended(), Some(GuestEnd::Exited(5)));
-    Ok(())
+    let code = [a0(5), a7(93), ECALL];
+    let rows = [
+        Row::Wrote(0, (STACK + 16, &[0; 4])),
+        Row::Finds(Question::Word(STACK + 16), Some(0)),
+        Row::Ended(Some(GuestEnd::Exited(5))),
+    ];
+    check(&rt, rt.alloc(), &code, 0, &rows)
 }
 
 #[test]
 fn a_refused_brk_is_made_again(rt: HostRuntime) -> Result<(), Fail> {
-    let code = [A0_BEHIND, A0_ONE_MORE, a7(214), ECALL, 0, 0, 0, 0];
-    let (record, guest) = called(&rt, rt.alloc(), code)?;
-    assert_eq!(rt; record.result, 0x1_3001);
-    assert_eq!(rt; guest.program_break(), 0x1_3001);
-    assert_eq!(rt; guest.page_count(), 260);
-    Ok(())
+    let code = [A0_BEHIND, A0_ONE_MORE, a7(214), ECALL];
+    let rows = [
+        Row::Finds(Question::Break, Some(0x1_3001)),
+        Row::Finds(Question::Pages, Some(260)),
+    ];
+    check(&rt, rt.alloc(), &code, 0x1_3001, &rows)
 }
 
 #[test]
@@ -157,33 +171,32 @@ fn a_refused_mmap_is_made_again(rt: HostRuntime) -> Result<(), Fail> {
         A3_PLAIN,
         a7(222),
         ECALL,
-        0,
     ];
-    let (record, guest) = called(&rt, rt.alloc(), code)?;
-    assert_eq!(rt; record.result, 0x6FFF_D000);
-    assert_eq!(rt; guest.page_count(), 260);
-    assert!(rt; guest.space().is_writable(0x6FFF_D000, 12_288));
-    Ok(())
+    let rows = [
+        Row::Finds(Question::Pages, Some(260)),
+        Row::Finds(Question::Writable(0x6FFF_D000, 12_288), Some(1)),
+    ];
+    check(&rt, rt.alloc(), &code, 0x6FFF_D000, &rows)
 }
 
 #[test]
 fn a_refused_fixed_mmap_is_made_again(rt: HostRuntime) -> Result<(), Fail> {
-    let code = [A0_IMAGE, A1_PAGES, a2(3), A3_FIXED, a7(222), ECALL, 0, 0];
-    let (record, guest) = called(&rt, rt.alloc(), code)?;
-    assert_eq!(rt; record.result, 0x1_0000);
-    assert_eq!(rt; guest.page_count(), 258);
-    assert_eq!(rt; guest.space().load_word(0x1_0000), Some(0));
-    Ok(())
+    let code = [A0_IMAGE, A1_PAGES, a2(3), A3_FIXED, a7(222), ECALL];
+    let rows = [
+        Row::Finds(Question::Pages, Some(258)),
+        Row::Finds(Question::Word(0x1_0000), Some(0)),
+    ];
+    check(&rt, rt.alloc(), &code, 0x1_0000, &rows)
 }
 
 #[test]
 fn a_refused_wait_is_made_again(rt: HostRuntime) -> Result<(), Fail> {
-    let code = [A0_STACK, A0_NEXT_WORD, a2(3), a7(98), ECALL, 0, 0, 0];
-    let (record, guest) = called(&rt, rt.alloc(), code)?;
-    assert_eq!(rt; record.result, 0);
-    assert_eq!(rt; guest.threads().waiting(), [1u32].as_slice());
-    assert!(rt; !guest.has_running());
-    Ok(())
+    let code = [A0_STACK, A0_NEXT_WORD, a2(3), a7(98), ECALL];
+    let rows = [
+        Row::Waiting(&[1]),
+        Row::Finds(Question::HasRunning, Some(0)),
+    ];
+    check(&rt, rt.alloc(), &code, 0, &rows)
 }
 
 #[test]
@@ -195,14 +208,29 @@ fn a_refused_clone_is_made_again(rt: HostRuntime) -> Result<(), Fail> {
         A4_NEXT_PAGE,
         a7(220),
         ECALL,
-        0,
-        0,
     ];
-    let (record, guest) = called(&rt, rt.alloc(), code)?;
-    assert_eq!(rt; record.result, 2);
-    assert_eq!(rt; record.written.as_slice().len(), 2);
-    assert_eq!(rt; guest.space().load_word(STACK), Some(2));
-    assert_eq!(rt; guest.space().load_word(STACK + 4096), Some(2));
-    assert_eq!(rt; guest.threads().next_tid(), 3);
-    Ok(())
+    let rows = [
+        Row::Finds(Question::Ranges, Some(2)),
+        Row::Finds(Question::Word(STACK), Some(2)),
+        Row::Finds(Question::Word(STACK + 4096), Some(2)),
+        Row::Finds(Question::NextTid, Some(3)),
+    ];
+    check(&rt, rt.alloc(), &code, 2, &rows)
+}
+
+#[test]
+fn a_refused_read_loses_no_input(rt: HostRuntime) -> Result<(), Fail> {
+    let rows = [Row::Finds(Question::Word(STACK), Some(0x0403_0201))];
+    check_asking(&rt, rt.alloc(), 63, [0, STACK, 10, 0, 0], 4, &rows)
+}
+
+#[test]
+fn a_refused_clock_gettime_asks_nothing(rt: HostRuntime) -> Result<(), Fail> {
+    let rows = [Row::Finds(Question::Word(STACK), Some(1))];
+    check_asking(&rt, rt.alloc(), 403, [1, STACK, 0, 0, 0], 0, &rows)
+}
+
+#[test]
+fn a_refused_getrandom_asks_nothing(rt: HostRuntime) -> Result<(), Fail> {
+    check_asking(&rt, rt.alloc(), 278, [STACK, 16, 0, 0, 0], 16, &[])
 }

@@ -3,14 +3,19 @@
 ghost use Rattle.std.specs.Prelude.{◌≡◌, IfOk, IsSome};
 ghost use Rattle.guest_calls.specs.Snapshots.{guest_snapshots};
 
-use crate::tests::{Nothing, answer_of, guest_of};
+use crate::tests::rows::{Row, play, same, trial_of};
 use guest_calls::{Guest, SetPageFault, SetRestFault};
 use guest_pages::{PageView, Snapshot};
 use rrv_model::items::Items;
 use rrv_model::machine::{GuestEnd, Permissions, Regs, Thread};
 use rrv_model::record::{Rest, ThreadPart};
 use std::alloc::Global;
+use std::fmt::Display;
+use std::process::Abort;
 use std::test::Fail;
+use test_guests::trial::{Question, Trial};
+
+const MMAP: u32 = 222;
 
 const DATA: Permissions = Permissions {
     read: true,
@@ -30,15 +35,17 @@ const WRITE_ALONE: Permissions = Permissions {
     execute: false,
 };
 
-/// Puts a page full of one byte into a guest.
-fn put_page(
+/// Puts a page full of one byte into a guest; None unmaps it.
+pub(crate) fn put_page(
     guest: &mut Guest,
     number: u32,
-    permissions: Permissions,
-    byte: u8,
+    page: Option<(Permissions, u8)>,
 ) -> Result<(), SetPageFault>
     ensures { guest_snapshots guest.new ≡ guest_snapshots guest.old }
 {
+    let Some((permissions, byte)) = page else {
+        return guest.set_page(number, None);
+    };
     let bytes = [byte; 4096];
     let page = PageView {
         permissions,
@@ -48,25 +55,27 @@ fn put_page(
 }
 
 /// A guest, with one page in place of the image's, one more, and one fewer, and the snapshot of what it was before.
-fn with_other_pages(alloc: Global) -> Result<(Guest, Snapshot), Fail>
-    ensures { IfOk result (λ made. IsSome (guest_snapshots made.0 made.1)) }
+fn with_other_pages(alloc: Global) -> Result<(Trial<'static>, Snapshot), Fail>
+    ensures { IfOk result (λ made. IsSome (guest_snapshots made.0.guest made.1)) }
 {
-    let mut guest = guest_of(alloc, [0; 8])?;
-    let before = guest.snapshot()?;
-    put_page(&mut guest, 0x10, CODE, 3)?;
-    put_page(&mut guest, 1, CODE, 3)?;
-    guest.set_page(0x7_FFFF, None)?;
-    Ok((guest, before))
+    let mut trial = trial_of(alloc, &[0; 8], &[])?;
+    let before = trial.guest.snapshot()?;
+    put_page(&mut trial.guest, 0x10, Some((CODE, 3)))?;
+    put_page(&mut trial.guest, 1, Some((CODE, 3)))?;
+    put_page(&mut trial.guest, 0x7_FFFF, None)?;
+    Ok((trial, before))
 }
 
 #[test]
 fn pages_are_put_into_a_guest(rt: HostRuntime) -> Result<(), Fail> {
-    let (guest, _) = with_other_pages(rt.alloc())?;
-    assert_eq!(rt; guest.page_count(), 257);
-    assert_eq!(rt; guest.space().fetch(0x1_0000), Some(0x0303_0303));
-    assert_eq!(rt; guest.space().load_byte(0x7FFF_FFFF), None);
-    assert_eq!(rt; guest.ran(), 0);
-    Ok(())
+    let (mut trial, _) = with_other_pages(rt.alloc())?;
+    let rows = [
+        Row::Finds(Question::Pages, Some(257)),
+        Row::Finds(Question::Code(0x1_0000), Some(0x0303_0303)),
+        Row::Finds(Question::Byte(0x7FFF_FFFF), None),
+        Row::Finds(Question::Ran, Some(0)),
+    ];
+    play(&rt, rt.alloc(), &mut trial, &rows)
 }
 
 /// The second byte of a page that a snapshot of a guest keeps.
@@ -79,15 +88,26 @@ fn kept_byte(guest: &Guest, before: &Snapshot, number: u32) -> Option<u8>
         .map(|page| page.bytes[1])
 }
 
+/// The second byte of the image's page and of page 1, as the snapshot of a guest with other pages keeps them.
+fn kept_bytes(alloc: Global) -> Result<[Option<u8>; 2], Fail> {
+    let (trial, before) = with_other_pages(alloc)?;
+    let image = kept_byte(&trial.guest, &before, 0x10);
+    Ok([image, kept_byte(&trial.guest, &before, 1)])
+}
+
+/// The pages of a guest with other pages that aren't as its snapshot keeps them.
+fn changed_pages(alloc: Global) -> Result<Vec<u32>, Fail> {
+    let (trial, before) = with_other_pages(alloc)?;
+    Ok(trial.guest.space().changed_since(&before)?)
+}
+
 #[test]
 fn a_snapshot_stays_while_pages_are_put(rt: HostRuntime) -> Result<(), Fail> {
-    let (guest, before) = with_other_pages(rt.alloc())?;
-    assert_eq!(rt; kept_byte(&guest, &before, 0x10), Some(0x45));
-    assert_eq!(rt; kept_byte(&guest, &before, 1), None);
-    assert_eq!(rt;
-        guest.space().changed_since(&before)?.as_slice(),
-        [1, 0x10, 0x7_FFFF].as_slice()
-    );
+    let kept = kept_bytes(rt.alloc())?;
+    same(&rt, &"kept bytes", kept, [Some(0x45), None]);
+    let changed = changed_pages(rt.alloc())?;
+    let want: [u32; 3] = [1, 0x10, 0x7_FFFF];
+    same(&rt, &"changed pages", changed.as_slice(), want.as_slice());
     Ok(())
 }
 
@@ -98,55 +118,65 @@ fn copy_page(guest: &mut Guest, other: &Guest, number: u32) -> Result<(), SetPag
     guest.set_page(number, other.space().page(number))
 }
 
+/// Puts pages of another guest in place of a guest's other pages, and tells whether they are in the same state: before, after,
+/// and once the snapshot is gone.
+fn put_back(alloc: Global) -> Result<[bool; 3], Fail> {
+    let (mut trial, before) = with_other_pages(alloc)?;
+    let other = trial_of(alloc, &[0; 8], &[])?;
+    let first = trial.same(&other);
+    copy_page(&mut trial.guest, &other.guest, 1)?;
+    copy_page(&mut trial.guest, &other.guest, 0x10)?;
+    copy_page(&mut trial.guest, &other.guest, 0x7_FFFF)?;
+    let second = trial.same(&other);
+    trial.guest.drop_snapshot(before);
+    Ok([first, second, trial.same(&other)])
+}
+
 #[test]
 fn pages_that_were_read_are_put_back(rt: HostRuntime) -> Result<(), Fail> {
-    let (mut guest, before) = with_other_pages(rt.alloc())?;
-    let other = guest_of(rt.alloc(), [0; 8])?;
-    assert!(rt; !guest.same(&other));
-    copy_page(&mut guest, &other, 1)?;
-    copy_page(&mut guest, &other, 0x10)?;
-    copy_page(&mut guest, &other, 0x7_FFFF)?;
-    assert!(rt; guest.same(&other));
-    guest.drop_snapshot(before);
-    assert!(rt; guest.same(&other));
+    let told = put_back(rt.alloc())?;
+    same(&rt, &"the same state", told, [false, true, true]);
     Ok(())
 }
 
 #[test]
 fn no_state_has_these_pages(rt: HostRuntime) -> Result<(), Fail> {
-    let mut guest = guest_of(rt.alloc(), [0; 8])?;
-    let other = guest_of(rt.alloc(), [0; 8])?;
+    let mut trial = trial_of(rt.alloc(), &[0; 8], &[])?;
+    let other = trial_of(rt.alloc(), &[0; 8], &[])?;
     for number in [0, 0x8_0000, 0xF_FFFF, 0x10_0000, u32::MAX] {
-        let put = put_page(&mut guest, number, DATA, 1);
-        assert_eq!(rt; put, Err(SetPageFault::NoState));
-        assert_eq!(rt; guest.set_page(number, None), Ok(()));
+        let rows = [
+            Row::PutPage(number, Some((DATA, 1)), Err(SetPageFault::NoState)),
+            Row::PutPage(number, None, Ok(())),
+        ];
+        play(&rt, rt.alloc(), &mut trial, &rows)?;
     }
-    let put = put_page(&mut guest, 0x10, WRITE_ALONE, 1);
-    assert_eq!(rt; put, Err(SetPageFault::NoState));
-    assert!(rt; guest.same(&other));
+    let page = Some((WRITE_ALONE, 1));
+    let rows = [Row::PutPage(0x10, page, Err(SetPageFault::NoState))];
+    play(&rt, rt.alloc(), &mut trial, &rows)?;
+    same(&rt, &"the same state", trial.same(&other), true);
     Ok(())
 }
 
 #[test]
 fn the_limit_of_pages_put_into_a_guest(rt: HostRuntime) -> Result<(), Fail> {
-    let mut guest = guest_of(rt.alloc(), [0; 8])?;
-    let arguments = [0x100_0000, 0x3EF_F000, 3, 0x32];
-    let mapped = answer_of(&rt, rt.alloc(), &mut guest, &mut Nothing, 222, arguments)?;
-    assert_eq!(rt; mapped.result, 0x100_0000);
-    assert_eq!(rt; guest.page_count(), 16_384);
-    for (number, want) in [
-        (0, Err(SetPageFault::NoState)),
-        (1, Err(SetPageFault::TooManyPages)),
-        (0x1000, Ok(())),
-    ] {
-        assert_eq!(rt; put_page(&mut guest, number, DATA, 1), want);
-        assert_eq!(rt; guest.page_count(), 16_384);
-    }
-    assert_eq!(rt; guest.space().load_byte(0x100_0000), Some(1));
-    guest.set_page(0x1001, None)?;
-    put_page(&mut guest, 1, DATA, 1)?;
-    assert_eq!(rt; guest.page_count(), 16_384);
-    Ok(())
+    let mut trial = trial_of(rt.alloc(), &[0; 8], &[])?;
+    let page = Some((DATA, 1));
+    let full = Row::Finds(Question::Pages, Some(16_384));
+    let rows = [
+        Row::Call(1, MMAP, [0x100_0000, 0x3EF_F000, 3, 0x32, 0], 0x100_0000),
+        full,
+        Row::PutPage(0, page, Err(SetPageFault::NoState)),
+        full,
+        Row::PutPage(1, page, Err(SetPageFault::TooManyPages)),
+        full,
+        Row::PutPage(0x1000, page, Ok(())),
+        full,
+        Row::Finds(Question::Byte(0x100_0000), Some(1)),
+        Row::PutPage(0x1001, None, Ok(())),
+        Row::PutPage(1, page, Ok(())),
+        full,
+    ];
+    play(&rt, rt.alloc(), &mut trial, &rows)
 }
 
 /// A thread with its tid in x1, which runs or waits at an address.
@@ -176,33 +206,68 @@ fn rest_with(alloc: Global, program_break: u32, tids: [u32; 2]) -> Result<Rest, 
     })
 }
 
+/// Puts a rest into a guest: the break, and the tids of a thread that waits and one that runs.
+fn set_rest(
+    alloc: Global,
+    trial: &mut Trial<'_>,
+    program_break: u32,
+    tids: [u32; 2],
+) -> Result<Result<(), SetRestFault>, Fail> {
+    let rest = rest_with(alloc, program_break, tids)?;
+    Ok(trial.guest.set_rest(alloc, &rest))
+}
+
+/// Ends a guest and then puts a rest into it, and gives the pages that this changes.
+fn changed_by_rest(alloc: Global, trial: &mut Trial<'_>) -> Result<Vec<u32>, Fail> {
+    let rest = rest_with(alloc, 0x1_1010, [3, 7])?;
+    let before = trial.guest.snapshot()?;
+    trial.guest.close_slice(Some(GuestEnd::Stuck));
+    trial.guest.set_rest(alloc, &rest)?;
+    Ok(trial.guest.space().changed_since(&before)?)
+}
+
+/// A thread of a guest.
+fn thread_of(trial: &Trial<'_>, tid: u32) -> Option<Thread> {
+    trial.guest.thread(tid)
+}
+
 #[test]
 fn the_rest_of_a_checkpoint_is_taken(rt: HostRuntime) -> Result<(), Fail> {
-    let mut guest = guest_of(rt.alloc(), [0; 8])?;
-    let before = guest.snapshot()?;
-    guest.close_slice(Some(GuestEnd::Stuck));
-    let rest = rest_with(rt.alloc(), 0x1_1010, [3, 7])?;
-    guest.set_rest(rt.alloc(), &rest)?;
-    assert_eq!(rt; guest.ended(), None);
-    assert_eq!(rt; guest.reservation(), None);
-    assert_eq!(rt; guest.program_break(), 0x1_1010);
-    assert_eq!(rt; guest.threads().next_tid(), 8);
-    assert_eq!(rt; guest.threads().waiting(), [3u32].as_slice());
-    assert_eq!(rt; guest.thread(1), None);
-    assert_eq!(rt; guest.thread(7), Some(part(7, None).thread));
-    assert!(rt; guest.is_running(7) && !guest.is_running(3));
-    assert!(rt; guest.space().changed_since(&before)?.is_empty());
-    let mut other = guest_of(rt.alloc(), [0; 8])?;
-    assert!(rt; !other.same(&guest));
-    other.set_rest(rt.alloc(), &rest)?;
-    assert!(rt; other.same(&guest));
+    let mut trial = trial_of(rt.alloc(), &[0; 8], &[])?;
+    let changed = changed_by_rest(rt.alloc(), &mut trial)?;
+    same(&rt, &"pages that it changes", changed.is_empty(), true);
+    let rows = [
+        Row::Ended(None),
+        Row::Finds(Question::Reservation, None),
+        Row::Finds(Question::Break, Some(0x1_1010)),
+        Row::Finds(Question::NextTid, Some(8)),
+        Row::Waiting(&[3]),
+        Row::Finds(Question::Runs(7), Some(1)),
+        Row::Finds(Question::Runs(3), Some(0)),
+    ];
+    play(&rt, rt.alloc(), &mut trial, &rows)?;
+    same(&rt, &"thread 1", thread_of(&trial, 1), None);
+    let thread = part(7, None).thread;
+    same(&rt, &"thread 7", thread_of(&trial, 7), Some(thread));
+    Ok(())
+}
+
+#[test]
+fn a_guest_of_the_same_rest_is_in_the_same_state(rt: HostRuntime) -> Result<(), Fail> {
+    let mut trial = trial_of(rt.alloc(), &[0; 8], &[])?;
+    let _ = changed_by_rest(rt.alloc(), &mut trial)?;
+    let mut other = trial_of(rt.alloc(), &[0; 8], &[])?;
+    same(&rt, &"before", other.same(&trial), false);
+    let taken = set_rest(rt.alloc(), &mut other, 0x1_1010, [3, 7])?;
+    same(&rt, &"the rest is taken", taken, Ok(()));
+    same(&rt, &"after", other.same(&trial), true);
     Ok(())
 }
 
 #[test]
 fn no_state_has_this_rest(rt: HostRuntime) -> Result<(), Fail> {
-    let mut guest = guest_of(rt.alloc(), [0; 8])?;
-    let other = guest_of(rt.alloc(), [0; 8])?;
+    let mut trial = trial_of(rt.alloc(), &[0; 8], &[])?;
+    let other = trial_of(rt.alloc(), &[0; 8], &[])?;
     let cases = [
         (0x1_0FFF, [3, 7], "below the opening break"),
         (0x7000_0001, [3, 7], "past the highest break"),
@@ -210,35 +275,43 @@ fn no_state_has_this_rest(rt: HostRuntime) -> Result<(), Fail> {
         (0x1_1000, [3, 8], "the next tid"),
     ];
     for (program_break, tids, why) in cases {
-        let rest = rest_with(rt.alloc(), program_break, tids)?;
-        let refused = guest.set_rest(rt.alloc(), &rest);
-        assert_eq!(rt; refused, Err(SetRestFault::NoState), "{why}");
-        assert!(rt; guest.same(&other));
+        let taken = set_rest(rt.alloc(), &mut trial, program_break, tids)?;
+        same(&rt, &why, taken, Err(SetRestFault::NoState));
+        same(&rt, &why, trial.same(&other), true);
     }
     for program_break in [0x1_1000, 0x7000_0000] {
-        let rest = rest_with(rt.alloc(), program_break, [3, 7])?;
-        assert_eq!(rt; guest.set_rest(rt.alloc(), &rest), Ok(()));
+        let taken = set_rest(rt.alloc(), &mut trial, program_break, [3, 7])?;
+        same(&rt, &program_break, taken, Ok(()));
     }
+    Ok(())
+}
+
+/// Tests what a value's text is.
+fn check_text(
+    rt: &impl Abort,
+    alloc: Global,
+    value: &impl Display,
+    text: &str,
+) -> Result<(), Fail> {
+    let told = format!(in alloc; "{value}")?;
+    same(rt, &text, told.as_str(), text);
     Ok(())
 }
 
 #[test]
 fn says_why_it_refuses(rt: HostRuntime) -> Result<(), Fail> {
-    let alloc = rt.alloc();
     for (fault, text) in [
         (SetPageFault::NoState, "no state has this page"),
         (SetPageFault::TooManyPages, "too many pages"),
         (SetPageFault::Memory, "out of memory"),
     ] {
-        let told = format!(in alloc; "{}", fault)?;
-        assert_eq!(rt; told.as_str(), text);
+        check_text(&rt, rt.alloc(), &fault, text)?;
     }
     for (fault, text) in [
         (SetRestFault::NoState, "no state has this rest"),
         (SetRestFault::Memory, "out of memory"),
     ] {
-        let told = format!(in alloc; "{}", fault)?;
-        assert_eq!(rt; told.as_str(), text);
+        check_text(&rt, rt.alloc(), &fault, text)?;
     }
     Ok(())
 }
