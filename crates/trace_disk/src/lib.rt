@@ -9,6 +9,3 @@ mod mem_disk;
 pub use disk::{Disk, DiskFailed, cut_through, write_through};
 pub use fail_once::FailOnce;
 pub use mem_disk::MemDisk;
-
-#[cfg(test)]
-mod tests;

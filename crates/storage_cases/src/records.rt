@@ -1,0 +1,153 @@
+//! Records as text.
+
+use frames::{read_record, write_record};
+use rrv_model::machine::Permissions;
+use rrv_model::record::{
+    CallRecord, End, Frame, Item, Opening, PagePart, Part, Record, Rest, ThreadPart,
+};
+use std::alloc::{AllocError, Global};
+use std::fmt::Write;
+
+fn write_bytes(alloc: Global, text: &mut String, bytes: &[u8]) -> Result<(), AllocError> {
+    let digits = hex::encode(alloc, bytes)?;
+    text.push_str(digits.as_str())
+}
+
+fn write_opening(alloc: Global, text: &mut String, opening: &Opening) -> Result<(), AllocError> {
+    write!(text, " opening elf ")?;
+    write_bytes(alloc, text, opening.elf.as_slice())?;
+    write!(text, " name ")?;
+    for byte in opening.name.as_slice() {
+        let letter = char::from(*byte);
+        write!(text, "{letter}")?;
+    }
+    write!(text, " random ")?;
+    write_bytes(alloc, text, &opening.random)
+}
+
+fn write_call(alloc: Global, text: &mut String, call: &CallRecord) -> Result<(), AllocError> {
+    let result = call.result;
+    write!(text, " result {result}")?;
+    for written in call.written.as_slice() {
+        let address = written.address;
+        write!(text, " wrote {address:#x} ")?;
+        write_bytes(alloc, text, written.bytes.as_slice())?;
+    }
+    Ok(())
+}
+
+fn write_frame(alloc: Global, text: &mut String, frame: &Frame) -> Result<(), AllocError> {
+    let Frame { tid, count, .. } = frame;
+    match &frame.end {
+        End::Preempt => write!(text, " preempt tid {tid} count {count}"),
+        End::Call(call) => {
+            write!(text, " call tid {tid} count {count}")?;
+            write_call(alloc, text, call)
+        }
+        End::Fault(kind) => write!(text, " fault tid {tid} count {count} {kind:?}"),
+        End::Stuck => write!(text, " stuck"),
+    }
+}
+
+fn letter(is_allowed: bool, letter: char) -> char {
+    if is_allowed { letter } else { '-' }
+}
+
+fn write_permissions(text: &mut String, permissions: Permissions) -> Result<(), AllocError> {
+    let read = letter(permissions.read, 'r');
+    let write = letter(permissions.write, 'w');
+    let execute = letter(permissions.execute, 'x');
+    write!(text, " {read}{write}{execute}")
+}
+
+fn write_page(alloc: Global, text: &mut String, page: &PagePart) -> Result<(), AllocError> {
+    let number = page.number;
+    write!(text, " page {number}")?;
+    match page.permissions {
+        None => write!(text, " unmapped")?,
+        Some(permissions) => write_permissions(text, permissions)?,
+    }
+    let mask = page.mask;
+    write!(text, " mask {mask:#x}")?;
+    for line in page.lines.as_slice() {
+        write!(text, " line ")?;
+        write_bytes(alloc, text, &line.bytes)?;
+    }
+    Ok(())
+}
+
+fn write_thread(text: &mut String, part: &ThreadPart) -> Result<(), AllocError> {
+    let tid = part.tid;
+    let pc = part.thread.regs.pc;
+    let last = part.thread.regs.registers[31];
+    write!(text, " thread {tid} pc {pc:#x} x31 {last:#x}")?;
+    match part.thread.waits_at {
+        None => Ok(()),
+        Some(address) => write!(text, " waits at {address:#x}"),
+    }
+}
+
+fn write_rest(text: &mut String, rest: &Rest) -> Result<(), AllocError> {
+    let program_break = rest.program_break;
+    let next_tid = rest.next_tid;
+    write!(text, " break {program_break:#x} next tid {next_tid}")?;
+    for part in rest.threads.as_slice() {
+        write_thread(text, part)?;
+    }
+    for tid in rest.waiting.as_slice() {
+        write!(text, " waiting {tid}")?;
+    }
+    Ok(())
+}
+
+fn write_part(alloc: Global, text: &mut String, part: &Part) -> Result<(), AllocError> {
+    write!(text, " part")?;
+    for page in part.pages.as_slice() {
+        write_page(alloc, text, page)?;
+    }
+    match &part.rest {
+        None => Ok(()),
+        Some(rest) => write_rest(text, rest),
+    }
+}
+
+/// What a record tells.
+fn description(alloc: Global, record: &Record) -> Result<String, AllocError> {
+    let Record { guest, index, item } = record;
+    let mut text = format!(in alloc; "guest {guest} index {index}")?;
+    match item {
+        Item::Opening(opening) => write_opening(alloc, &mut text, opening)?,
+        Item::Frame(frame) => write_frame(alloc, &mut text, frame)?,
+        Item::Part(part) => write_part(alloc, &mut text, part)?,
+    }
+    Ok(text)
+}
+
+/// What the record tells whose text the bytes are, or why there is none. It is also written, behind a byte.
+pub fn record_text(alloc: Global, bytes: &[u8]) -> Option<String> {
+    let (record, rest) = match read_record(alloc, bytes) {
+        Ok(found) => found,
+        Err(fault) => return format!(in alloc; "{fault:?}").ok(),
+    };
+    if !rest.is_empty() {
+        return format!(in alloc; "a record, and other bytes").ok();
+    }
+    let mut written = Vec::from_slice(alloc, &[9]).ok()?;
+    write_record(&record, &mut written).ok()?;
+    let (first, behind) = written.split_first()?;
+    if *first != 9 || behind != bytes {
+        return format!(in alloc; "a record that is written otherwise").ok();
+    }
+    description(alloc, &record).ok()
+}
+
+/// What is wanted where `record_text` finds it of each beginning of the bytes that isn't all of them; else what it finds first.
+pub fn beginnings_text(alloc: Global, bytes: &[u8], want: &str) -> Option<String> {
+    for len in 0..bytes.len() {
+        let found = record_text(alloc, &bytes[..len])?;
+        if found.as_str() != want {
+            return format!(in alloc; "{found} at {len}").ok();
+        }
+    }
+    format!(in alloc; "{want}").ok()
+}

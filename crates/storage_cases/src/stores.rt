@@ -1,0 +1,68 @@
+//! Stores as text.
+
+use crate::changes::Change;
+use recover::{Lists, OpenFault, open};
+use std::alloc::Global;
+use trace_disk::{Disk, MemDisk};
+
+/// All the bytes.
+fn bytes_on(alloc: Global, disk: &mut MemDisk) -> Option<Vec<u8>> {
+    let mut bytes = Vec::new(alloc);
+    bytes.resize(disk.len() as usize, 0).ok()?;
+    disk.read_at(0, &mut bytes).ok()?;
+    Some(bytes)
+}
+
+/// A disk with these bytes, all synced.
+fn disk_of(alloc: Global, bytes: &[u8]) -> Option<MemDisk> {
+    let mut disk = MemDisk::new(alloc);
+    disk.write_at(0, bytes).ok()?;
+    disk.sync().ok()?;
+    Some(disk)
+}
+
+/// An opened store: how many guests and records of guest 0 it has, how many bytes, and its last byte.
+fn opened_text(alloc: Global, disk: MemDisk, lists: &Lists) -> Option<String> {
+    let mut disk = disk;
+    let bytes = bytes_on(alloc, &mut disk)?;
+    let guests = lists.guests().len();
+    let records = lists.len(0);
+    let len = bytes.len();
+    let last = bytes.last()?;
+    format!(in alloc; "guests {guests} records {records} bytes {len} last {last}").ok()
+}
+
+/// Why bytes are refused, which stay as they are.
+fn refused_text(alloc: Global, disk: MemDisk, fault: OpenFault, bytes: &[u8]) -> Option<String> {
+    let mut disk = disk;
+    let left = bytes_on(alloc, &mut disk)?;
+    if left.as_slice() != bytes {
+        return format!(in alloc; "{fault:?}, and other bytes are left").ok();
+    }
+    format!(in alloc; "{fault:?}").ok()
+}
+
+/// What opening the bytes gives.
+fn store_text(alloc: Global, bytes: &[u8]) -> Option<String> {
+    match open(alloc, disk_of(alloc, bytes)?) {
+        Ok((log, lists)) => opened_text(alloc, log.close(), &lists),
+        Err((disk, fault)) => refused_text(alloc, disk, fault, bytes),
+    }
+}
+
+/// What is wanted where opening the bytes gives it after each of the changes; else what it gives first.
+pub fn changed_stores_text(
+    alloc: Global,
+    bytes: &[u8],
+    changes: &[Change],
+    want: &str,
+) -> Option<String> {
+    for change in changes {
+        let changed = change.of(alloc, bytes)?;
+        let found = store_text(alloc, &changed)?;
+        if found.as_str() != want {
+            return format!(in alloc; "{found} after {change:?}").ok();
+        }
+    }
+    format!(in alloc; "{want}").ok()
+}

@@ -1,0 +1,6 @@
+//! Tests of disks, logs and the opening of stores, through public calls. They stand apart from these crates, so that a crate is proved
+//! once and the wrong bodies there are tried while these are proved.
+#![tactic(auto)]
+
+#[cfg(test)]
+mod tests;
