@@ -255,20 +255,6 @@ def round_robin():
     return chosen
 
 
-def seeded(seed):
-    """Marsaglia's xorshift of 32 bits: a runnable thread, for 64 to 127 instructions."""
-    state = seed * 0x9E3779B9 & MASK
-
-    def chosen(runnable):
-        nonlocal state
-        state ^= state << 13 & MASK
-        state ^= state >> 17
-        state ^= state << 5 & MASK
-        return runnable[(state >> 8) % len(runnable)], 64 + state % 64
-
-    return chosen
-
-
 def array(data):
     rows = [data[at : at + 16] for at in range(0, len(data), 16)]
     return "\n".join("    " + " ".join(f"0x{byte:02X}," for byte in row) for row in rows)
@@ -293,17 +279,6 @@ def main():
     with tempfile.TemporaryDirectory() as at:
         show("lock", "lock.c", C, at)
         show("race", "race.S", ASM, at)
-        elf = show("four_threads", "four_threads.S", ASM, at)
-    outputs, preempts, calls, instructions = set(), 0, 0, 0
-    for seed in range(1, 201):
-        guest = Guest(elf, b"four")
-        lines, total = guest.run(seeded(seed))
-        assert guest.ended == 4
-        outputs.add(guest.output)
-        preempts += sum("preempt" in line for line in lines)
-        calls += sum("call" in line for line in lines)
-        instructions += total
-    print(f"200 seeds: {len(outputs)} outputs, {preempts} preempts, {calls} calls, {instructions} instructions")
 
 
 if __name__ == "__main__":

@@ -8,9 +8,6 @@ use rrv_model::limits::{MAX_QUANTUM, MIN_QUANTUM};
 use rrv_model::record::Choice;
 use std::marker::Model;
 
-#[cfg(test)]
-mod tests;
-
 /// Something that chooses who runs next.
 pub trait Chooser {
     /// It has no choice left.

@@ -12,6 +12,3 @@ pub use chooser::{Chooser, Listed, RoundRobin};
 pub use fault::{FollowFault, SliceFault};
 pub use following::{follow, steps};
 pub use slices::slice;
-
-#[cfg(test)]
-mod tests;

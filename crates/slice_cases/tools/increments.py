@@ -1,5 +1,5 @@
 #!/usr/bin/env python3
-"""Prints what ../src/tests/increments.rt holds: the guest of increments.S, and how it ends under qemu-riscv32.
+"""Makes ../data/increments.elf of increments.S, and prints how it ends under qemu-riscv32, which the lines of ../stdin tell.
 
 Needs riscv64-unknown-elf-gcc and qemu-riscv32. Run in this folder.
 """
@@ -32,12 +32,13 @@ def made(at):
 def main():
     with tempfile.TemporaryDirectory() as at:
         guest = made(at)
+        with open("../data/increments.elf", "wb") as file:
+            file.write(guest)
         run = subprocess.run(["qemu-riscv32", f"{at}/guest"], capture_output=True)
         trace = subprocess.run(["qemu-riscv32", "-singlestep", "-d", "nochain,exec", f"{at}/guest"], capture_output=True)
     print(f"{len(guest)} bytes; status {run.returncode}, {trace.stderr.count(b'Trace ')} instructions")
     print(f"descriptor 1: {run.stdout[:16].hex()} .. {run.stdout[-8:].hex()}, {len(run.stdout)} bytes")
     print(f"descriptor 2: {run.stderr.hex()}")
-    print(f"const GUEST: [u8; {len(guest)}] = [{', '.join(f'0x{it:02X}' for it in guest)}];")
 
 
 main()

@@ -1,0 +1,8 @@
+//! Small guests, recorded and followed.
+
+mod asking;
+mod chooser;
+mod memory;
+mod slices;
+mod texts;
+mod trial;
