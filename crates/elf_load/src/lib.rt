@@ -9,5 +9,3 @@ mod limits;
 mod loads;
 mod numbers;
 mod overlap;
-#[cfg(test)]
-mod tests;

@@ -12,9 +12,6 @@ use rrv_model::limits::MAX_TRANSFER;
 use rrv_model::refusal::Memory;
 use std::alloc::Global;
 
-#[cfg(test)]
-mod tests;
-
 /// The bytes of a buffer's base and length.
 const BUFFER_BYTES: u32 = 8;
 

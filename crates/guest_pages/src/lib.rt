@@ -12,6 +12,3 @@ pub use address_space::Space;
 pub use fault::PageFault;
 pub use page::PageView;
 pub use snapshot::Snapshot;
-
-#[cfg(test)]
-mod tests;

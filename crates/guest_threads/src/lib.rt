@@ -5,8 +5,6 @@ mod by_tid;
 mod changes;
 mod fault;
 mod parts;
-#[cfg(test)]
-mod tests;
 mod threads;
 
 pub use fault::{PartsFault, ThreadFault};

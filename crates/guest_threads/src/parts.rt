@@ -16,9 +16,6 @@ use rrv_model::refusal::Memory;
 use std::alloc::Global;
 use std::collections::BTreeMap;
 
-#[cfg(test)]
-mod tests;
-
 impl Threads {
     /// The threads that a checkpoint tells: by tid, with the waiting order and the next tid. Refused with NoState exactly
     /// where the tids don't rise or no state has these threads, else with Memory where a growth is refused.

@@ -9,6 +9,3 @@ mod word;
 
 pub use decoder::decode;
 pub use encoder::encode;
-
-#[cfg(test)]
-mod tests;

@@ -10,11 +10,7 @@ mod hart;
 mod memory;
 mod registers;
 mod run;
-#[cfg(test)]
-mod tests;
 mod values;
-#[cfg(test)]
-mod vectors;
 
 pub use hart::step;
 use rrv_model::machine::FaultKind;

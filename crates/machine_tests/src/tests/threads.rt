@@ -178,12 +178,21 @@ fn makes_sixteen_threads_and_never_uses_a_tid_again(rt: HostRuntime) -> Result<(
         Row::Spawn(Ok(17)),
         Row::NextTid(18),
         Row::Thread(16, None),
-    ];
-    play(&rt, rt.alloc(), &mut threads, &rows)?;
-    for tid in 1..16 {
-        play(&rt, rt.alloc(), &mut threads, &[Row::Exit(tid, DONE)])?;
-    }
-    let rows = [
+        Row::Exit(1, DONE),
+        Row::Exit(2, DONE),
+        Row::Exit(3, DONE),
+        Row::Exit(4, DONE),
+        Row::Exit(5, DONE),
+        Row::Exit(6, DONE),
+        Row::Exit(7, DONE),
+        Row::Exit(8, DONE),
+        Row::Exit(9, DONE),
+        Row::Exit(10, DONE),
+        Row::Exit(11, DONE),
+        Row::Exit(12, DONE),
+        Row::Exit(13, DONE),
+        Row::Exit(14, DONE),
+        Row::Exit(15, DONE),
         Row::Empty(false),
         Row::Exit(17, DONE),
         Row::Empty(true),
