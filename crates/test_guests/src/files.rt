@@ -41,7 +41,7 @@ fn joined(alloc: Global, headers: &[u8], words: &[u32]) -> Result<Vec<u8>, Alloc
 
 /// Puts the file's length where the header of its first LOAD has its sizes.
 fn with_sizes(mut elf: Vec<u8>, at: usize) -> Vec<u8> {
-    let len = elf.len() as u32;
+    let len = u32::try_from(elf.len()).unwrap_or(u32::MAX);
     for (place, byte) in len.to_le_bytes().iter().enumerate() {
         if let Some(slot) = elf.get_mut(at.wrapping_add(place)) {
             *slot = *byte;
