@@ -10,9 +10,10 @@ use crate::line::{Request, line};
 use crate::refusal::Refusal;
 use crate::trial::{Trial, try_image};
 use clap::error::ErrorKind as LineFault;
-use elf_load::image::parse;
+use elf_load::image::{Image, parse};
 use guest_calls::Put;
 use rrv_model::limits::MAX_ELF;
+use std::alloc::Global;
 use std::convert::AsStr;
 use std::io::{ErrorKind, Read, Write};
 use std::rt::Files;
@@ -94,19 +95,33 @@ fn carry_out<R: Files + AllocGlobal, O: Write, E: Write>(
     0
 }
 
+/// Records the program that is asked for, replays what was recorded, and prints the output, the records and the end.
 fn perform<R: Files + AllocGlobal, O: Write, E: Write>(
     rt: &R,
     request: Request<'_>,
     out: &mut O,
     err: &mut E,
 ) -> Result<(), Refusal> {
+    let image = image_of(rt, request)?;
+    let trial = try_image(rt.alloc(), image, NAME, [0; 16], QUANTUM).map_err(
+        |refusal| refusal.of_trial(),
+    )?;
+    print_trial(&trial, out, err)
+}
+
+/// The image of the program that is asked for. The bytes that were read of its file are let go.
+fn image_of<R: Files + AllocGlobal>(rt: &R, request: Request<'_>) -> Result<Image, Refusal> {
     match request {
-        Request::Demonstration => try_program(rt, &EXIT_FIVE, out, err),
+        Request::Demonstration => parsed(rt.alloc(), &EXIT_FIVE),
         Request::Try { elf } => {
             let program = read_program(rt, elf)?;
-            try_program(rt, &program, out, err)
+            parsed(rt.alloc(), &program)
         }
     }
+}
+
+fn parsed(alloc: Global, program: &[u8]) -> Result<Image, Refusal> {
+    parse(alloc, program).map_err(|fault| Refusal::of_elf(0, fault))
 }
 
 /// The bytes of a file, up to the limit of a program.
@@ -124,20 +139,6 @@ fn read_program<R: Files + AllocGlobal>(rt: &R, path: &str) -> Result<Vec<u8>, R
         return Err(Refusal::CannotReadFile);
     }
     Ok(bytes)
-}
-
-/// Records a program, replays what was recorded, and prints the output, the records and the end.
-fn try_program<R: AllocGlobal, O: Write, E: Write>(
-    rt: &R,
-    program: &[u8],
-    out: &mut O,
-    err: &mut E,
-) -> Result<(), Refusal> {
-    let image = parse(rt.alloc(), program).map_err(|fault| Refusal::of_elf(0, fault))?;
-    let trial = try_image(rt.alloc(), &image, NAME, [0; 16], QUANTUM).map_err(
-        |refusal| refusal.of_trial(),
-    )?;
-    print_trial(&trial, out, err)
 }
 
 /// Descriptor 1 is the output, and 2 the errors.

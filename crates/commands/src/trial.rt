@@ -32,21 +32,21 @@ pub struct Trial {
 /// Records a program as guest 0 to a disk in memory, opens the disk again, and replays what it holds.
 pub fn try_image(
     alloc: Global,
-    image: &Image,
+    image: Image,
     name: &[u8],
     random: [u8; 16],
     quantum: u32,
 ) -> Result<Trial, Refusal>
     requires name { IsName name.now }
     requires quantum { IsQuantum quantum }
-    ensures program { IfOk result (λ trial. IsFirst (opening_of 0 image.now name.now random) trial.records.items) }
+    ensures program { IfOk result (λ trial. IsFirst (opening_of 0 image name.now random) trial.records.items) }
     ensures recording { IfOk result (λ trial. IsRecording trial.records.items) }
     ensures ends { IfOk result (λ trial. EndsIn (items_of trial.records.items) (state_of trial.replayed.guest)) }
     ensures output { IfOk result (λ trial. OutputOf (items_of trial.records.items) (chunks_in trial.replayed.output.items)) }
     ensures turns { IfOk result (λ trial. TakesTurns quantum (items_of trial.records.items)) }
     ensures ended { IfOk result (λ trial. IsSome (state_of trial.recorded).ended) }
     ensures same { IfOk result (λ trial. state_of trial.replayed.guest ≡ state_of trial.recorded) }
-    ensures refused { IfErr result (λ e. RefusesTrial e quantum (opening_of 0 image.now name.now random)) }
+    ensures refused { IfErr result (λ e. RefusesTrial e quantum (opening_of 0 image name.now random)) }
 {
     let mut log = match Log::create(MemDisk::new(alloc)) {
         Ok(log) => log,
@@ -59,6 +59,8 @@ pub fn try_image(
     };
     let mut disk = log.close();
     let records = read_guest(alloc, &lists, &mut disk, 0)?;
+    drop(lists);
+    drop(disk);
     let replayed = replay(alloc, &records)?;
     Ok(Trial {
         recorded,

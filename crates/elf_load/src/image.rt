@@ -68,6 +68,14 @@ impl Image {
         &self.elf
     }
 
+    /// The bytes of the file, which are handed on and not copied.
+    pub fn into_file(self) -> Vec<u8>
+        ensures value { result.items ≡ self }
+        ensures accepted { refusal self ≡ None }
+    {
+        self.elf
+    }
+
     /// The PT_LOAD headers, in the order of the file.
     pub fn loads(&self) -> &[ProgramHeader]
         ensures value { result.now ≡ loads self.now }
