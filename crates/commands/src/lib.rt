@@ -7,7 +7,5 @@ mod refusal;
 mod running;
 mod trial;
 
-pub use exit_five::EXIT_FIVE;
 pub use refusal::Refusal;
 pub use running::{report_unread, run};
-pub use trial::{Trial, try_image};

@@ -20,16 +20,3 @@ fn main(rt: HostRuntime) -> ExitCode {
     };
     ExitCode::from(run(&rt, words.as_slice(), &mut out, &mut err))
 }
-
-#[cfg(test)]
-mod c_program;
-#[cfg(test)]
-mod every_instruction;
-#[cfg(test)]
-mod recording_tests;
-#[cfg(test)]
-mod tests;
-#[cfg(test)]
-mod text_tests;
-#[cfg(test)]
-mod threads;

@@ -1,6 +1,7 @@
 #!/usr/bin/env python3
-"""Makes the guests of several threads, and prints their bytes, what qemu-riscv32 prints of them, and what `rrv try` has to print: that is
-worked out here, by a restatement of the guest's rules that shares nothing with rrv. It covers what these guests do: no faults.
+"""Makes guests that a compiler makes: one thread that sieves and sorts, and several threads. It writes each into ../data, with what it
+prints and with its records as `rrv try` has to print them: those are worked out here, by a restatement of the guest's rules that shares
+nothing with rrv. It covers what these guests do: no faults.
 
 Needs riscv64-unknown-elf-gcc and qemu-riscv32. Run in this folder.
 """
@@ -11,6 +12,8 @@ import tempfile
 
 ASM = "-march=rv32ima -mabi=ilp32 -nostdlib -static -s -Wl,-z,max-page-size=4096 -Wl,--build-id=none".split()
 C = ASM + "-ffreestanding -Os".split()
+WITH_SYMBOLS = "-march=rv32ima -mabi=ilp32 -static -nostdlib -ffreestanding -O1 -Wl,-z,max-page-size=4096 -Wl,--build-id=none".split()
+DATA = "../data"
 QUANTUM = 50_000
 MASK = 0xFFFFFFFF
 BASIC, ALLOWED = 0x10F00, 0x17D0F00
@@ -255,30 +258,34 @@ def round_robin():
     return chosen
 
 
-def array(data):
-    rows = [data[at : at + 16] for at in range(0, len(data), 16)]
-    return "\n".join("    " + " ".join(f"0x{byte:02X}," for byte in row) for row in rows)
-
-
-def show(name, source, flags, at):
+def made(name, source, flags, at):
+    """Answers the bytes of a guest, and what it prints under qemu-riscv32 in twenty runs."""
     subprocess.run(["riscv64-unknown-elf-gcc", *flags, "-o", f"{at}/{name}", source], check=True)
     with open(f"{at}/{name}", "rb") as file:
         elf = file.read()
     runs = {subprocess.run(["qemu-riscv32", f"{at}/{name}"], stdout=subprocess.PIPE).stdout for _ in range(20)}
+    return elf, runs
+
+
+def keep(name, source, flags, at, steady):
+    """Writes a guest into ../data, with its output and its records. A steady one prints the same in each run."""
+    elf, runs = made(name, source, flags, at)
     guest = Guest(elf, b"g0")
     lines, total = guest.run(round_robin())
-    print(f"{name}: {len(elf)} bytes\n{array(elf)}")
-    print("under qemu-riscv32:", *sorted(runs))
-    print("output:", guest.output)
-    print(f"0 opening name=g0 elf={len(elf)}", *lines, sep="\n")
-    print(f"ok records={len(lines) + 1} instructions={total} end exited {guest.ended}\n")
-    return elf
+    assert runs == {bytes(guest.output)} or not steady
+    opening = f"0 opening name=g0 elf={len(elf)}"
+    end = f"ok records={len(lines) + 1} instructions={total} end exited {guest.ended}"
+    records = "".join(f"{line}\n" for line in [opening, *lines, end])
+    for suffix, content in [("elf", elf), ("out", guest.output), ("records", records.encode())]:
+        with open(f"{DATA}/{name}.{suffix}", "wb") as file:
+            file.write(content)
 
 
 def main():
     with tempfile.TemporaryDirectory() as at:
-        show("lock", "lock.c", C, at)
-        show("race", "race.S", ASM, at)
+        keep("primes", "primes.c", WITH_SYMBOLS, at, True)
+        keep("lock", "lock.c", C, at, True)
+        keep("race", "race.S", ASM, at, False)
 
 
 if __name__ == "__main__":

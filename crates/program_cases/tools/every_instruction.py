@@ -1,5 +1,6 @@
 #!/usr/bin/env python3
-"""Prints what ../src/every_instruction.rt holds: the guest of every_instruction.S, and what it puts out under qemu-riscv32.
+"""Writes the guest of every_instruction.S into ../data, with what it puts out under qemu-riscv32; and the same guest with a breakpoint in
+place of its last call.
 
 Needs riscv64-unknown-elf-gcc and qemu-riscv32. Run in this folder.
 """
@@ -38,8 +39,9 @@ def made(at):
         return file.read()
 
 
-def array(name, data):
-    return f"const {name}: [u8; {len(data)}] = [{', '.join(f'0x{it:02X}' for it in data)}];"
+def written(name, data):
+    with open(f"../data/{name}", "wb") as file:
+        file.write(data)
 
 
 def main():
@@ -56,8 +58,9 @@ def main():
         stopped, again, again_count = ran(f"{at}/guest")
         assert stopped == -signal.SIGTRAP and again == output and again_count == count
     print(f"{len(guest)} bytes, {count} instructions, the last at {last}")
-    print(array("GUEST", guest))
-    print(array("OUTPUT", output))
+    written("every_instruction.elf", guest)
+    written("every_instruction.out", output)
+    written("breakpoint.elf", guest[:last] + bytes.fromhex("73001000") + guest[last + 4 :])
 
 
 main()
