@@ -1,7 +1,7 @@
 #!/usr/bin/env python3
 """Makes guests that a compiler makes: one thread that sieves and sorts, and several threads. It writes each into ../data, with what it
 prints and with its records as `rrv try` has to print them: those are worked out here, by a restatement of the guest's rules that shares
-nothing with rrv. It covers what these guests do: no faults. Of four_threads it prints the bytes, and what 200 orders of its threads make.
+nothing with rrv. It covers what these guests do: no faults.
 
 Needs riscv64-unknown-elf-gcc and qemu-riscv32. Run in this folder.
 """
@@ -258,25 +258,6 @@ def round_robin():
     return chosen
 
 
-def seeded(seed):
-    """Marsaglia's xorshift of 32 bits: a runnable thread, for 64 to 127 instructions."""
-    state = seed * 0x9E3779B9 & MASK
-
-    def chosen(runnable):
-        nonlocal state
-        state ^= state << 13 & MASK
-        state ^= state >> 17
-        state ^= state << 5 & MASK
-        return runnable[(state >> 8) % len(runnable)], 64 + state % 64
-
-    return chosen
-
-
-def array(data):
-    rows = [data[at : at + 16] for at in range(0, len(data), 16)]
-    return "\n".join("    " + " ".join(f"0x{byte:02X}," for byte in row) for row in rows)
-
-
 def made(name, source, flags, at):
     """Answers the bytes of a guest, and what it prints under qemu-riscv32 in twenty runs."""
     subprocess.run(["riscv64-unknown-elf-gcc", *flags, "-o", f"{at}/{name}", source], check=True)
@@ -305,19 +286,6 @@ def main():
         keep("primes", "primes.c", WITH_SYMBOLS, at, True)
         keep("lock", "lock.c", C, at, True)
         keep("race", "race.S", ASM, at, False)
-        elf, runs = made("four_threads", "four_threads.S", ASM, at)
-    print(f"four_threads: {len(elf)} bytes\n{array(elf)}")
-    print("under qemu-riscv32:", *sorted(runs))
-    outputs, preempts, calls, instructions = set(), 0, 0, 0
-    for seed in range(1, 201):
-        guest = Guest(elf, b"four")
-        lines, total = guest.run(seeded(seed))
-        assert guest.ended == 4
-        outputs.add(guest.output)
-        preempts += sum("preempt" in line for line in lines)
-        calls += sum("call" in line for line in lines)
-        instructions += total
-    print(f"200 seeds: {len(outputs)} outputs, {preempts} preempts, {calls} calls, {instructions} instructions")
 
 
 if __name__ == "__main__":
