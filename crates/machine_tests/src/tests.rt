@@ -36,17 +36,6 @@ const CODE: Permissions = Permissions {
     execute: true,
 };
 
-/// `li a0, 5; li a7, 93; ecall`, an ELF file that is loaded with its headers at 0x10000.
-const EXIT_FIVE: [u8; 96] = [
-    0x7F, 0x45, 0x4C, 0x46, 1, 1, 1, 0, 0, 0, 0, 0, 0, 0, 0, 0, // identification
-    2, 0, 0xF3, 0, 1, 0, 0, 0, // type, machine, version
-    0x54, 0, 1, 0, 52, 0, 0, 0, 0, 0, 0, 0, // entry, e_phoff, e_shoff
-    0, 0, 0, 0, 52, 0, 32, 0, 1, 0, 0, 0, 0, 0, 0, 0, // flags, sizes and counts
-    1, 0, 0, 0, 0, 0, 0, 0, 0, 0, 1, 0, 0, 0, 1, 0, // PT_LOAD, offset, addresses
-    96, 0, 0, 0, 96, 0, 0, 0, 5, 0, 0, 0, 0, 0x10, 0, 0, // sizes, flags, alignment
-    0x13, 5, 0x50, 0, 0x93, 8, 0xD0, 5, 0x73, 0, 0, 0,
-];
-
 /// Ends the test where something else is found than wanted. An assertion costs its proof wherever it stands; this one stands once.
 fn same<T: PartialEq + Debug + Drop>(rt: &impl Abort, what: &impl Debug, found: T, want: T) {
     assert_eq!(rt; found, want, "{what:?}");

@@ -1,10 +1,11 @@
 //! What ELF files are refused for, and the greatest table of headers.
 
-use super::{EXIT_FIVE, same};
+use super::same;
 use elf_load::fault::ElfFault;
 use elf_load::image::parse;
 use std::alloc::{AllocError, Global};
 use std::test::Fail;
+use test_guests::files::file_of;
 
 /// As many program headers as a file up to the limit can have.
 const MOST_HEADERS: u32 = 65_534;
@@ -39,8 +40,8 @@ fn faults_by_number(rt: HostRuntime) -> Result<(), Fail> {
 
 /// A file with as many headers as there can be, each of a load of one byte of memory, one byte below the last.
 fn with_most_headers(alloc: Global) -> Result<Vec<u8>, AllocError> {
-    let mut elf = Vec::new(alloc);
-    elf.extend_from_slice(&EXIT_FIVE[..44])?;
+    let mut elf = file_of(alloc, &[])?;
+    elf.truncate(44);
     elf.extend_from_slice(&[0xFE, 0xFF, 0, 0, 0, 0, 0, 0])?;
     for index in 0..MOST_HEADERS {
         for word in [1, 0, 0x20000 - index, 0, 0, 1, 4, 0] {

@@ -1,10 +1,11 @@
 //! The 96-byte guest at its start.
 
 use super::rows::{Row, play_on};
-use super::{EXIT_FIVE, same};
+use super::same;
 use elf_load::image::parse;
 use guest_opening::{open_space, opening_keeps_rules, opening_thread};
 use std::test::Fail;
+use test_guests::files::{EXIT_FIVE, file_of};
 
 const STACK_POINTER: u32 = 0x7FFF_FFA0;
 
@@ -32,7 +33,8 @@ const WORDS: [u32; 18] = [
 
 #[test]
 fn opens_exit_five(rt: HostRuntime) -> Result<(), Fail> {
-    let image = parse(rt.alloc(), &EXIT_FIVE)?;
+    let elf = file_of(rt.alloc(), &EXIT_FIVE)?;
+    let image = parse(rt.alloc(), &elf)?;
     let mut space = open_space(rt.alloc(), &image, b"a", &[7; 16])?;
     let rows = [
         Row::Pages(257),
@@ -51,7 +53,8 @@ fn opens_exit_five(rt: HostRuntime) -> Result<(), Fail> {
 
 #[test]
 fn starts_at_the_entry(rt: HostRuntime) -> Result<(), Fail> {
-    let image = parse(rt.alloc(), &EXIT_FIVE)?;
+    let elf = file_of(rt.alloc(), &EXIT_FIVE)?;
+    let image = parse(rt.alloc(), &elf)?;
     let thread = opening_thread(&image, b"a");
     same(&rt, &"pc", thread.regs.pc, 0x1_0054);
     same(&rt, &"sp", thread.regs.registers[2], STACK_POINTER);
@@ -61,7 +64,8 @@ fn starts_at_the_entry(rt: HostRuntime) -> Result<(), Fail> {
 
 #[test]
 fn stands_on_its_words(rt: HostRuntime) -> Result<(), Fail> {
-    let image = parse(rt.alloc(), &EXIT_FIVE)?;
+    let elf = file_of(rt.alloc(), &EXIT_FIVE)?;
+    let image = parse(rt.alloc(), &elf)?;
     let mut space = open_space(rt.alloc(), &image, b"a", &[7; 16])?;
     for (place, word) in WORDS.iter().enumerate() {
         let address = STACK_POINTER + 4 * place as u32;
