@@ -20,8 +20,8 @@ use Rattle.rrv_model.specs.Instructions.{Stands}
 use Rattle.rrv_model.specs.Memory.{Memory, all_cells, bytes_at, readable}
 use Rattle.rrv_model.specs.State.{State, thread_at, with_thread, with_register}
 use Rattle.rrv_model.specs.Step.{Hart, StepOfWord, Outcome, Next, Called, fetched, executed, StepsTo, CallsFrom, hart_of, with_hart, goes_on}
-use Rattle.rrv_model.specs.CallRows.{Row, NoResult, row_of, answers, fails, leaves, change_thread, set_register, ends}
-use Rattle.rrv_model.specs.Calls.{Calls, Records, Silence, call_row, writes, write_all, after_call}
+use Rattle.rrv_model.specs.CallRows.{Row, NoResult, row_of, only_returns, fails, leaves, change_thread, set_register, ends}
+use Rattle.rrv_model.specs.Calls.{Calls, HasRecord, Silence, call_row, writes, write_all, after_call}
 use Rattle.rrv_model.specs.FrameStep.{Steps, FrameStep, closed}
 use Rattle.rrv_model.specs.Output.{Chunk, FramePuts, put_out, put_out_by}
 use Rattle.rrv_model.specs.Elf.{Header, headers_from, loads, any_share, refusal, touches, touched_below}
@@ -264,22 +264,22 @@ byte_is : bytes_at memory 0x10000 1 ≡ 0x7F ∷ []
 unfolding bytes_at loaded_byte headers_address headers_from
 byte_is = refl
 
-write_row_is : (s : State) → s.memory ≡ memory → call_row s 1 t5 ≡ answers 1
+write_row_is : (s : State) → s.memory ≡ memory → call_row s 1 t5 ≡ only_returns 1
 unfolding row_of t0 t1 t2 t3 t4 t5
-write_row_is s is = ap (λ (m : Memory). if not (readable m 0x10000 1) then fails 14 else answers 1) is ∙ ap (λ (b : Bool). if not b then fails 14 else answers 1) readable_byte
+write_row_is s is = ap (λ (m : Memory). if not (readable m 0x10000 1) then fails 14 else only_returns 1) is ∙ ap (λ (b : Bool). if not b then fails 14 else only_returns 1) readable_byte
 
 exit_row_is : (s : State) → call_row s 1 t8 ≡ NoResult [] (leaves 1 1)
 unfolding row_of t0 t1 t2 t3 t4 t5 t6 t7 t8
 exit_row_is s = refl
 
 -- a call whose row is known, and which writes nothing
-answered : (called : State) (t : Thread) (row : Row) (r : CallRecord) → At called t → call_row called 1 t ≡ row → Records row Silence r →
+answered : (called : State) (t : Thread) (row : Row) (r : CallRecord) → At called t → call_row called 1 t ≡ row → HasRecord row Silence r →
     Calls called 1 Silence r (after_call row 1 r called)
 answered called t row r at is records = record {
   thread = t;
   there = at.there;
   running = at.running;
-  records = subst (λ (w : Row). Records w Silence r) (sym is) records;
+  records = subst (λ (w : Row). HasRecord w Silence r) (sym is) records;
   leaves = ap (λ (w : Row). after_call w 1 r called) (sym is);
 }
 
@@ -287,7 +287,7 @@ one_byte : CallRecord
 one_byte = record { result = 1; written = [] }
 
 abbrev after_write : State → State
-after_write called = after_call (answers 1) 1 one_byte called
+after_write called = after_call (only_returns 1) 1 one_byte called
 
 changed_there : (change : Thread → Thread) (s : State) (t : Thread) → thread_at s 1 ≡ Some t → change_thread 1 change s ≡ with_thread 1 (change t) s
 changed_there change s t there = rw there refl
@@ -376,7 +376,7 @@ written =
           calls = five.1;
           answer = Silence;
           after = after_write five.0;
-          answered = answered five.0 t5 (answers 1) one_byte five.2 (write_row_is five.0 five.2.memory_is) refl;
+          answered = answered five.0 t5 (only_returns 1) one_byte five.2 (write_row_is five.0 five.2.memory_is) refl;
           new_is = refl;
         };
       };

@@ -6,8 +6,8 @@ use Rattle.rrv_model.specs.DiskCalls.{after_write, after_sync}
 use Rattle.rrv_model.specs.State.{State}
 use Rattle.rrv_model.specs.RecordText.{record_text, payload, opening_text, call_text}
 use Rattle.rrv_model.specs.StoreText.{segment, IsBody, IsStore}
-use Rattle.rrv_model.specs.StoreCalls.{Call, after_calls, cut_calls, tail_calls}
-use Rattle.rrv_model.specs.StoreCalls.Call.{Write, Sync}
+use Rattle.rrv_model.specs.StoreCalls.{DiskCall, after_disk_calls, cut_calls, tail_calls}
+use Rattle.rrv_model.specs.StoreCalls.DiskCall.{Write, Sync}
 use Rattle.rrv_model.specs.Recovered.{body_text, IsRecovered}
 use Rattle.rrv_model.proofs.StoreLaws.{segment_reads}
 use Rattle.commit_core.specs.World.{World, IsStart, IsAtRest, store_text, closed_store}
@@ -121,7 +121,7 @@ module _ (guest : Ended) where
   repaired_is =
       let place = length (store_text first_body) in
       let behind = segment 1 (body_text (exited ∷ [])) ++ 0 ∷ [] in
-      ap (λ (calls : List Call). after_calls (fresh_disk torn_store) (Sync ∷ Write place (0 ∷ []) ∷ Sync ∷ calls))
+      ap (λ (calls : List DiskCall). after_disk_calls (fresh_disk torn_store) (Sync ∷ Write place (0 ∷ []) ∷ Sync ∷ calls))
       (cuts place behind (omega (arith, segment_len 1 (body_text (exited ∷ [])) (omega arith) (omega (arith, one_len)))))
 
   rests : IsAtRest repaired_disk (closed_store first_body)

@@ -6,8 +6,8 @@ use Rattle.std.proofs.lemmas.Bool.Decides.{eqb_tells}
 use Rattle.rrv_model.specs.CrashModel.{Pending, IsCrash, DiskState, all_synced}
 use Rattle.rrv_model.specs.DiskCalls.{IsTorn, FailsToWrite, FailsToCut, after_write, after_cut, after_sync, overwritten, pending_write, pending_cut}
 use Rattle.rrv_model.specs.StoreText.{header, segments, IsBody, IsStore, IsNextSegment}
-use Rattle.rrv_model.specs.StoreCalls.{after_calls, IsWithin, tail_calls, gate_calls, open_calls}
-use Rattle.rrv_model.specs.StoreCalls.Call.{Write, Sync}
+use Rattle.rrv_model.specs.StoreCalls.{after_disk_calls, IsWithin, tail_calls, gate_calls, open_calls}
+use Rattle.rrv_model.specs.StoreCalls.DiskCall.{Write, Sync}
 use Rattle.rrv_model.proofs.CrashLaws.{crash_synced, crash_torn, crash_cut}
 use Rattle.rrv_model.proofs.StoreLaws.{store_parts}
 use Rattle.commit_core.specs.World.{IsAtRest, store_text, closed_store}
@@ -182,7 +182,7 @@ module _ (fine : List (List ℕ) → Type 0) where
 -- ---- once its calls have answered
 
 tail_end : (bodies : List (List ℕ)) (behind : List ℕ) (disk : DiskState) → IsAtRest disk (store_text bodies ++ 0 ∷ behind)
-    → IsAtRest (after_calls disk (tail_calls (length (store_text bodies)) behind)) (closed_store bodies)
+    → IsAtRest (after_disk_calls disk (tail_calls (length (store_text bodies)) behind)) (closed_store bodies)
 tail_end bodies [] disk rest = rest
 tail_end bodies (x ∷ behind) disk rest =
     let text : take (length (store_text bodies) + 1) disk.content ≡ closed_store bodies =
@@ -191,10 +191,10 @@ tail_end bodies (x ∷ behind) disk rest =
     record { read = text; synced = ap all_synced text }
 
 gate_end : (bodies : List (List ℕ)) (gate : ℕ) (behind : List ℕ) (disk : DiskState) → IsAtRest disk (store_text bodies ++ gate ∷ behind)
-    → IsAtRest (after_calls disk (gate_calls (length (store_text bodies)) gate ++ tail_calls (length (store_text bodies)) behind)) (closed_store bodies)
+    → IsAtRest (after_disk_calls disk (gate_calls (length (store_text bodies)) gate ++ tail_calls (length (store_text bodies)) behind)) (closed_store bodies)
 gate_end bodies gate behind disk rest =
     let place = length (store_text bodies) in
-    let P = λ (b : Bool). IsAtRest (after_calls disk (cond b [] (Write place (0 ∷ []) ∷ Sync ∷ []) ++ tail_calls place behind)) (closed_store bodies) in
+    let P = λ (b : Bool). IsAtRest (after_disk_calls disk (cond b [] (Write place (0 ∷ []) ∷ Sync ∷ []) ++ tail_calls place behind)) (closed_store bodies) in
     elim (eqb_tells gate 0) [
       | inl is ↦ subst P (sym is.0) (tail_end bodies behind disk (subst (λ (g : ℕ). IsAtRest disk (store_text bodies ++ g ∷ behind)) is.1 rest))
       | inr shut ↦ subst P (sym shut.0) (tail_end bodies behind (after_sync (after_write disk place (0 ∷ [])))
@@ -202,8 +202,8 @@ gate_end bodies gate behind disk rest =
           record { read = text; synced = ap all_synced text }))
     ]
 
-pub open_end : (disk : DiskState) (bodies : List (List ℕ)) (store : IsStore disk.content bodies) → IsAtRest (after_calls disk (open_calls disk.content bodies store)) (closed_store bodies)
+pub open_end : (disk : DiskState) (bodies : List (List ℕ)) (store : IsStore disk.content bodies) → IsAtRest (after_disk_calls disk (open_calls disk.content bodies store)) (closed_store bodies)
 open_end disk bodies store =
     let text = text_of_store disk.content bodies store in
-    subst (λ (n : ℕ). IsAtRest (after_calls (after_sync disk) (gate_calls n store.gate ++ tail_calls n store.behind)) (closed_store bodies)) (sym (place_is bodies))
+    subst (λ (n : ℕ). IsAtRest (after_disk_calls (after_sync disk) (gate_calls n store.gate ++ tail_calls n store.behind)) (closed_store bodies)) (sym (place_is bodies))
     (gate_end bodies store.gate store.behind (after_sync disk) (record { read = text; synced = ap all_synced text }))

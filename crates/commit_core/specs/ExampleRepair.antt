@@ -5,8 +5,8 @@ use Rattle.rrv_model.specs.declared.record.Record.{Record}
 use Rattle.rrv_model.specs.CrashModel.{DiskState, IsCrash}
 use Rattle.rrv_model.specs.State.{State}
 use Rattle.rrv_model.specs.StoreText.{segment}
-use Rattle.rrv_model.specs.StoreCalls.{after_calls}
-use Rattle.rrv_model.specs.StoreCalls.Call.{Write, Cut, Sync}
+use Rattle.rrv_model.specs.StoreCalls.{after_disk_calls}
+use Rattle.rrv_model.specs.StoreCalls.DiskCall.{Write, Cut, Sync}
 use Rattle.rrv_model.specs.Recovered.{body_text}
 use Rattle.commit_core.specs.World.{World, store_text, closed_store}
 use Rattle.commit_core.specs.Events.{Event, run}
@@ -36,7 +36,7 @@ torn_store = store_text first_body ++ 0x21 ∷ (segment 1 (body_text (exited ∷
 abbrev pub repaired_disk : DiskState
 repaired_disk =
     let place = length (store_text first_body) in
-    after_calls (fresh_disk torn_store) (Sync ∷ Write place (0 ∷ []) ∷ Sync ∷ Cut (place + 1) ∷ Sync ∷ [])
+    after_disk_calls (fresh_disk torn_store) (Sync ∷ Write place (0 ∷ []) ∷ Sync ∷ Cut (place + 1) ∷ Sync ∷ [])
 
 abbrev pub repaired_start : World
 repaired_start = record (start_on first_body 1) { disk = repaired_disk }

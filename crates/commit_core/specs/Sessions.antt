@@ -4,7 +4,7 @@ use Rattle.std.specs.List.{AllByRecursion}
 use Rattle.rrv_model.specs.declared.record.Record.{Record}
 use Rattle.rrv_model.specs.CrashModel.{DiskState, IsCrash, all_synced}
 use Rattle.rrv_model.specs.StoreText.{IsStore, IsNextSegment}
-use Rattle.rrv_model.specs.StoreCalls.{after_calls, open_calls, IsWithin}
+use Rattle.rrv_model.specs.StoreCalls.{after_disk_calls, open_calls, IsWithin}
 use Rattle.rrv_model.specs.Recovered.{IsRecovered}
 use Rattle.commit_core.specs.World.{World, IsStart}
 use Rattle.commit_core.specs.Events.{Event, run, IsSchedule}
@@ -18,7 +18,7 @@ pub data Session : Type 0 where
 
 -- the disk once `open` has answered
 abbrev pub opened_disk : (disk : DiskState) (bodies : List (List ℕ)) → IsStore disk.content bodies → DiskState
-opened_disk disk bodies store = after_calls disk (open_calls disk.content bodies store)
+opened_disk disk bodies store = after_disk_calls disk (open_calls disk.content bodies store)
 
 abbrev pub Goes : DiskState → Session → DiskState → Type 0
 Goes disk StoppedOpening end =

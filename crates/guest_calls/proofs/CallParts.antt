@@ -8,7 +8,7 @@ use Rattle.rrv_model.specs.declared.record.Written.{Written}
 use Rattle.rrv_model.specs.declared.record.CallRecord.{CallRecord}
 use Rattle.rrv_model.specs.Memory.{Memory, stored, bytes_at}
 use Rattle.rrv_model.specs.State.{State, thread_at, register}
-use Rattle.rrv_model.specs.CallRows.{answers, change_thread, range, with_memory, waits_at, waiters, woken, wakes, leaves, ends, clears, Row, Answers, NoResult, Call, row_of, call_of, write_row, writev_row, exit_row, exit_group_row, set_tid_address_row, futex_row, brk_row, munmap_row, clone_row, mmap_row, mprotect_row, fails, argument}
+use Rattle.rrv_model.specs.CallRows.{only_returns, change_thread, range, with_memory, waits_at, waiters, woken, wakes, leaves, ends, clears, Row, Returns, NoResult, Call, row_of, call_of, write_row, writev_row, exit_row, exit_group_row, set_tid_address_row, futex_row, brk_row, munmap_row, clone_row, mmap_row, mprotect_row, fails, argument}
 use Rattle.rrv_model.specs.CallRows as calls
 use Rattle.rrv_model.specs.Calls.{Silence, write_all, writes, results, call_row}
 use Rattle.rrv_model.specs.RecordText.{HasCallText}
@@ -29,7 +29,7 @@ no_writes s = refl
 
 -- a call that answers and writes nothing
 pub carries_answer : (value : ℕ) (change : State → State) (tid : ℕ) (old mid new : State) (r : CallRecord) →
-    r ≡ record { result = value; written = [] } → mid ≡ change old → new ≡ results tid value mid → Carries (Answers value [] change) tid old r new
+    r ≡ record { result = value; written = [] } → mid ≡ change old → new ≡ results tid value mid → Carries (Returns value [] change) tid old r new
 carries_answer value change tid old mid new r is m n = record {
   answer = Silence;
   records = is;
@@ -39,7 +39,7 @@ carries_answer value change tid old mid new r is m n = record {
 
 -- an answer after a change is one row
 pub carries_after : (n value : ℕ) (change : State → State) (tid : ℕ) (old mid new : State) (r : CallRecord) →
-    value ≡ n → mid ≡ change old → Carries (answers value) tid mid r new → Carries (Answers n [] change) tid old r new
+    value ≡ n → mid ≡ change old → Carries (only_returns value) tid mid r new → Carries (Returns n [] change) tid old r new
 carries_after n value change tid old mid new r value_is mid_is p = record {
   answer = p.answer;
   records = p.records ∙ ap (λ (k : ℕ). let q : CallRecord = record { result = k; written = [] } in q) value_is;
@@ -102,9 +102,9 @@ row_for syscalls.Exit tid s t = exit_row tid s t
 row_for syscalls.ExitGroup tid s t = exit_group_row t
 row_for syscalls.SetTidAddress tid s t = set_tid_address_row tid t
 row_for syscalls.Futex tid s t = futex_row tid s t
-row_for syscalls.SchedYield tid s t = answers 0
-row_for syscalls.Getpid tid s t = answers 1
-row_for syscalls.Gettid tid s t = answers tid
+row_for syscalls.SchedYield tid s t = only_returns 0
+row_for syscalls.Getpid tid s t = only_returns 1
+row_for syscalls.Gettid tid s t = only_returns tid
 row_for syscalls.Brk tid s t = brk_row s t
 row_for syscalls.Munmap tid s t = munmap_row s t
 row_for syscalls.Clone tid s t = clone_row s t

@@ -7,8 +7,8 @@ use Rattle.rrv_model.specs.declared.machine.Thread.{Thread}
 use Rattle.rrv_model.specs.declared.record.CallRecord.{CallRecord}
 use Rattle.rrv_model.specs.Memory.{Memory, stored, writable}
 use Rattle.rrv_model.specs.State.{State, register}
-use Rattle.rrv_model.specs.CallRows.{Row, Answers, NoResult, AsksInput, AsksRandom, AsksTime, Call, Read, Write, Writev, Exit, ExitGroup, SetTidAddress, Futex, SchedYield, Getpid, Gettid, Brk, Munmap, Clone, Mmap, Mprotect, Getrandom, ClockGettime, Other, answers, argument, call_of, fails, maps_at, mmap_place, range, row_of, transfer, with_memory, read_row, getrandom_row, clock_gettime_row}
-use Rattle.rrv_model.specs.Calls.{Answer, Bytes, Time, Records, call_row, results, write_all, writes}
+use Rattle.rrv_model.specs.CallRows.{Row, Returns, NoResult, AsksInput, AsksRandom, AsksTime, Call, Read, Write, Writev, Exit, ExitGroup, SetTidAddress, Futex, SchedYield, Getpid, Gettid, Brk, Munmap, Clone, Mmap, Mprotect, Getrandom, ClockGettime, Other, only_returns, argument, call_of, fails, maps_at, mmap_place, range, row_of, transfer, with_memory, read_row, getrandom_row, clock_gettime_row}
+use Rattle.rrv_model.specs.Calls.{Answer, Bytes, Time, HasRecord, call_row, results, write_all, writes}
 use Rattle.rrv_model.specs.RecordText.{HasCallText}
 use Rattle.guest_pages.specs.Space.{SpaceValue, CanFill, memory_of}
 use Rattle.guest_pages.proofs.Cells.{all_pass, one_of_all}
@@ -22,7 +22,7 @@ use Rattle.guest_calls.specs.Growth.{MayGrow}
 -- ---- rows that ask nothing
 
 abbrev pub asks : Row → Bool
-asks (Answers result written change) = false
+asks (Returns result written change) = false
 asks (NoResult written change) = false
 asks (AsksInput a count) = true
 asks (AsksRandom a count) = true
@@ -106,7 +106,7 @@ quiet_row tid s t quiet = asks_nobody (call_of (register t.regs 17)) tid s t (qu
 -- what such a row leaves is answered by nobody
 pub quietly_answered : {O : Type 0} (gives : O → Question → Answer → O → Type 0) (row : Row) (t : Thread) (tid : ℕ) (old new : State) (r : CallRecord) (o : O) →
     asks row ≡ false → Carries row tid old r new → IsAnswered gives row t r o o
-quietly_answered gives (Answers result written change) t tid old new r o e p = record { answer = p.answer; given = refl; records = p.records }
+quietly_answered gives (Returns result written change) t tid old new r o e p = record { answer = p.answer; given = refl; records = p.records }
 quietly_answered gives (NoResult written change) t tid old new r o e p = record { answer = p.answer; given = refl; records = p.records }
 quietly_answered gives (AsksInput a count) t tid old new r o e p = absurd (false≢true (sym e))
 quietly_answered gives (AsksRandom a count) t tid old new r o e p = absurd (false≢true (sym e))
@@ -119,9 +119,9 @@ quietly_answered_ok gives tid s new t (Err x) o quiet p = tt
 
 -- a test that comes before the question answers a value
 pub value_answered : {O : Type 0} (gives : O → Question → Answer → O → Type 0) (row : Row) (value : ℕ) (t : Thread) (tid : ℕ) (old new : State) (r : CallRecord) (o : O) →
-    row ≡ answers value → Carries (answers value) tid old r new → IsAnswered gives row t r o o
+    row ≡ only_returns value → Carries (only_returns value) tid old r new → IsAnswered gives row t r o o
 value_answered gives row value t tid old new r o e p =
-    subst (λ (row : Row). IsAnswered gives row t r o o) (sym e) (quietly_answered gives (answers value) t tid old new r o refl p)
+    subst (λ (row : Row). IsAnswered gives row t r o o) (sym e) (quietly_answered gives (only_returns value) t tid old new r o refl p)
 
 -- ---- rows by number
 
@@ -212,7 +212,7 @@ text_range value a bytes r low at most small is = subst HasCallText (sym is) (li
 
 module _ (row : Row) (a count tid value : ℕ) (bytes : List ℕ) (old new : State) (r : CallRecord) (is : r ≡ record { result = value; written = range a bytes })
     (n : new ≡ results tid value (with_memory (stored a bytes old.memory) old)) (small : All (λ b. b < 256) bytes) where
-  input_records : value ≡ length bytes → length bytes ≤ count → Records (AsksInput a count) (Bytes bytes) r
+  input_records : value ≡ length bytes → length bytes ≤ count → HasRecord (AsksInput a count) (Bytes bytes) r
   input_records len within =
       let made : ℕ → CallRecord = λ n. record { result = n; written = range a bytes } in
       (within, small, is ∙ ap made len)
@@ -226,7 +226,7 @@ module _ (row : Row) (a count tid value : ℕ) (bytes : List ℕ) (old new : Sta
   input_answered gives t before after e len within given = subst (λ (row : Row). IsAnswered gives row t r before after) (sym e)
       (record { answer = Bytes bytes; given = given; records = input_records len within })
 
-  random_records : value ≡ count → length bytes ≡ count → Records (AsksRandom a count) (Bytes bytes) r
+  random_records : value ≡ count → length bytes ≡ count → HasRecord (AsksRandom a count) (Bytes bytes) r
   random_records all len =
       let made : ℕ → CallRecord = λ n. record { result = n; written = range a bytes } in
       (len, small, is ∙ ap made all)
@@ -243,7 +243,7 @@ module _ (row : Row) (a count tid value : ℕ) (bytes : List ℕ) (old new : Sta
 module _ (row : Row) (a tid seconds nanoseconds : ℕ) (bytes : List ℕ) (old new : State) (r : CallRecord) (is : r ≡ record { result = 0; written = range a bytes })
     (n : new ≡ results tid 0 (with_memory (stored a bytes old.memory) old)) (moment : bytes ≡ to_le_bytes w64 seconds ++ to_le_bytes w64 nanoseconds)
     (low : seconds < 2 ^ 63) (part : nanoseconds < 10 ^ 9) where
-  time_records : Records (AsksTime a) (Time seconds nanoseconds) r
+  time_records : HasRecord (AsksTime a) (Time seconds nanoseconds) r
   time_records =
       let made : List ℕ → CallRecord = λ bytes. record { result = 0; written = range a bytes } in
       (low, part, is ∙ ap made moment)
@@ -273,7 +273,7 @@ module _ (s : State) (t : Thread) where
   pub read_elsewhere : argument t 0 ≢ 0 → read_row s t ≡ fails 9
   read_elsewhere fd = grind (arith, nat_tests)
 
-  pub read_nothing : argument t 0 ≡ 0 → transfer (argument t 2) ≡ 0 → read_row s t ≡ answers 0
+  pub read_nothing : argument t 0 ≡ 0 → transfer (argument t 2) ≡ 0 → read_row s t ≡ only_returns 0
   read_nothing fd none = grind (arith, nat_tests)
 
   pub read_locked : argument t 0 ≡ 0 → transfer (argument t 2) ≢ 0 → writable s.memory (argument t 1) (transfer (argument t 2)) ≡ false → read_row s t ≡ fails 14
@@ -286,7 +286,7 @@ module _ (s : State) (t : Thread) where
   pub getrandom_flags : 7 < argument t 2 → getrandom_row s t ≡ fails 22
   getrandom_flags high = grind (arith, nat_tests)
 
-  pub getrandom_nothing : argument t 2 ≤ 7 → min (argument t 1) 256 ≡ 0 → getrandom_row s t ≡ answers 0
+  pub getrandom_nothing : argument t 2 ≤ 7 → min (argument t 1) 256 ≡ 0 → getrandom_row s t ≡ only_returns 0
   getrandom_nothing flags none = grind (arith, nat_tests)
 
   pub getrandom_locked : argument t 2 ≤ 7 → min (argument t 1) 256 ≢ 0 → writable s.memory (argument t 0) (min (argument t 1) 256) ≡ false → getrandom_row s t ≡ fails 14

@@ -4,8 +4,8 @@ use Rattle.std.specs.Int.{w64, to_le_bytes}
 use Rattle.rrv_model.specs.declared.machine.Thread.{Thread}
 use Rattle.rrv_model.specs.declared.record.CallRecord.{CallRecord}
 use Rattle.rrv_model.specs.State.{State}
-use Rattle.rrv_model.specs.CallRows.{Row, Answers, NoResult, AsksInput, AsksRandom, AsksTime, argument}
-use Rattle.rrv_model.specs.Calls.{Answer, Time, Records, call_row}
+use Rattle.rrv_model.specs.CallRows.{Row, Returns, NoResult, AsksInput, AsksRandom, AsksTime, argument}
+use Rattle.rrv_model.specs.Calls.{Answer, Time, HasRecord, call_row}
 use Rattle.guest_calls.specs.declared.asking.Inquiry.{Inquiry}
 use Rattle.guest_calls.specs.declared.asking.Inquiry.TheVariants as inquiries
 
@@ -21,7 +21,7 @@ pub data Question : Type 0 where
 -- an outside that gives answers so was asked what the row asks, once, and gave this answer; where the row asks nothing,
 -- the outside is as before
 abbrev pub IsGiven : {O : Type 0} → (O → Question → Answer → O → Type 0) → Row → Thread → Answer → O → O → Type 0
-IsGiven gives (Answers result written change) t answer before after = after ≡ before
+IsGiven gives (Returns result written change) t answer before after = after ≡ before
 IsGiven gives (NoResult written change) t answer before after = after ≡ before
 IsGiven gives (AsksInput a count) t answer before after = gives before (Input count) answer after
 IsGiven gives (AsksRandom a count) t answer before after = gives before (Random count) answer after
@@ -31,7 +31,7 @@ IsGiven gives (AsksTime a) t answer before after = gives before (Clock (argument
 pub record IsAnswered {O : Type 0} (gives : O → Question → Answer → O → Type 0) (row : Row) (t : Thread) (r : CallRecord) (before after : O) : Type 0 where
   pub answer : Answer
   pub given : IsGiven gives row t answer before after
-  pub records : Records row answer r
+  pub records : HasRecord row answer r
 
 -- so is that of the call that the thread makes
 abbrev pub CallIsAnswered : {O : Type 0} → (O → Question → Answer → O → Type 0) → State → ℕ → Option Thread → CallRecord → O → O → Type 0

@@ -3,15 +3,15 @@ use Rattle.std.specs.Prelude.{◌≡◌, ◌⊎◌, ℕ, Option, Some, None}
 use Rattle.rrv_model.specs.declared.machine.Thread.{Thread}
 use Rattle.rrv_model.specs.declared.record.CallRecord.{CallRecord}
 use Rattle.rrv_model.specs.State.{State}
-use Rattle.rrv_model.specs.CallRows.{Row, Answers, NoResult, AsksInput, AsksRandom, AsksTime, call_of, Other}
-use Rattle.rrv_model.specs.Calls.{Answer, Calls, Records, after_call, call_row}
+use Rattle.rrv_model.specs.CallRows.{Row, Returns, NoResult, AsksInput, AsksRandom, AsksTime, call_of, Other}
+use Rattle.rrv_model.specs.Calls.{Answer, Calls, HasRecord, after_call, call_row}
 use Rattle.guest_calls.specs.declared.syscall.Syscall.{Syscall}
 use Rattle.guest_calls.specs.declared.syscall.Syscall.TheVariants as syscalls
 
 -- the row leads from one state to the next, with this record
 pub record Carries (row : Row) (tid : ℕ) (old : State) (r : CallRecord) (new : State) : Type 0 where
   pub answer : Answer
-  pub records : Records row answer r
+  pub records : HasRecord row answer r
   pub leaves : new ≡ after_call row tid r old
 
 -- some answer of the outside leads there
@@ -20,7 +20,7 @@ CallDoes old tid r new = (answer : Answer) × Calls old tid answer r new
 
 -- the row looks at the outside
 abbrev pub Asks : Row → Type 0
-Asks (Answers result written change) = ⊥
+Asks (Returns result written change) = ⊥
 Asks (NoResult written change) = ⊥
 Asks (AsksInput a count) = Unit {0}
 Asks (AsksRandom a count) = Unit {0}

@@ -3,12 +3,12 @@ use Rattle.std.specs.Prelude.{◌≡◌, ℕ, ◌-◌, ◌*◌, ◌/◌, ◌%◌
 use Rattle.rrv_model.specs.declared.machine.Thread.{Thread}
 use Rattle.rrv_model.specs.Memory.{readable, pages_for}
 use Rattle.rrv_model.specs.State.{State, register}
-use Rattle.rrv_model.specs.CallRows.{Row, Answers, NoResult, AsksInput, AsksRandom, AsksTime, Call, Read, Write, Writev, Exit, ExitGroup, SetTidAddress, Futex, SchedYield, Getpid, Gettid, Brk, Munmap, Clone, Mmap, Mprotect, Getrandom, ClockGettime, Other, argument, call_of, clears, is_output, read_row, write_row, futex_row, brk_row, clone_row, mmap_row, getrandom_row, clock_gettime_row}
+use Rattle.rrv_model.specs.CallRows.{Row, Returns, NoResult, AsksInput, AsksRandom, AsksTime, Call, Read, Write, Writev, Exit, ExitGroup, SetTidAddress, Futex, SchedYield, Getpid, Gettid, Brk, Munmap, Clone, Mmap, Mprotect, Getrandom, ClockGettime, Other, argument, call_of, clears, is_output, read_row, write_row, futex_row, brk_row, clone_row, mmap_row, getrandom_row, clock_gettime_row}
 use Rattle.guest_calls.specs.Carries.{Asks}
 
 -- the call answers no negated error number, which is -4095 to -1 (Linux man pages, intro(2) and errno(3))
 abbrev pub Succeeds : Row → Type 0
-Succeeds (Answers result written change) = result < 2 ^ 32 - 4095
+Succeeds (Returns result written change) = result < 2 ^ 32 - 4095
 Succeeds (NoResult written change) = Unit {0}
 Succeeds (AsksInput a count) = Unit {0}
 Succeeds (AsksRandom a count) = Unit {0}
@@ -16,7 +16,7 @@ Succeeds (AsksTime a) = Unit {0}
 
 -- it answers this
 abbrev pub AnswersWith : ℕ → Row → Type 0
-AnswersWith n (Answers result written change) = result ≡ n
+AnswersWith n (Returns result written change) = result ≡ n
 AnswersWith n (NoResult written change) = ⊥
 AnswersWith n (AsksInput a count) = ⊥
 AnswersWith n (AsksRandom a count) = ⊥

@@ -2,7 +2,7 @@
 use Rattle.std.specs.Prelude.{◌≡◌, ℕ, ◌<◌, ◌≤◌, Option, None, false, map}
 use Rattle.std.specs.FinMap.{from_entries}
 use Rattle.std.specs.List.Sorted.{IsStrictlyIncreasing}
-use Rattle.rrv_model.specs.declared.record.Rest.{Rest}
+use Rattle.rrv_model.specs.declared.record.CheckpointRest.{CheckpointRest}
 use Rattle.rrv_model.specs.Memory.{Memory, page_count, is_mapped}
 use Rattle.rrv_model.specs.State.{State, IsState}
 use Rattle.guest_pages.specs.declared.page.PageView.{PageView}
@@ -19,7 +19,7 @@ IsSetPageRefusal faults.TooManyPages n page m = MayHave n page × (16_384 < page
 IsSetPageRefusal faults.Memory n page m = MayHave n page × (page_count (with_page n page m) ≤ 16_384) × (is_mapped m n ≡ false)
 
 -- the state with the rest of a checkpoint: memory and opening break stay, and there is neither a reservation nor an end
-abbrev pub with_rest : Rest → State → State
+abbrev pub with_rest : CheckpointRest → State → State
 with_rest rest s = record s {
   threads = from_entries (map (λ p. (p.tid, p.thread)) rest.threads);
   waiting = rest.waiting;
@@ -30,11 +30,11 @@ with_rest rest s = record s {
 }
 
 -- the rest, its tids rising, makes a state of the memory and the opening break of this one
-pub record MakesState (rest : Rest) (s : State) : Type 0 where
+pub record MakesState (rest : CheckpointRest) (s : State) : Type 0 where
   pub tids_rising : IsStrictlyIncreasing (map (λ p. p.tid) rest.threads)
   pub is_state : IsState (with_rest rest s)
 
 -- why the rest isn't taken
-abbrev pub IsSetRestRefusal : SetRestFault → Rest → State → Type 0
+abbrev pub IsSetRestRefusal : SetRestFault → CheckpointRest → State → Type 0
 IsSetRestRefusal rest_faults.NoState rest s = ¬ MakesState rest s
 IsSetRestRefusal rest_faults.Memory rest s = MakesState rest s

@@ -3,7 +3,7 @@
 ghost use Rattle.std.specs.Prelude.{◌≡◌, [], ◌∷◌, Some, None, MatchOption, true, IsTrue, IfOk, OnOk, OnErr, length, if◌then◌else◌, ◌==◌, ◌+◌, ◌≤◌, ◌^◌};
 ghost use Rattle.rrv_model.specs.Memory.{readable, writable, bytes_at};
 ghost use Rattle.rrv_model.specs.State.{thread_at, register, IsRunning, IsThread};
-ghost use Rattle.rrv_model.specs.CallRows.{NoResult, range, answers, call_of, clears, leaves, wakes, write_row, exit_row, exit_group_row, set_tid_address_row};
+ghost use Rattle.rrv_model.specs.CallRows.{NoResult, range, only_returns, call_of, clears, leaves, wakes, write_row, exit_row, exit_group_row, set_tid_address_row};
 ghost use Rattle.rrv_model.specs.Calls.{call_row};
 ghost use Rattle.rrv_model.specs.RecordText.{HasCallText};
 ghost use Rattle.rrv_model.specs.Output.{put_out, put_out_by};
@@ -17,7 +17,7 @@ use crate::guest::Guest;
 use crate::outside::Outside;
 use crate::put::Put;
 use crate::syscall::{Syscall, syscall_of};
-use rrv_model::items::Items;
+use rrv_model::sequence::Sequence;
 use rrv_model::limits::MAX_TRANSFER;
 use rrv_model::machine::Thread;
 use rrv_model::record::{CallRecord, Written};
@@ -49,16 +49,16 @@ pub(crate) fn failure(errno: u32) -> u32
 }
 
 /// What a call records that writes one word of zeros.
-fn cleared_word(alloc: Global, address: u32) -> Result<Items<Written>, Memory>
+fn cleared_word(alloc: Global, address: u32) -> Result<Sequence<Written>, Memory>
     ensures { IfOk result (λ written. written ≡ range address (0 ∷ 0 ∷ 0 ∷ 0 ∷ [])) }
 {
     let bytes = vec![in alloc; 0u8; 4]?;
     let mut written = Vec::new(alloc);
     match written.push(Written {
         address,
-        bytes: Items::from_vec(bytes),
+        bytes: Sequence::from_vec(bytes),
     }) {
-        Ok(()) => Ok(Items::from_vec(written)),
+        Ok(()) => Ok(Sequence::from_vec(written)),
         Err(_) => Err(Memory),
     }
 }
@@ -73,7 +73,7 @@ pub(crate) fn put_of(descriptor: u32, bytes: Vec<u8>) -> Option<Put>
     }
     Some(Put {
         descriptor,
-        bytes: Items::from_vec(bytes),
+        bytes: Sequence::from_vec(bytes),
     })
 }
 
@@ -157,7 +157,7 @@ impl Guest {
 
     /// Answers a value, and does nothing else.
     pub(crate) fn answer(&mut self, alloc: Global, tid: u32, value: u32) -> CallRecord
-        ensures carries { Carries (answers value) tid (state_of self.old) result (state_of self.new) }
+        ensures carries { Carries (only_returns value) tid (state_of self.old) result (state_of self.new) }
         ensures text { HasCallText result }
         ensures value { result.result ≡ value }
         ensures put { self.new.put ≡ None }
@@ -168,7 +168,7 @@ impl Guest {
         self.put = None;
         CallRecord {
             result: value,
-            written: Items::from_vec(Vec::new(alloc)),
+            written: Sequence::from_vec(Vec::new(alloc)),
         }
     }
 
@@ -234,7 +234,7 @@ impl Guest {
         self.put = None;
         Ok(CallRecord {
             result: 0,
-            written: Items::from_vec(Vec::new(alloc)),
+            written: Sequence::from_vec(Vec::new(alloc)),
         })
     }
 
@@ -279,7 +279,7 @@ impl Guest {
         self.put = None;
         CallRecord {
             result: 0,
-            written: Items::from_vec(Vec::new(alloc)),
+            written: Sequence::from_vec(Vec::new(alloc)),
         }
     }
 
@@ -297,7 +297,7 @@ impl Guest {
         self.put = None;
         CallRecord {
             result: tid,
-            written: Items::from_vec(Vec::new(alloc)),
+            written: Sequence::from_vec(Vec::new(alloc)),
         }
     }
 }

@@ -17,7 +17,7 @@ use crate::calls::{BAD_ADDRESS, INVALID, TRY_AGAIN, failure};
 use crate::changes::{A0, with_register};
 use crate::guest::Guest;
 use guest_threads::Threads;
-use rrv_model::items::Items;
+use rrv_model::sequence::Sequence;
 use rrv_model::machine::{Regs, Thread};
 use rrv_model::record::{CallRecord, Written};
 use rrv_model::refusal::Memory;
@@ -125,12 +125,12 @@ fn written_word(alloc: Global, address: u32, word: u32) -> Result<Written, Memor
     let bytes = word.to_le_bytes().to_vec(alloc)?;
     Ok(Written {
         address,
-        bytes: Items::from_vec(bytes),
+        bytes: Sequence::from_vec(bytes),
     })
 }
 
 /// What a clone records: the tid at each place.
-fn written_words(alloc: Global, places: &[u32], word: u32) -> Result<Items<Written>, Memory>
+fn written_words(alloc: Global, places: &[u32], word: u32) -> Result<Sequence<Written>, Memory>
     ensures words { IfOk result (λ written. written ≡ words_at places.now word) }
     ensures texts { IfOk result (λ written. AllByRecursion HasWrittenText written) }
 {
@@ -142,7 +142,7 @@ fn written_words(alloc: Global, places: &[u32], word: u32) -> Result<Items<Writt
             Err(_) => return Err(Memory),
         }
     }
-    Ok(Items::from_vec(written))
+    Ok(Sequence::from_vec(written))
 }
 
 /// The threads with one more, which stands under the next tid.

@@ -4,7 +4,7 @@ ghost use Rattle.std.specs.Prelude.{◌≡◌, ◌==◌, ◌%◌, ◌/◌, ◌*�
 ghost use Rattle.rrv_model.specs.Memory.{readable};
 ghost use Rattle.rrv_model.specs.State.{thread_at, IsRunning};
 ghost use Rattle.rrv_model.specs.Step.{word_at};
-ghost use Rattle.rrv_model.specs.CallRows.{Answers, argument, futex_row, waiters, waits, wakes};
+ghost use Rattle.rrv_model.specs.CallRows.{Returns, argument, futex_row, waiters, waits, wakes};
 ghost use Rattle.rrv_model.specs.RecordText.{HasCallText};
 ghost use Rattle.guest_pages.specs.Space.{snapshots_of};
 ghost use Rattle.guest_calls.specs.Guest.{state_of};
@@ -74,7 +74,7 @@ impl Guest {
 
     /// Wakes the first count waiters at an address, in the waiting order, and answers how many there were.
     fn wake_waiters(&mut self, alloc: Global, tid: u32, address: u32, count: u32) -> CallRecord
-        ensures carries { Carries (Answers (length (waiters (state_of self.old) address count)) [] (wakes address count))
+        ensures carries { Carries (Returns (length (waiters (state_of self.old) address count)) [] (wakes address count))
             tid (state_of self.old) result (state_of self.new) }
         ensures text { HasCallText result }
         ensures put { self.new.put ≡ None }
@@ -89,7 +89,7 @@ impl Guest {
     fn begin_wait(&mut self, alloc: Global, tid: u32, address: u32) -> Result<CallRecord, Memory>
         requires { IsRunning (thread_at (state_of self.old) tid) }
         ensures carries { IfOk result (λ r.
-            Carries (Answers 0 [] (waits tid address)) tid (state_of self.old) r (state_of self.new)) }
+            Carries (Returns 0 [] (waits tid address)) tid (state_of self.old) r (state_of self.new)) }
         ensures text { IfOk result HasCallText }
         ensures put { OnOk result (self.new.put ≡ None) }
         ensures refused { OnErr result (self.new ≡ self.old) }

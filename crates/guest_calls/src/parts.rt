@@ -11,7 +11,7 @@ use crate::fault::{SetPageFault, SetRestFault};
 use crate::guest::Guest;
 use guest_pages::{PageFault, PageView, Snapshot};
 use guest_threads::{PartsFault, Threads};
-use rrv_model::record::Rest;
+use rrv_model::record::CheckpointRest;
 use rrv_model::refusal::Memory;
 use std::alloc::Global;
 
@@ -78,7 +78,7 @@ impl Guest {
     /// Takes the rest of a checkpoint in place of the threads, the waiting order, the next tid and the program break; the
     /// reservation and the end are gone. Refused with NoState exactly where its tids don't rise or it makes no state of the
     /// guest's memory and opening break, else with Memory where a growth is refused.
-    pub fn set_rest(&mut self, alloc: Global, rest: &Rest) -> Result<(), SetRestFault>
+    pub fn set_rest(&mut self, alloc: Global, rest: &CheckpointRest) -> Result<(), SetRestFault>
         ensures state { OnOk result (state_of self.new ≡ with_rest rest.now (state_of self.old)) }
         ensures possible { OnOk result (MakesState rest.now (state_of self.old)) }
         ensures refused { IfErr result (λ fault. IsSetRestRefusal fault rest.now (state_of self.old)) }

@@ -1,10 +1,10 @@
 //! What a call puts out.
 
-use rrv_model::items::Items;
+use rrv_model::sequence::Sequence;
 
 /// Bytes that go to a descriptor.
 #[derive(Debug, Drop)]
 pub struct Put {
     pub descriptor: u32,
-    pub bytes: Items<u8>,
+    pub bytes: Sequence<u8>,
 }

@@ -3,7 +3,7 @@
 ghost use Rattle.std.specs.Prelude.{◌≡◌, [], length, vec_len, vec_capacity, IfOk};
 ghost use Rattle.rrv_model.specs.CallRows.{range};
 
-use rrv_model::items::Items;
+use rrv_model::sequence::Sequence;
 use rrv_model::record::Written;
 use rrv_model::refusal::Memory;
 use std::alloc::Global;
@@ -30,15 +30,15 @@ impl Room {
     }
 
     /// What a call wrote that wrote these bytes. It takes no memory.
-    pub(crate) fn into_written(self, address: u32) -> Items<Written>
+    pub(crate) fn into_written(self, address: u32) -> Sequence<Written>
         ensures { result ≡ range address self.bytes.items }
     {
         let Room { bytes, mut written } = self;
         if bytes.is_empty() {
-            return Items::from_vec(written);
+            return Sequence::from_vec(written);
         }
-        let bytes = Items::from_vec(bytes);
+        let bytes = Sequence::from_vec(bytes);
         written.push(Written { address, bytes }).unwrap();
-        Items::from_vec(written)
+        Sequence::from_vec(written)
     }
 }

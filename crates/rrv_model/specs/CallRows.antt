@@ -15,7 +15,7 @@ use Rattle.rrv_model.specs.Step.{word_at}
 -- what a call does: it answers a result, writes, and changes the state otherwise; or the thread goes without a result;
 -- or the outside is asked, for up to count bytes, for just count random bytes, or for the time, which are written at an address
 pub data Row : Type 0 where
-  Answers : (result : ℕ) → List Written → (State → State) → Row
+  Returns : (result : ℕ) → List Written → (State → State) → Row
   NoResult : List Written → (State → State) → Row
   AsksInput : (a count : ℕ) → Row
   AsksRandom : (a count : ℕ) → Row
@@ -34,10 +34,10 @@ unchanged s = s
 
 -- the negated errno, with nothing written
 abbrev pub fails : ℕ → Row
-fails errno = Answers (2 ^ 32 - errno) [] unchanged
+fails errno = Returns (2 ^ 32 - errno) [] unchanged
 
-abbrev pub answers : ℕ → Row
-answers result = Answers result [] unchanged
+abbrev pub only_returns : ℕ → Row
+only_returns result = Returns result [] unchanged
 
 -- empty ranges aren't listed
 abbrev pub range : ℕ → List ℕ → List Written
@@ -55,7 +55,7 @@ abbrev pub read_row : State → Thread → Row
 read_row s t =
     let count = transfer (argument t 2) in
     if not (argument t 0 == 0) then fails 9
-    else if count == 0 then answers 0
+    else if count == 0 then only_returns 0
     else if not (writable s.memory (argument t 1) count) then fails 14
     else AsksInput (argument t 1) count
 
@@ -68,7 +68,7 @@ write_row s t =
     let count = transfer (argument t 2) in
     if not (is_output (argument t 0)) then fails 9
     else if not (readable s.memory (argument t 1) count) then fails 14
-    else answers count
+    else only_returns count
 
 -- count pairs of base and length from a
 unfoldable pub buffers_at : Memory → ℕ → ℕ → List (ℕ × ℕ)
@@ -97,7 +97,7 @@ writev_row s t =
     else if not (readable s.memory (argument t 1) (8 * count)) then fails 14
     else if nat_lt (2 ^ 31 - 1) (total_len buffers) then fails 22
     else if not (all_readable s.memory (clipped 65_536 buffers)) then fails 14
-    else answers (transfer (total_len buffers))
+    else only_returns (transfer (total_len buffers))
 
 -- ---- threads
 
@@ -154,7 +154,7 @@ exit_group_row t = NoResult [] (ends (argument t 0))
 
 -- set_tid_address(2): set_tid_address(a)
 abbrev pub set_tid_address_row : ℕ → Thread → Row
-set_tid_address_row tid t = Answers tid [] (change_thread tid (λ t'. record t' { clear = argument t 0 }))
+set_tid_address_row tid t = Returns tid [] (change_thread tid (λ t'. record t' { clear = argument t 0 }))
 
 -- the thread waits at a, last in the waiting order
 abbrev pub waits : ℕ → ℕ → State → State
@@ -167,11 +167,11 @@ futex_row tid s t =
     let op = argument t 1 - argument t 1 / 128 % 2 * 128 in
     if nat_lt 1 op then fails 38
     else if not (a % 4 == 0) then fails 22
-    else if op == 1 then Answers (length (waiters s a (argument t 2))) [] (wakes a (argument t 2))
+    else if op == 1 then Returns (length (waiters s a (argument t 2))) [] (wakes a (argument t 2))
     else if not (argument t 3 == 0) then fails 38
     else if not (readable s.memory a 4) then fails 14
     else if not (word_at s.memory a == argument t 2) then fails 11
-    else Answers 0 [] (waits tid a)
+    else Returns 0 [] (waits tid a)
 
 -- ---- clone(2): clone(flags, stack, ptid, tls, ctid)
 
@@ -214,7 +214,7 @@ clone_row s t =
     if not (are_clone_flags (argument t 0)) then fails 22
     else if nat_le 16 (len s.threads) || nat_lt (2 ^ 31 - 1) tid then fails 11
     else if not (all_writable s.memory (tid_places t)) then fails 14
-    else Answers tid (flat_map (λ a. range a (to_le_bytes w32 tid)) (tid_places t))
+    else Returns tid (flat_map (λ a. range a (to_le_bytes w32 tid)) (tid_places t))
     (λ s'. with_thread tid (child_of t) (record s' { next_tid = tid + 1 }))
 
 -- ---- memory
@@ -237,10 +237,10 @@ brk_row s t =
     let to = pages_for a in
     let grown = mapped (from * page_bytes) ((to - from) * page_bytes) (permissions_of 3) s.memory in
     let shrunk = unmapped (to * page_bytes) ((from - to) * page_bytes) s.memory in
-    if nat_lt a s.opening_break || nat_lt 0x70000000 a then answers s.program_break
-    else if nat_le to from then Answers a [] (λ s'. record s' { memory = shrunk; program_break = a })
-    else if not (all_free s.memory from (to - from)) || nat_lt page_limit (page_count grown) then answers s.program_break
-    else Answers a [] (λ s'. record s' { memory = grown; program_break = a })
+    if nat_lt a s.opening_break || nat_lt 0x70000000 a then only_returns s.program_break
+    else if nat_le to from then Returns a [] (λ s'. record s' { memory = shrunk; program_break = a })
+    else if not (all_free s.memory from (to - from)) || nat_lt page_limit (page_count grown) then only_returns s.program_break
+    else Returns a [] (λ s'. record s' { memory = grown; program_break = a })
 
 -- munmap(2): munmap(a, len)
 abbrev pub munmap_row : State → Thread → Row
@@ -248,7 +248,7 @@ munmap_row s t =
     let a = argument t 0 in
     let bytes = pages_for (argument t 1) * page_bytes in
     if not (a % page_bytes == 0) || (argument t 1 == 0 || nat_lt 0x80000000 (a + bytes)) then fails 22
-    else Answers 0 [] (λ s'. record s' { memory = unmapped a bytes s'.memory })
+    else Returns 0 [] (λ s'. record s' { memory = unmapped a bytes s'.memory })
 
 -- where mmap maps, if anywhere: at the address for FIXED, else in the highest free range
 abbrev pub mmap_place : State → Thread → Option ℕ
@@ -264,7 +264,7 @@ maps_at s t None = fails 12
 maps_at s t (Some page) =
     let new = mapped (page * page_bytes) (pages_for (argument t 1) * page_bytes) (permissions_of (argument t 2)) s.memory in
     if nat_lt page_limit (page_count new) then fails 12
-    else Answers (page * page_bytes) [] (λ s'. record s' { memory = new })
+    else Returns (page * page_bytes) [] (λ s'. record s' { memory = new })
 
 -- mmap(2): mmap(a, len, prot, flags, ..)
 abbrev pub mmap_row : State → Thread → Row
@@ -281,7 +281,7 @@ mprotect_row s t =
     let pages = pages_for (argument t 1) in
     if not (a % page_bytes == 0) || nat_lt 7 (argument t 2) then fails 22
     else if not (all_mapped s.memory (a / page_bytes) pages) then fails 12
-    else Answers 0 [] (λ s'. record s' { memory = protected a (pages * page_bytes) (permissions_of (argument t 2)) s'.memory })
+    else Returns 0 [] (λ s'. record s' { memory = protected a (pages * page_bytes) (permissions_of (argument t 2)) s'.memory })
 
 -- ---- random bytes and the time
 
@@ -290,7 +290,7 @@ abbrev pub getrandom_row : State → Thread → Row
 getrandom_row s t =
     let count = min (argument t 1) 256 in
     if nat_lt 7 (argument t 2) then fails 22
-    else if count == 0 then answers 0
+    else if count == 0 then only_returns 0
     else if not (writable s.memory (argument t 0) count) then fails 14
     else AsksRandom (argument t 0) count
 
@@ -325,9 +325,9 @@ row_of Exit tid s t = exit_row tid s t
 row_of ExitGroup tid s t = exit_group_row t
 row_of SetTidAddress tid s t = set_tid_address_row tid t
 row_of Futex tid s t = futex_row tid s t
-row_of SchedYield tid s t = answers 0
-row_of Getpid tid s t = answers 1
-row_of Gettid tid s t = answers tid
+row_of SchedYield tid s t = only_returns 0
+row_of Getpid tid s t = only_returns 1
+row_of Gettid tid s t = only_returns tid
 row_of Brk tid s t = brk_row s t
 row_of Munmap tid s t = munmap_row s t
 row_of Clone tid s t = clone_row s t

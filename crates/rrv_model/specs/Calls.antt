@@ -6,7 +6,7 @@ use Rattle.rrv_model.specs.declared.record.Written.{Written}
 use Rattle.rrv_model.specs.declared.record.CallRecord.{CallRecord}
 use Rattle.rrv_model.specs.Memory.{Memory, stored}
 use Rattle.rrv_model.specs.State.{State, thread_at, register}
-use Rattle.rrv_model.specs.CallRows.{Row, Answers, NoResult, AsksInput, AsksRandom, AsksTime, call_of, row_of, range, change_thread, set_register}
+use Rattle.rrv_model.specs.CallRows.{Row, Returns, NoResult, AsksInput, AsksRandom, AsksTime, call_of, row_of, range, change_thread, set_register}
 
 -- what the outside answers, where it is asked
 pub data Answer : Type 0 where
@@ -21,22 +21,22 @@ call_row s tid t = row_of (call_of (register t.regs 17)) tid s t
 -- ---- the relation
 
 -- the outside may give this answer, and the record is then this
-abbrev pub Records : Row → Answer → CallRecord → Type 0
-Records (Answers result written change) answer r = r ≡ record { result = result; written = written }
-Records (NoResult written change) answer r = r ≡ record { result = 0; written = written }
-Records (AsksInput a count) (Bytes bytes) r =
+abbrev pub HasRecord : Row → Answer → CallRecord → Type 0
+HasRecord (Returns result written change) answer r = r ≡ record { result = result; written = written }
+HasRecord (NoResult written change) answer r = r ≡ record { result = 0; written = written }
+HasRecord (AsksInput a count) (Bytes bytes) r =
     (length bytes ≤ count) × All (λ b. b < 256) bytes × (r ≡ record { result = length bytes; written = range a bytes })
-Records (AsksRandom a count) (Bytes bytes) r =
+HasRecord (AsksRandom a count) (Bytes bytes) r =
     (length bytes ≡ count) × All (λ b. b < 256) bytes × (r ≡ record { result = count; written = range a bytes })
-Records (AsksTime a) (Time seconds nanoseconds) r =
+HasRecord (AsksTime a) (Time seconds nanoseconds) r =
     (seconds < 2 ^ 63) × (nanoseconds < 10 ^ 9)
     × (r ≡ record { result = 0; written = range a (to_le_bytes w64 seconds ++ to_le_bytes w64 nanoseconds) })
-Records (AsksInput a count) Silence r = ⊥
-Records (AsksInput a count) (Time seconds nanoseconds) r = ⊥
-Records (AsksRandom a count) Silence r = ⊥
-Records (AsksRandom a count) (Time seconds nanoseconds) r = ⊥
-Records (AsksTime a) Silence r = ⊥
-Records (AsksTime a) (Bytes bytes) r = ⊥
+HasRecord (AsksInput a count) Silence r = ⊥
+HasRecord (AsksInput a count) (Time seconds nanoseconds) r = ⊥
+HasRecord (AsksRandom a count) Silence r = ⊥
+HasRecord (AsksRandom a count) (Time seconds nanoseconds) r = ⊥
+HasRecord (AsksTime a) Silence r = ⊥
+HasRecord (AsksTime a) (Bytes bytes) r = ⊥
 
 -- the ranges are written in their order
 unfoldable pub write_all : List Written → Memory → Memory
@@ -52,7 +52,7 @@ results tid result s = change_thread tid (set_register 10 result) s
 
 -- the state after, which the row and the record determine
 abbrev pub after_call : Row → ℕ → CallRecord → State → State
-after_call (Answers result written change) tid r s = results tid r.result (writes r.written (change s))
+after_call (Returns result written change) tid r s = results tid r.result (writes r.written (change s))
 after_call (NoResult written change) tid r s = writes r.written (change s)
 after_call (AsksInput a count) tid r s = results tid r.result (writes r.written s)
 after_call (AsksRandom a count) tid r s = results tid r.result (writes r.written s)
@@ -63,7 +63,7 @@ pub record Calls (s : State) (tid : ℕ) (answer : Answer) (r : CallRecord) (aft
   pub thread : Thread
   pub there : thread_at s tid ≡ Some thread
   pub running : thread.waits_at ≡ None
-  pub records : Records (call_row s tid thread) answer r
+  pub records : HasRecord (call_row s tid thread) answer r
   pub leaves : after ≡ after_call (call_row s tid thread) tid r s
 
 -- state, thread and record leave one state after at most, whatever the outside answered

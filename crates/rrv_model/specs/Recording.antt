@@ -1,7 +1,7 @@
 -- Recording: the records of one guest, in order, each of which follows from those before it.
 use Rattle.std.specs.Prelude.{◌≡◌, ℕ, suc, ◌+◌, List, [], ◌∷◌, ◌++◌, length, map, take, Option, Some, None}
 use Rattle.rrv_model.specs.declared.record.Frame.{Frame}
-use Rattle.rrv_model.specs.declared.record.Rest.{Rest}
+use Rattle.rrv_model.specs.declared.record.CheckpointRest.{CheckpointRest}
 use Rattle.rrv_model.specs.declared.record.Part.{Part}
 use Rattle.rrv_model.specs.declared.record.Item.{Item}
 use Rattle.rrv_model.specs.declared.record.Item.TheVariants as items
@@ -18,16 +18,16 @@ IsNumbered guest index [] = Unit {0}
 IsNumbered guest index (r ∷ records) = (r.guest ≡ guest) × (r.index ≡ index) × IsNumbered guest (index + 1) records
 
 -- what a part says of the state, which hasn't ended, with the parts in a row before it: an unflagged one says nothing yet
-abbrev pub PartFits : Option Rest → State → List Part → State → Type 0
+abbrev pub PartFits : Option CheckpointRest → State → List Part → State → Type 0
 PartFits None base parts s = Unit {0}
 PartFits (Some rest) base parts s = Describes base parts s × (s.ended ≡ None)
 
 -- the base and the parts in a row behind a part: behind a flagged one the base is the state there
-abbrev pub base_after : Option Rest → State → State → State
+abbrev pub base_after : Option CheckpointRest → State → State → State
 base_after None base s = base
 base_after (Some rest) base s = s
 
-abbrev pub row_after : Option Rest → List Part → List Part
+abbrev pub row_after : Option CheckpointRest → List Part → List Part
 row_after None parts = parts
 row_after (Some rest) parts = []
 

@@ -3,7 +3,7 @@
 
 pub mod fields;
 pub mod instr;
-pub mod items;
+pub mod sequence;
 pub mod laws;
 pub mod limits;
 pub mod machine;

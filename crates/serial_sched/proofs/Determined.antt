@@ -9,8 +9,8 @@ use Rattle.rrv_model.specs.declared.machine.Thread.{Thread}
 use Rattle.rrv_model.specs.declared.record.Written.{Written}
 use Rattle.rrv_model.specs.declared.record.CallRecord.{CallRecord}
 use Rattle.rrv_model.specs.State.{State, thread_at}
-use Rattle.rrv_model.specs.CallRows.{Row, Answers, NoResult, AsksInput, AsksRandom, AsksTime, argument, range}
-use Rattle.rrv_model.specs.Calls.{Answer, Silence, Bytes, Time, Calls, Records, call_row}
+use Rattle.rrv_model.specs.CallRows.{Row, Returns, NoResult, AsksInput, AsksRandom, AsksTime, argument, range}
+use Rattle.rrv_model.specs.Calls.{Answer, Silence, Bytes, Time, Calls, HasRecord, call_row}
 use Rattle.guest_calls.specs.Asking.{Question, Input, Random, Clock, IsAnswered, CallIsAnswered}
 use Rattle.serial_sched.specs.declared.recorded.Recorded.{Recorded}
 use Rattle.serial_sched.specs.Answered.{answered, moment_in, IsMoment, Recalls}
@@ -35,23 +35,23 @@ ranged a bytes result = record { result = result; written = range a bytes }
 
 module _ {O : Type 0} (gives : O → Question → Answer → O → Type 0) (t : Thread) (told found : CallRecord) (before after : O)
     (recalls : (question : Question) (answer : Answer) → gives before question answer after → Recalls (answered told.written) question answer) where
-  input_again : (a count : ℕ) (bytes : List ℕ) → Records (AsksInput a count) (Bytes bytes) told → IsAnswered gives (AsksInput a count) t found before after → found ≡ told
+  input_again : (a count : ℕ) (bytes : List ℕ) → HasRecord (AsksInput a count) (Bytes bytes) told → IsAnswered gives (AsksInput a count) t found before after → found ≡ told
   input_again a count bytes was p =
       let same : answered told.written ≡ bytes = answered_in told (length bytes) a bytes was.2 in
       let fits : length (answered told.written) ≤ count = subst (λ (bs : List ℕ). length bs ≤ count) (sym same) was.0 in
       let answer : p.answer ≡ Bytes bytes = recalls (Input count) p.answer p.given fits ∙ ap Bytes same in
-      let again : Records (AsksInput a count) (Bytes bytes) found = subst (λ (x : Answer). Records (AsksInput a count) x found) answer p.records in
+      let again : HasRecord (AsksInput a count) (Bytes bytes) found = subst (λ (x : Answer). HasRecord (AsksInput a count) x found) answer p.records in
       again.2 ∙ sym was.2
 
-  random_again : (a count : ℕ) (bytes : List ℕ) → Records (AsksRandom a count) (Bytes bytes) told → IsAnswered gives (AsksRandom a count) t found before after → found ≡ told
+  random_again : (a count : ℕ) (bytes : List ℕ) → HasRecord (AsksRandom a count) (Bytes bytes) told → IsAnswered gives (AsksRandom a count) t found before after → found ≡ told
   random_again a count bytes was p =
       let same : answered told.written ≡ bytes = answered_in told count a bytes was.2 in
       let fits : length (answered told.written) ≡ count = ap (λ (bs : List ℕ). length bs) same ∙ was.0 in
       let answer : p.answer ≡ Bytes bytes = recalls (Random count) p.answer p.given fits ∙ ap Bytes same in
-      let again : Records (AsksRandom a count) (Bytes bytes) found = subst (λ (x : Answer). Records (AsksRandom a count) x found) answer p.records in
+      let again : HasRecord (AsksRandom a count) (Bytes bytes) found = subst (λ (x : Answer). HasRecord (AsksRandom a count) x found) answer p.records in
       again.2 ∙ sym was.2
 
-  time_again : (a seconds nanoseconds : ℕ) → Records (AsksTime a) (Time seconds nanoseconds) told → IsAnswered gives (AsksTime a) t found before after → found ≡ told
+  time_again : (a seconds nanoseconds : ℕ) → HasRecord (AsksTime a) (Time seconds nanoseconds) told → IsAnswered gives (AsksTime a) t found before after → found ≡ told
   time_again a seconds nanoseconds was p =
       let moment : IsMoment (answered told.written) seconds nanoseconds = record {
         seconds_low = was.0;
@@ -59,11 +59,11 @@ module _ {O : Type 0} (gives : O → Question → Answer → O → Type 0) (t : 
         are = answered_in told 0 a (to_le_bytes w64 seconds ++ to_le_bytes w64 nanoseconds) was.2;
       } in
       let answer : p.answer ≡ Time seconds nanoseconds = recalls (Clock (argument t 0)) p.answer p.given seconds nanoseconds moment in
-      let again : Records (AsksTime a) (Time seconds nanoseconds) found = subst (λ (x : Answer). Records (AsksTime a) x found) answer p.records in
+      let again : HasRecord (AsksTime a) (Time seconds nanoseconds) found = subst (λ (x : Answer). HasRecord (AsksTime a) x found) answer p.records in
       again.2 ∙ sym was.2
 
-  row_again : (row : Row) (x : Answer) → Records row x told → IsAnswered gives row t found before after → found ≡ told
-  row_again (Answers result written change) x was p = p.records ∙ sym was
+  row_again : (row : Row) (x : Answer) → HasRecord row x told → IsAnswered gives row t found before after → found ≡ told
+  row_again (Returns result written change) x was p = p.records ∙ sym was
   row_again (NoResult written change) x was p = p.records ∙ sym was
   row_again (AsksInput a count) Silence was p = absurd was
   row_again (AsksInput a count) (Bytes bytes) was p = input_again a count bytes was p

@@ -3,7 +3,7 @@
 use frames::{read_record, write_record};
 use rrv_model::machine::Permissions;
 use rrv_model::record::{
-    CallRecord, End, Frame, Item, Opening, PagePart, Part, Record, Rest, ThreadPart,
+    CallRecord, End, Frame, Item, Opening, PagePart, Part, Record, CheckpointRest, ThreadPart,
 };
 use std::alloc::{AllocError, Global};
 use std::fmt::Write;
@@ -87,7 +87,7 @@ fn write_thread(text: &mut String, part: &ThreadPart) -> Result<(), AllocError> 
     }
 }
 
-fn write_rest(text: &mut String, rest: &Rest) -> Result<(), AllocError> {
+fn write_rest(text: &mut String, rest: &CheckpointRest) -> Result<(), AllocError> {
     let program_break = rest.program_break;
     let next_tid = rest.next_tid;
     write!(text, " break {program_break:#x} next tid {next_tid}")?;

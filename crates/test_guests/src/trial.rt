@@ -5,9 +5,9 @@ use crate::files::{file_of, guest_of_file};
 use crate::outsides::Scripted;
 use guest_calls::{Guest, Run, SetRestFault};
 use guest_pages::PageView;
-use rrv_model::items::Items;
+use rrv_model::sequence::Sequence;
 use rrv_model::machine::{GuestEnd, Regs, Thread};
-use rrv_model::record::{CallRecord, Rest, ThreadPart};
+use rrv_model::record::{CallRecord, CheckpointRest, ThreadPart};
 use rrv_model::refusal::Memory;
 use std::alloc::{AllocError, Global};
 
@@ -111,12 +111,12 @@ fn rest_of(
     guest: &Guest,
     threads: Vec<ThreadPart>,
     next_tid: u32,
-) -> Result<Rest, AllocError> {
-    Ok(Rest {
+) -> Result<CheckpointRest, AllocError> {
+    Ok(CheckpointRest {
         program_break: guest.program_break(),
         next_tid,
-        threads: Items::from_vec(threads),
-        waiting: Items::from_vec(guest.threads().waiting().to_vec(alloc)?),
+        threads: Sequence::from_vec(threads),
+        waiting: Sequence::from_vec(guest.threads().waiting().to_vec(alloc)?),
     })
 }
 

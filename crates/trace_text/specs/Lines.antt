@@ -12,7 +12,7 @@ use Rattle.rrv_model.specs.declared.record.Item.TheVariants as items
 use Rattle.rrv_model.specs.declared.record.Opening.{Opening}
 use Rattle.rrv_model.specs.declared.record.Part.{Part}
 use Rattle.rrv_model.specs.declared.record.Record.{Record}
-use Rattle.rrv_model.specs.declared.record.Rest.{Rest}
+use Rattle.rrv_model.specs.declared.record.CheckpointRest.{CheckpointRest}
 use Rattle.rrv_model.specs.RecordText.{fault_number}
 
 abbrev pub end_text : Option GuestEnd → List ℕ
@@ -45,7 +45,7 @@ frame_line (ends.Call r) tid count =
 frame_line (ends.Fault kind) tid count = codes "fault" ++ (thread_and_count tid count ++ (codes " kind=" ++ decimal (fault_number kind)))
 frame_line ends.Stuck tid count = codes "stuck"
 
-abbrev pub last_text : Option Rest → List ℕ
+abbrev pub last_text : Option CheckpointRest → List ℕ
 last_text None = codes "no"
 last_text (Some r) = codes "yes"
 

@@ -6,9 +6,9 @@ ghost use Rattle.guest_calls.specs.Snapshots.{guest_snapshots};
 use crate::tests::rows::{Row, play, same, trial_of};
 use guest_calls::{Guest, SetPageFault, SetRestFault};
 use guest_pages::{PageView, Snapshot};
-use rrv_model::items::Items;
+use rrv_model::sequence::Sequence;
 use rrv_model::machine::{GuestEnd, Permissions, Regs, Thread};
-use rrv_model::record::{Rest, ThreadPart};
+use rrv_model::record::{CheckpointRest, ThreadPart};
 use std::alloc::Global;
 use std::fmt::Display;
 use std::process::Abort;
@@ -196,13 +196,13 @@ fn part(tid: u32, waits_at: Option<u32>) -> ThreadPart {
 }
 
 /// A rest with a thread that waits and one that runs, up to the given break.
-fn rest_with(alloc: Global, program_break: u32, tids: [u32; 2]) -> Result<Rest, Fail> {
+fn rest_with(alloc: Global, program_break: u32, tids: [u32; 2]) -> Result<CheckpointRest, Fail> {
     let threads = [part(tids[0], Some(8)), part(tids[1], None)];
-    Ok(Rest {
+    Ok(CheckpointRest {
         program_break,
         next_tid: 8,
-        threads: Items::from_vec(threads.to_vec(alloc)?),
-        waiting: Items::from_vec([tids[0]].to_vec(alloc)?),
+        threads: Sequence::from_vec(threads.to_vec(alloc)?),
+        waiting: Sequence::from_vec([tids[0]].to_vec(alloc)?),
     })
 }
 

@@ -1,9 +1,9 @@
 //! The printed lines of records that are made by hand.
 
 use super::kit::shows;
-use rrv_model::items::Items;
+use rrv_model::sequence::Sequence;
 use rrv_model::machine::{FaultKind, GuestEnd};
-use rrv_model::record::{CallRecord, End, Frame, Item, PagePart, Part, Record, Rest, Written};
+use rrv_model::record::{CallRecord, End, Frame, Item, PagePart, Part, Record, CheckpointRest, Written};
 use std::alloc::{AllocError, Global};
 use std::process::Abort;
 use std::test::Fail;
@@ -19,8 +19,8 @@ fn line_is<R: Abort + AllocGlobal>(rt: &R, index: u32, item: Item, want: &str) -
     shows(rt, &RecordLine::new(&record), want)
 }
 
-fn none<T: Drop>(alloc: Global) -> Items<T> {
-    Items::from_vec(Vec::new(alloc))
+fn none<T: Drop>(alloc: Global) -> Sequence<T> {
+    Sequence::from_vec(Vec::new(alloc))
 }
 
 fn frame(tid: u32, count: u32, end: End) -> Item {
@@ -28,20 +28,20 @@ fn frame(tid: u32, count: u32, end: End) -> Item {
 }
 
 /// Zeros that a call wrote at 0x12000, a range of each of these lengths.
-fn written(alloc: Global, lengths: [usize; 2]) -> Result<Items<Written>, AllocError> {
+fn written(alloc: Global, lengths: [usize; 2]) -> Result<Sequence<Written>, AllocError> {
     let mut ranges = Vec::new(alloc);
     for length in lengths {
         let bytes = vec![in alloc; 0u8; length]?;
         ranges.push(Written {
             address: 0x12000,
-            bytes: Items::from_vec(bytes),
+            bytes: Sequence::from_vec(bytes),
         })?;
     }
-    Ok(Items::from_vec(ranges))
+    Ok(Sequence::from_vec(ranges))
 }
 
 /// A part of that many pages, which are not mapped.
-fn part_of(alloc: Global, pages: u32, rest: Option<Rest>) -> Result<Item, AllocError> {
+fn part_of(alloc: Global, pages: u32, rest: Option<CheckpointRest>) -> Result<Item, AllocError> {
     let mut made = Vec::new(alloc);
     for number in 0..pages {
         let lines = none(alloc);
@@ -52,7 +52,7 @@ fn part_of(alloc: Global, pages: u32, rest: Option<Rest>) -> Result<Item, AllocE
             lines,
         })?;
     }
-    let pages = Items::from_vec(made);
+    let pages = Sequence::from_vec(made);
     Ok(Item::Part(Part { pages, rest }))
 }
 
@@ -91,7 +91,7 @@ fn line_of_a_call(rt: HostRuntime) -> Result<(), Fail> {
 #[test]
 fn lines_of_parts(rt: HostRuntime) -> Result<(), Fail> {
     let alloc = rt.alloc();
-    let rest = Rest {
+    let rest = CheckpointRest {
         program_break: 0x11000,
         next_tid: 2,
         threads: none(alloc),

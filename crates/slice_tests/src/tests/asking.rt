@@ -1,7 +1,7 @@
 //! Calls that ask the outside, recorded and followed.
 
 use super::trial::{Kind, Row, Told, play, same};
-use rrv_model::items::Items;
+use rrv_model::sequence::Sequence;
 use rrv_model::record::{CallRecord, End, Frame, Written};
 use serial_sched::{FollowFault, SliceFault, follow};
 use std::alloc::{AllocError, Global};
@@ -65,14 +65,14 @@ fn read_frame(alloc: Global, bytes: usize, value: u32) -> Result<Frame, AllocErr
     let mut written = Vec::new(alloc);
     written.push(Written {
         address: STACK,
-        bytes: Items::from_vec(vec![in alloc; 9u8; bytes]?),
+        bytes: Sequence::from_vec(vec![in alloc; 9u8; bytes]?),
     })?;
     Ok(Frame {
         tid: 1,
         count: 5,
         end: End::Call(CallRecord {
             result: value,
-            written: Items::from_vec(written),
+            written: Sequence::from_vec(written),
         }),
     })
 }

@@ -1,6 +1,6 @@
 use Rattle.std.proofs.Common.{◌≡◌, ◌-◌, ◌^◌, subst, arith}
 use Rattle.std.proofs.lemmas.Result.{on_err_weaker}
-use Rattle.rrv_model.specs.CallRows.{answers}
+use Rattle.rrv_model.specs.CallRows.{only_returns}
 use Rattle.guest_calls.specs.Carries.{Carries}
 use Rattle.guest_calls.specs.declared.syscall.Syscall.TheVariants as syscalls
 use Rattle.guest_calls.specs.Guest.{state_of}
@@ -47,7 +47,7 @@ returns-in-Other-clause-carries c =
     let number = rw c.in-Other.is at c.syscall_of.ensures in
     let value : c.failure.result ≡ 2 ^ 32 - 38 = omega (arith, c.failure.ensures) in
     carries_at syscalls.Other c.args.tid (state_of c.args.self.now) c.args.thread.now _ _ number
-    (subst (λ n. Carries (answers n) c.args.tid (state_of c.args.self.now) c.answer-in-Other.result (state_of c.answer-in-Other.new.self)) value c.answer-in-Other.ensures.carries)
+    (subst (λ n. Carries (only_returns n) c.args.tid (state_of c.args.self.now) c.answer-in-Other.result (state_of c.answer-in-Other.new.self)) value c.answer-in-Other.ensures.carries)
 
 pub returns-in-Brk-clause-carries : goal.returns-in-Brk-clause-carries
 returns-in-Brk-clause-carries c =

@@ -1,6 +1,6 @@
 use Rattle.std.proofs.Common.{◌≡◌, ◌≢◌, ◌∙◌, ℕ, ◌-◌, ◌^◌, ◌<◌, ◌≤◌, true, false, List, length, ap, arith}
 use Rattle.rrv_model.specs.Memory.{writable}
-use Rattle.rrv_model.specs.CallRows.{answers, argument, clock_gettime_row}
+use Rattle.rrv_model.specs.CallRows.{only_returns, argument, clock_gettime_row}
 use Rattle.guest_calls.specs.Guest.{state_of}
 use Rattle.guest_calls.proofs.Inquiries.{value_answered, clock_elsewhere, clock_locked, clock_asks, at_room, time_carries, time_answered}
 use Rattle.guest_calls.proofs.guest.Guest.clock_gettime.Goals as goal
@@ -11,7 +11,7 @@ returns-then-clock-gt-MONOTONIC-clause-answered g c =
     let t = c.args.thread.now in
     let high : 1 < argument t 0 = grind arith in
     let value : 2 ^ 32 - 22 ≡ c.failure.result = omega (arith, c.failure.ensures) in
-    value_answered _ (clock_gettime_row s t) c.failure.result t c.args.tid s _ c.answer.result _ (clock_elsewhere s t high ∙ ap answers value) c.answer.ensures.carries
+    value_answered _ (clock_gettime_row s t) c.failure.result t c.args.tid s _ c.answer.result _ (clock_elsewhere s t high ∙ ap only_returns value) c.answer.ensures.carries
 
 pub returns-then-not-is_writable-clause-answered : goal.returns-then-not-is_writable-clause-answered
 returns-then-not-is_writable-clause-answered g c =
@@ -20,7 +20,7 @@ returns-then-not-is_writable-clause-answered g c =
     let low : argument t 0 ≤ 1 = grind arith in
     let locked : writable s.memory (argument t 1) 16 ≡ false = grind arith in
     let value : 2 ^ 32 - 14 ≡ c.failure-then-not-is_writable.result = omega (arith, c.failure-then-not-is_writable.ensures) in
-    value_answered _ (clock_gettime_row s t) c.failure-then-not-is_writable.result t c.args.tid s _ c.answer-then-not-is_writable.result _ (clock_locked s t low locked ∙ ap answers value) c.answer-then-not-is_writable.ensures.carries
+    value_answered _ (clock_gettime_row s t) c.failure-then-not-is_writable.result t c.args.tid s _ c.answer-then-not-is_writable.result _ (clock_locked s t low locked ∙ ap only_returns value) c.answer-then-not-is_writable.ensures.carries
 
 pub returns-clause-carries : goal.returns-clause-carries
 returns-clause-carries g c =

@@ -1,6 +1,6 @@
 use Rattle.std.proofs.Common.{◌≡◌, ◌≢◌, ◌∙◌, ℕ, ◌-◌, ◌^◌, ◌<◌, ◌≤◌, min, true, false, List, length, ap, arith}
 use Rattle.rrv_model.specs.Memory.{writable}
-use Rattle.rrv_model.specs.CallRows.{answers, argument, getrandom_row}
+use Rattle.rrv_model.specs.CallRows.{only_returns, argument, getrandom_row}
 use Rattle.guest_calls.specs.Guest.{state_of}
 use Rattle.guest_calls.proofs.Inquiries.{value_answered, getrandom_flags, getrandom_nothing, getrandom_locked, getrandom_asks, at_room, random_carries, random_answered, random_room}
 use Rattle.guest_calls.proofs.guest.Guest.getrandom.Goals as goal
@@ -11,7 +11,7 @@ returns-then-flags-gt-MAX_FLAGS-clause-answered g c =
     let t = c.args.thread.now in
     let high : 7 < argument t 2 = grind arith in
     let value : 2 ^ 32 - 22 ≡ c.failure.result = omega (arith, c.failure.ensures) in
-    value_answered _ (getrandom_row s t) c.failure.result t c.args.tid s _ c.answer.result _ (getrandom_flags s t high ∙ ap answers value) c.answer.ensures.carries
+    value_answered _ (getrandom_row s t) c.failure.result t c.args.tid s _ c.answer.result _ (getrandom_flags s t high ∙ ap only_returns value) c.answer.ensures.carries
 
 pub returns-then-count-eq0-clause-answered : goal.returns-then-count-eq0-clause-answered
 returns-then-count-eq0-clause-answered g c =
@@ -29,7 +29,7 @@ returns-then-not-is_writable-clause-answered g c =
     let some : min (argument t 1) 256 ≢ 0 = grind arith in
     let locked : writable s.memory (argument t 0) (min (argument t 1) 256) ≡ false = grind arith in
     let value : 2 ^ 32 - 14 ≡ c.failure-then-not-is_writable.result = omega (arith, c.failure-then-not-is_writable.ensures) in
-    value_answered _ (getrandom_row s t) c.failure-then-not-is_writable.result t c.args.tid s _ c.answer-then-not-is_writable.result _ (getrandom_locked s t flags some locked ∙ ap answers value) c.answer-then-not-is_writable.ensures.carries
+    value_answered _ (getrandom_row s t) c.failure-then-not-is_writable.result t c.args.tid s _ c.answer-then-not-is_writable.result _ (getrandom_locked s t flags some locked ∙ ap only_returns value) c.answer-then-not-is_writable.ensures.carries
 
 pub returns-clause-carries : goal.returns-clause-carries
 returns-clause-carries g c =

@@ -1,6 +1,6 @@
 use Rattle.std.proofs.Common.{◌≡◌, ◌≢◌, ◌∙◌, ℕ, ◌-◌, ◌^◌, ◌≤◌, true, false, List, length, ap, arith}
 use Rattle.rrv_model.specs.Memory.{writable}
-use Rattle.rrv_model.specs.CallRows.{answers, argument, read_row, transfer}
+use Rattle.rrv_model.specs.CallRows.{only_returns, argument, read_row, transfer}
 use Rattle.guest_calls.specs.Guest.{state_of}
 use Rattle.guest_calls.proofs.Inquiries.{value_answered, read_elsewhere, read_nothing, read_locked, read_asks, fill_within, at_room, input_carries, input_answered, input_room}
 use Rattle.guest_calls.proofs.guest.Guest.read.Goals as goal
@@ -11,7 +11,7 @@ returns-then-descriptor-ne0-clause-answered g c =
     let t = c.args.thread.now in
     let fd : argument t 0 ≢ 0 = grind arith in
     let value : 2 ^ 32 - 9 ≡ c.failure.result = omega (arith, c.failure.ensures) in
-    value_answered _ (read_row s t) c.failure.result t c.args.tid s _ c.answer.result _ (read_elsewhere s t fd ∙ ap answers value) c.answer.ensures.carries
+    value_answered _ (read_row s t) c.failure.result t c.args.tid s _ c.answer.result _ (read_elsewhere s t fd ∙ ap only_returns value) c.answer.ensures.carries
 
 pub returns-then-count-eq0-clause-answered : goal.returns-then-count-eq0-clause-answered
 returns-then-count-eq0-clause-answered g c =
@@ -30,7 +30,7 @@ returns-then-not-is_writable-clause-answered g c =
     let locked : writable s.memory (argument t 1) (transfer (argument t 2)) ≡ false = grind arith in
     let value : 2 ^ 32 - 14 ≡ c.failure-then-not-is_writable.result = omega (arith, c.failure-then-not-is_writable.ensures) in
     value_answered _ (read_row s t) c.failure-then-not-is_writable.result t c.args.tid s _ c.answer-then-not-is_writable.result _
-    (read_locked s t fd some locked ∙ ap answers value) c.answer-then-not-is_writable.ensures.carries
+    (read_locked s t fd some locked ∙ ap only_returns value) c.answer-then-not-is_writable.ensures.carries
 
 pub write_answer-requires : goal.write_answer-requires
 write_answer-requires g c =
