@@ -1,13 +1,11 @@
 -- What a call asks the outside, and what it is answered.
-use Rattle.std.specs.Prelude.{◌≡◌, ◌≢◌, ℕ, ◌^◌, ◌<◌, List, ◌++◌, Option, Some, None}
+use Rattle.std.specs.Prelude.{◌≡◌, ℕ, ◌^◌, ◌<◌, List, ◌++◌, Option, Some, None}
 use Rattle.std.specs.Int.{w64, to_le_bytes}
 use Rattle.rrv_model.specs.declared.machine.Thread.{Thread}
 use Rattle.rrv_model.specs.declared.record.CallRecord.{CallRecord}
 use Rattle.rrv_model.specs.State.{State}
 use Rattle.rrv_model.specs.CallRows.{Row, Returns, NoResult, AsksInput, AsksRandom, AsksTime, argument}
 use Rattle.rrv_model.specs.Calls.{Answer, Time, HasRecord, call_row}
-use Rattle.guest_calls.specs.declared.asking.Inquiry.{Inquiry}
-use Rattle.guest_calls.specs.declared.asking.Inquiry.TheVariants as inquiries
 
 -- what the outside is asked
 pub data Question : Type 0 where
@@ -47,16 +45,15 @@ pub record TellsMoment {O : Type 0} (gives : O → Question → Answer → O →
   pub are : bytes ≡ to_le_bytes w64 seconds ++ to_le_bytes w64 nanoseconds
   pub given : gives before (Clock clock) (Time seconds nanoseconds) after
 
--- ---- the calls that may ask, by their numbers
+-- the row looks at the outside
+abbrev pub Asks : Row → Type 0
+Asks (Returns result written change) = ⊥
+Asks (NoResult written change) = ⊥
+Asks (AsksInput a count) = Unit {0}
+Asks (AsksRandom a count) = Unit {0}
+Asks (AsksTime a) = Unit {0}
 
--- a call of another number asks nothing
-pub record IsQuiet (n : ℕ) : Type 0 where
-  pub no_read : n ≢ 63
-  pub no_getrandom : n ≢ 278
-  pub no_clock_gettime : n ≢ 403
-
-abbrev pub IsInquiry : Option Inquiry → ℕ → Type 0
-IsInquiry None n = IsQuiet n
-IsInquiry (Some inquiries.Read) n = n ≡ 63
-IsInquiry (Some inquiries.Getrandom) n = n ≡ 278
-IsInquiry (Some inquiries.ClockGettime) n = n ≡ 403
+-- the call that the thread makes looks at the outside
+abbrev pub CallAsks : State → ℕ → Option Thread → Type 0
+CallAsks s tid None = ⊥
+CallAsks s tid (Some t) = Asks (call_row s tid t)

@@ -6,10 +6,9 @@ ghost use Rattle.std.specs.List.{AllByRecursion};
 ghost use Rattle.rrv_model.specs.State.{State, with_register, AreRegs, IsThread};
 ghost use Rattle.rrv_model.specs.CallRows.{argument, all_writable, are_clone_flags, child_of, clone_row, has_flag, tid_places};
 ghost use Rattle.rrv_model.specs.RecordText.{HasCallText, HasWrittenText};
-ghost use Rattle.guest_pages.specs.Space.{snapshots_of};
 ghost use Rattle.guest_threads.specs.Threads.{is_full, spawned, with_threads};
 ghost use Rattle.guest_calls.specs.Guest.{state_of};
-ghost use Rattle.guest_calls.specs.Carries.{Carries};
+ghost use Rattle.guest_calls.specs.Carries.{KeepsRest, Makes};
 ghost use Rattle.guest_calls.specs.Clones.{makes_child, with_child_at, words_at};
 ghost use Rattle.guest_calls.specs.Growth.{Succeeds};
 
@@ -169,14 +168,9 @@ impl Guest {
     ) -> Result<CallRecord, Memory>
         requires fits { IsThread thread.now }
         requires running { thread.now.waits_at ≡ None }
-        ensures carries { IfOk result (λ r.
-            Carries (clone_row (state_of self.old) thread.now) tid (state_of self.old) r (state_of self.new)) }
-        ensures text { IfOk result HasCallText }
-        ensures put { OnOk result (self.new.put ≡ None) }
+        ensures makes { IfOk result (λ r. Makes (clone_row (state_of self.old) thread.now) [] tid self.old r self.new) }
         ensures memory { OnErr result (Succeeds (clone_row (state_of self.old) thread.now)) }
         ensures refused { OnErr result (self.new ≡ self.old) }
-        ensures ran { self.new.ran ≡ self.old.ran }
-        ensures snapshots { snapshots_of self.new.space ≡ snapshots_of self.old.space }
     {
         if !are_clone_flags(thread.regs.registers[10]) {
             return Ok(self.answer(alloc, tid, failure(INVALID)));
@@ -218,13 +212,9 @@ impl Guest {
         requires room { is_full self.old.threads ≡ false }
         requires few { length places.now ≤ 2 }
         requires allowed { all_writable (state_of self.old).memory places.now ≡ true }
-        ensures carries { IfOk result (λ r.
-            Carries (makes_child (state_of self.old) thread.now places.now) tid (state_of self.old) r (state_of self.new)) }
-        ensures text { IfOk result HasCallText }
-        ensures put { OnOk result (self.new.put ≡ None) }
+        ensures makes { IfOk result (λ r.
+            Makes (makes_child (state_of self.old) thread.now places.now) [] tid self.old r self.new) }
         ensures refused { OnErr result (self.new ≡ self.old) }
-        ensures ran { self.new.ran ≡ self.old.ran }
-        ensures snapshots { snapshots_of self.new.space ≡ snapshots_of self.old.space }
     {
         let record = self.add_child(alloc, thread, places)?;
         self.set_result(tid, record.result);
@@ -250,8 +240,7 @@ impl Guest {
             ≡ record { result = (state_of self.old).next_tid; written = words_at places.now (state_of self.old).next_tid }) }
         ensures text { IfOk result HasCallText }
         ensures refused { OnErr result (self.new ≡ self.old) }
-        ensures ran { self.new.ran ≡ self.old.ran }
-        ensures snapshots { snapshots_of self.new.space ≡ snapshots_of self.old.space }
+        ensures keeps { KeepsRest self.old self.new }
     {
         let child = self.threads.next_tid();
         let written = written_words(alloc, places, child)?;

@@ -3,8 +3,8 @@
 ghost use Rattle.std.specs.Prelude.{◌≡◌, ◌+◌, ◌*◌, ◌/◌, ◌%◌, ◌^◌, ◌<◌, ◌≤◌, not, nat_lt, if◌then◌else◌, IsTrue, IsFalse, IfOk, OnErr};
 ghost use Rattle.rrv_model.specs.Memory.{all_mapped, mapped, unmapped, protected, page_bytes, page_count, pages_for};
 ghost use Rattle.rrv_model.specs.CallRows.{page_limit, permissions_of, with_memory};
-ghost use Rattle.guest_pages.specs.Space.{snapshots_of};
 ghost use Rattle.guest_calls.specs.Guest.{state_of};
+ghost use Rattle.guest_calls.specs.Carries.{KeepsRest};
 
 use crate::guest::Guest;
 use guest_pages::PageFault;
@@ -48,8 +48,7 @@ impl Guest {
         ensures full { IfOk result (λ fits. IsFalse fits → self.new ≡ self.old) }
         ensures memory { OnErr result (page_count (mapped (page * page_bytes) (count * page_bytes) permissions (state_of self.old).memory) ≤ page_limit) }
         ensures refused { OnErr result (self.new ≡ self.old) }
-        ensures ran { self.new.ran ≡ self.old.ran }
-        ensures snapshots { snapshots_of self.new.space ≡ snapshots_of self.old.space }
+        ensures keeps { KeepsRest self.old self.new }
     {
         match self.space.map(page, count, permissions) {
             Ok(()) => {
@@ -66,8 +65,7 @@ impl Guest {
         requires { page + count < 2 ^ 32 }
         ensures state { state_of self.new
             ≡ with_memory (unmapped (page * page_bytes) (count * page_bytes) (state_of self.old).memory) (state_of self.old) }
-        ensures ran { self.new.ran ≡ self.old.ran }
-        ensures snapshots { snapshots_of self.new.space ≡ snapshots_of self.old.space }
+        ensures keeps { KeepsRest self.old self.new }
     {
         self.space.unmap(page, count);
     }
@@ -80,8 +78,7 @@ impl Guest {
         ensures state { IsTrue result → state_of self.new
             ≡ with_memory (protected (page * page_bytes) (count * page_bytes) permissions (state_of self.old).memory) (state_of self.old) }
         ensures refused { IsFalse result → self.new ≡ self.old }
-        ensures ran { self.new.ran ≡ self.old.ran }
-        ensures snapshots { snapshots_of self.new.space ≡ snapshots_of self.old.space }
+        ensures keeps { KeepsRest self.old self.new }
     {
         self.space.protect(page, count, permissions).is_ok()
     }
@@ -91,8 +88,7 @@ impl Guest {
         requires low { (state_of self.old).opening_break ≤ address }
         requires high { address ≤ 0x70000000 }
         ensures state { state_of self.new ≡ record (state_of self.old) { program_break = address } }
-        ensures ran { self.new.ran ≡ self.old.ran }
-        ensures snapshots { snapshots_of self.new.space ≡ snapshots_of self.old.space }
+        ensures keeps { KeepsRest self.old self.new }
     {
         self.program_break = address;
     }

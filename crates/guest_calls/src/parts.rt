@@ -4,6 +4,7 @@ ghost use Rattle.std.specs.Prelude.{◌≡◌, ◌≢◌, ◌↔◌, ℕ, IsTrue
 ghost use Rattle.rrv_model.specs.CallRows.{with_memory};
 ghost use Rattle.guest_pages.specs.WholePages.{with_page, MayHave};
 ghost use Rattle.guest_calls.specs.Guest.{state_of};
+ghost use Rattle.guest_calls.specs.Carries.{KeepsRest};
 ghost use Rattle.guest_calls.specs.Parts.{with_rest, MakesState, IsSetPageRefusal, IsSetRestRefusal};
 ghost use Rattle.guest_calls.specs.Snapshots.{guest_snapshots};
 
@@ -60,10 +61,8 @@ impl Guest {
         ensures refused { IfErr result (λ fault. IsSetPageRefusal fault number page.entry (state_of self.old).memory) }
         ensures some { OnErr result (IsSome page.entry) }
         ensures err { OnErr result (self.new ≡ self.old) }
-        ensures ran { self.new.ran ≡ self.old.ran }
-        ensures ran_before_call { self.new.ran_before_call ≡ self.old.ran_before_call }
+        ensures keeps { KeepsRest self.old self.new }
         ensures put { self.new.put ≡ self.old.put }
-        ensures snapshots { guest_snapshots self.new ≡ guest_snapshots self.old }
     {
         if !may_have(number, page) {
             return Err(SetPageFault::NoState);
@@ -83,10 +82,8 @@ impl Guest {
         ensures possible { OnOk result (MakesState rest.now (state_of self.old)) }
         ensures refused { IfErr result (λ fault. IsSetRestRefusal fault rest.now (state_of self.old)) }
         ensures err { OnErr result (self.new ≡ self.old) }
-        ensures ran { self.new.ran ≡ self.old.ran }
-        ensures ran_before_call { self.new.ran_before_call ≡ self.old.ran_before_call }
+        ensures keeps { KeepsRest self.old self.new }
         ensures put { self.new.put ≡ self.old.put }
-        ensures snapshots { guest_snapshots self.new ≡ guest_snapshots self.old }
     {
         if rest.program_break < self.opening_break || rest.program_break > HIGHEST_BREAK {
             return Err(SetRestFault::NoState);

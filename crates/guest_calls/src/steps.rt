@@ -5,6 +5,7 @@ ghost use Rattle.rrv_model.specs.State.{thread_at, IsRunning};
 ghost use Rattle.rrv_model.specs.Step.{ThreadMayStore};
 ghost use Rattle.guest_pages.specs.Space.{snapshots_of};
 ghost use Rattle.guest_calls.specs.Guest.{state_of, counted};
+ghost use Rattle.guest_calls.specs.Carries.{KeepsRest};
 ghost use Rattle.guest_calls.specs.Runs.{Runs, StepDoes, before_call};
 
 use crate::guest::Guest;
@@ -19,7 +20,8 @@ impl Guest {
         ensures runs { Runs limit tid (state_of self.old) result (state_of self.new) }
         ensures ran { self.new.ran ≡ counted self.old.ran result.count }
         ensures snapshots { snapshots_of self.new.space ≡ snapshots_of self.old.space }
-        ensures ran_before_call { result.end ≡ RunEnd.Call → self.new.ran_before_call ≡ counted self.old.ran (result.count - 1) }
+        ensures ran_before_call { result.end ≡ RunEnd.Call
+            → self.new.ran_before_call ≡ counted self.old.ran (result.count - 1) }
         ensures put { self.new.put ≡ self.old.put }
     {
         let run = self.run_uncounted(tid, limit);
@@ -33,8 +35,7 @@ impl Guest {
     fn run_uncounted(&mut self, tid: u32, limit: u32) -> Run
         requires { IsRunning (thread_at (state_of self.old) tid) }
         ensures runs { Runs limit tid (state_of self.old) result (state_of self.new) }
-        ensures ran { self.new.ran ≡ self.old.ran }
-        ensures snapshots { snapshots_of self.new.space ≡ snapshots_of self.old.space }
+        ensures keeps { KeepsRest self.old self.new }
         ensures put { self.new.put ≡ self.old.put }
     {
         let mut thread = self.running_thread(tid);

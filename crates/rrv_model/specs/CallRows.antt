@@ -6,6 +6,9 @@ use Rattle.rrv_model.specs.declared.machine.Permissions.{Permissions}
 use Rattle.rrv_model.specs.declared.machine.Thread.{Thread}
 use Rattle.rrv_model.specs.declared.machine.GuestEnd.TheVariants.{Exited}
 use Rattle.rrv_model.specs.declared.record.Written.{Written}
+use Rattle.rrv_model.specs.declared.syscall.Syscall.{Syscall}
+use Rattle.rrv_model.specs.declared.syscall.Syscall.TheVariants.{Read, Write, Writev, Exit, ExitGroup, SetTidAddress, Futex, SchedYield, Getpid, Gettid, Brk, Munmap, Clone, Mmap, Mprotect, Getrandom, ClockGettime, Other}
+use Rattle.rrv_model.specs.declared.limits.TheConstants.{MAX_PAGES, MAX_TRANSFER}
 use Rattle.rrv_model.specs.Memory.{Memory, readable, writable, mapped, unmapped, protected, page_count, all_free, all_mapped, highest_free_up_to, pages_for, page_bytes}
 use Rattle.rrv_model.specs.State.{State, thread_at, with_thread, register, with_register}
 use Rattle.rrv_model.specs.Step.{word_at}
@@ -46,7 +49,7 @@ range a (b ∷ bytes) = record { address = a; bytes = b ∷ bytes } ∷ []
 
 -- at most so many bytes go in one call
 abbrev pub transfer : ℕ → ℕ
-transfer count = min count 65_536
+transfer count = min count MAX_TRANSFER
 
 -- ---- input and output
 
@@ -96,7 +99,7 @@ writev_row s t =
     else if nat_lt 1024 count then fails 22
     else if not (readable s.memory (argument t 1) (8 * count)) then fails 14
     else if nat_lt (2 ^ 31 - 1) (total_len buffers) then fails 22
-    else if not (all_readable s.memory (clipped 65_536 buffers)) then fails 14
+    else if not (all_readable s.memory (clipped MAX_TRANSFER buffers)) then fails 14
     else only_returns (transfer (total_len buffers))
 
 -- ---- threads
@@ -223,8 +226,9 @@ clone_row s t =
 abbrev pub permissions_of : ℕ → Permissions
 permissions_of prot = record { read = has_flag prot 1 || has_flag prot 2; write = has_flag prot 2; execute = has_flag prot 4 }
 
+-- pages that a guest may have mapped
 abbrev pub page_limit : ℕ
-page_limit = 16_384
+page_limit = MAX_PAGES
 
 abbrev pub with_memory : Memory → State → State
 with_memory m s = record s { memory = m }
@@ -303,11 +307,9 @@ clock_gettime_row s t =
 
 -- ---- the rows by number
 
-pub data Call : Type 0 where
-  Read Write Writev Exit ExitGroup SetTidAddress Futex SchedYield Getpid Gettid Brk Munmap Clone Mmap Mprotect Getrandom ClockGettime Other : Call
-
-abbrev pub call_of : ℕ → Call
-call_of n =
+-- the call with a number, which is in a7
+abbrev pub syscall_of : ℕ → Syscall
+syscall_of n =
     if n == 63 then Read else if n == 64 then Write else if n == 66 then Writev
     else if n == 93 then Exit else if n == 94 then ExitGroup else if n == 96 then SetTidAddress
     else if n == 98 then Futex else if n == 422 then Futex else if n == 124 then SchedYield
@@ -317,7 +319,7 @@ call_of n =
     else Other
 
 -- sched_yield(2), getpid(2) and gettid(2) have no row of their own: they only answer
-unfoldable pub row_of : Call → ℕ → State → Thread → Row
+unfoldable pub row_of : Syscall → ℕ → State → Thread → Row
 row_of Read tid s t = read_row s t
 row_of Write tid s t = write_row s t
 row_of Writev tid s t = writev_row s t

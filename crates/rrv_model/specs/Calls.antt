@@ -6,7 +6,7 @@ use Rattle.rrv_model.specs.declared.record.Written.{Written}
 use Rattle.rrv_model.specs.declared.record.CallRecord.{CallRecord}
 use Rattle.rrv_model.specs.Memory.{Memory, stored}
 use Rattle.rrv_model.specs.State.{State, thread_at, register}
-use Rattle.rrv_model.specs.CallRows.{Row, Returns, NoResult, AsksInput, AsksRandom, AsksTime, call_of, row_of, range, change_thread, set_register}
+use Rattle.rrv_model.specs.CallRows.{Row, Returns, NoResult, AsksInput, AsksRandom, AsksTime, syscall_of, row_of, range, change_thread, set_register}
 
 -- what the outside answers, where it is asked
 pub data Answer : Type 0 where
@@ -16,7 +16,7 @@ pub data Answer : Type 0 where
 
 -- the number is in a7
 abbrev pub call_row : State → ℕ → Thread → Row
-call_row s tid t = row_of (call_of (register t.regs 17)) tid s t
+call_row s tid t = row_of (syscall_of (register t.regs 17)) tid s t
 
 -- ---- the relation
 

@@ -10,3 +10,4 @@ pub mod machine;
 pub mod record;
 pub mod refusal;
 pub mod sink;
+pub mod syscall;

@@ -16,8 +16,7 @@ use Rattle.rrv_model.specs.FrameStep.{Steps, closed, closed_at_end}
 use Rattle.rrv_model.specs.Output.{Chunk, put_out_by}
 use Rattle.rrv_model.specs.RecordText.{HasCallText}
 use Rattle.guest_calls.specs.Runs.{RunsToCall, RunsToFault, before_call}
-use Rattle.guest_calls.specs.Asking.{Question, CallIsAnswered}
-use Rattle.guest_calls.specs.Carries.{CallAsks}
+use Rattle.guest_calls.specs.Asking.{Question, CallAsks, CallIsAnswered}
 use Rattle.guest_calls.specs.Growth.{CallMayGrow}
 use Rattle.serial_sched.specs.Asking.{FrameAsks, FrameIsAnswered}
 use Rattle.serial_sched.specs.Slices.{CanRun, CallsToGrow, NextMayGrow, Sliced, IsWhole}
