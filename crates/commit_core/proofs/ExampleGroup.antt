@@ -97,4 +97,4 @@ module _ (guest : Ended) where
   )
 
 pub both_leave : (written : State) × IsSchedule pair_start (pair_events written) × BothLeave (run pair_start (pair_events written))
-both_leave = (guest_ends.written, pair_schedule guest_ends, record { body = refl; first = refl; second = refl })
+both_leave = (guest_ends.written, pair_schedule guest_ends, record { body = refl; first_out = refl; second_out = refl })
