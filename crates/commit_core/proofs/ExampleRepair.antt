@@ -19,7 +19,7 @@ use Rattle.commit_core.specs.Sessions.Session.{StoppedOpening}
 use Rattle.commit_core.specs.Example.{example_start, exited}
 use Rattle.commit_core.specs.ExampleRepair.{first_two, first_body, up_to_second_gate, torn_store, repaired_disk, repaired_start, repair_sessions, IsRepaired}
 use Rattle.commit_core.proofs.ExampleGuest.{Ended, guest_ends}
-use Rattle.commit_core.proofs.ExampleWorld.{gate_len, starts, starts_on, ends_low, all_received, then_schedule, first_put}
+use Rattle.commit_core.proofs.ExampleWorld.{gate_len, starts, starts_at, writes_short, all_received, then_schedule, first_put}
 use Rattle.commit_core.proofs.ExampleCrash.{any_byte}
 use Rattle.commit_core.proofs.ExampleSessions.{session_on}
 use Rattle.commit_core.proofs.Invariant.{Invariant}
@@ -52,29 +52,13 @@ store_len =
 
 module _ (guest : Ended) where
   can_first : CanWrite (all_received guest) 2
-  can_first = record {
-    idle = refl;
-    some = omega arith;
-    few = omega arith;
-    there = omega arith;
-    body = subst (λ (n : ℕ). n ≤ 8388608) (sym two_len) (omega arith);
-    number = omega arith;
-    store = ends_low _ _ (omega (arith, gate_len)) (omega (arith, two_len));
-  }
+  can_first = writes_short (all_received guest) 2 refl (omega arith) (omega arith) (omega arith) (omega (arith, two_len)) (omega arith) (omega (arith, gate_len))
 
   abbrev one_committed : World
   one_committed = run (all_received guest) (WriteBody 2 ∷ Sync1 ∷ OpenGate ∷ Sync2 ∷ Publish 0 ∷ Look 0 ∷ Release 0 ((1, 0x7F) ∷ []) ∷ [])
 
   can_second : CanWrite one_committed 1
-  can_second = record {
-    idle = refl;
-    some = omega arith;
-    few = omega arith;
-    there = omega arith;
-    body = subst (λ (n : ℕ). n ≤ 8388608) (sym one_len) (omega arith);
-    number = omega arith;
-    store = ends_low _ _ (omega (arith, store_len)) (omega (arith, one_len));
-  }
+  can_second = writes_short one_committed 1 refl (omega arith) (omega arith) (omega arith) (omega (arith, one_len)) (omega arith) (omega (arith, store_len))
 
   schedule : IsSchedule example_start (up_to_second_gate guest.written guest.ended)
   schedule = then_schedule guest
@@ -94,7 +78,7 @@ module _ (guest : Ended) where
   crash = subst (λ (p : Pending). IsCrash p torn_store) (sym at.1) (any_byte first_body (body_text (exited ∷ [])) 0x21)
 
   sizes : AllByRecursion IsBody first_body
-  sizes = invariant.sizes
+  sizes = invariant.store.sizes
 
   found : IsRecovered first_body first_two
   found = stored_recovered world [] invariant
@@ -128,22 +112,7 @@ module _ (guest : Ended) where
   rests = subst (λ (disk : DiskState). IsAtRest disk (closed_store first_body)) (sym repaired_is) (open_end (fresh_disk torn_store) first_body store)
 
   again : IsStart repaired_start first_two
-  again =
-      let start = starts_on first_body 1 first_two (omega arith) found refl sizes (omega arith) in
-      record {
-        some = start.some;
-        few = start.few;
-        recovered = start.recovered;
-        next = start.next;
-        room = start.room;
-        are_bodies = start.are_bodies;
-        count = start.count;
-        disk = rests;
-        ready = start.ready;
-        queue = start.queue;
-        words = start.words;
-        flusher = start.flusher;
-      }
+  again = starts_at first_body 1 repaired_disk first_two (omega arith) found refl sizes (omega arith) rests
 
   -- the write that closes the gate is stopped, and the gate is torn as it was
   abbrev closing : DiskState

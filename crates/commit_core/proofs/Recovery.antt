@@ -111,7 +111,7 @@ module _ (w : World) (old : List Record) (invariant : Invariant w old) (batches 
   own = all_front (IsOwn w.first_guest w.guests) (joined batches) rest (subst (AllByRecursion (IsOwn w.first_guest w.guests)) (sym front) invariant.own)
 
   old_below : AllByRecursion (λ (r : Record). r.guest < w.first_guest) old
-  old_below = subst (λ (n : ℕ). AllByRecursion (λ (r : Record). r.guest < n) old) (sym invariant.next) (all_below old)
+  old_below = subst (λ (n : ℕ). AllByRecursion (λ (r : Record). r.guest < n) old) (sym invariant.store.next) (all_below old)
 
   split : (h : ℕ) → of_guest h (old ++ joined batches) ≡ of_guest h old ++ of_guest h (joined batches)
   split h = of_guest-append h old (joined batches)
@@ -137,7 +137,7 @@ module _ (w : World) (old : List Record) (invariant : Invariant w old) (batches 
 
   numbered : (h : ℕ) → IsNumbered h 0 (of_guest h (old ++ joined batches))
   numbered h = ⊎_elim
-      (λ low. subst (IsNumbered h 0) (sym (lower h low)) (invariant.recovered.in_order.numbered h))
+      (λ low. subst (IsNumbered h 0) (sym (lower h low)) (invariant.store.recovered.in_order.numbered h))
       (λ high. subst (IsNumbered h 0) (sym (upper h high)) (⊎_elim (ours high) above (less_or_more h (w.first_guest + w.guests))))
       (less_or_more h w.first_guest)
     where
@@ -147,26 +147,26 @@ module _ (w : World) (old : List Record) (invariant : Invariant w old) (batches 
           let is : w.first_guest + g ≡ h = omega (arith, high) in
           subst (λ (k : ℕ). IsNumbered k 0 (of_guest k (joined batches))) is
           (numbered_front (w.first_guest + g) 0 (of_guest (w.first_guest + g) (joined batches)) (of_guest (w.first_guest + g) rest ++ (w.recorders g).backlog)
-          (subst (IsNumbered (w.first_guest + g) 0) (sym (made_is g (omega (arith, l, high)))) (invariant.each g (omega (arith, l, high))).recorder.numbered))
+          (subst (IsNumbered (w.first_guest + g) 0) (sym (made_is g (omega (arith, l, high)))) (invariant.each g (omega (arith, l, high))).recording.run.numbered))
 
       above : w.first_guest + w.guests ≤ h → IsNumbered h 0 (of_guest h (joined batches))
       above l = subst (IsNumbered h 0) (sym (none_of_guest h (joined batches) (all_weaker (IsOwn w.first_guest w.guests) (λ r. r.guest ≢ h) (joined batches) (λ r o e. omega (arith, o.high, e, l)) own))) tt
 
   pub is_recovered : IsRecovered bodies (old ++ joined batches)
   is_recovered = record {
-    batches = invariant.recovered.batches ++ batches;
-    texts = subst (λ (b : List (List ℕ)). AreBodyTexts b (invariant.recovered.batches ++ batches)) (sym text)
-        (texts_both w.bodies (map body_text batches) invariant.recovered.batches batches invariant.recovered.texts
+    batches = invariant.store.recovered.batches ++ batches;
+    texts = subst (λ (b : List (List ℕ)). AreBodyTexts b (invariant.store.recovered.batches ++ batches)) (sym text)
+        (texts_both w.bodies (map body_text batches) invariant.store.recovered.batches batches invariant.store.recovered.texts
         (batch_texts batches (all_weaker (IsOwn w.first_guest w.guests) HasText (joined batches) (λ r o. o.has_text) own) sizes));
-    joined = ap (λ (l : List Record). l ++ joined batches) invariant.recovered.joined ∙ sym (joined-append invariant.recovered.batches batches);
+    joined = ap (λ (l : List Record). l ++ joined batches) invariant.store.recovered.joined ∙ sym (joined-append invariant.store.recovered.batches batches);
     in_order = record {
       numbered = numbered;
-      opened = all_both OpensAtZero old (joined batches) invariant.recovered.in_order.opened (all_weaker (IsOwn w.first_guest w.guests) OpensAtZero (joined batches) (λ r o. o.opens) own);
+      opened = all_both OpensAtZero old (joined batches) invariant.store.recovered.in_order.opened (all_weaker (IsOwn w.first_guest w.guests) OpensAtZero (joined batches) (λ r o. o.opens) own);
     };
   }
 
   seen_in : (g : ℕ) → g < w.guests → (w.recorders g).seen ≤ length (of_guest (w.first_guest + g) (joined batches))
-  seen_in g l = let o = invariant.each g l in omega (arith, o.seen, invariant.counts g l, invariant.told g l, enough g l)
+  seen_in g l = let o = invariant.each g l in omega (arith, o.seen.in_word, invariant.words.counts g l, invariant.told g l, enough g l)
 
   put_out : (g : ℕ) → g < w.guests → IsOutput (w.recorders g).out (of_guest (w.first_guest + g) (joined batches))
   put_out g l =
@@ -178,7 +178,7 @@ module _ (w : World) (old : List Record) (invariant : Invariant w old) (batches 
       let whole = take-append-drop seen ours in
       subst (IsOutput (w.recorders g).out) whole
       (output_further (w.recorders g).out (take seen ours) (drop seen ours) behind
-      (subst IsRecording (sym (ap (λ (k : List Record). k ++ behind) whole ∙ made_is g l)) (invariant.each g l).recorder.recording)
+      (subst IsRecording (sym (ap (λ (k : List Record). k ++ behind) whole ∙ made_is g l)) (invariant.each g l).recording.run.recording)
       (subst (IsOutput (w.recorders g).out) same (invariant.each g l).output))
 
   pub recovers_from : RecoversFrom w old bodies
@@ -196,7 +196,7 @@ module _ (w : World) (old : List Record) (invariant : Invariant w old) (batches 
     replays = λ g l some.
         subst (λ (k : List Record). Replays k (made (w.recorders g)) (w.recorders g).states) (sym (upper (w.first_guest + g) (omega arith)))
         (replays_front (of_guest (w.first_guest + g) (joined batches)) (of_guest (w.first_guest + g) rest ++ (w.recorders g).backlog) (made (w.recorders g)) (w.first_guest + g) (w.recorders g).states
-        (made_is g l) (λ e. some (upper (w.first_guest + g) (omega arith) ∙ e)) (invariant.each g l).recorder);
+        (made_is g l) (λ e. some (upper (w.first_guest + g) (omega arith) ∙ e)) (invariant.each g l).recording.run);
   }
 
   -- and these bodies are the ones of before, and then bodies of the group
@@ -208,7 +208,7 @@ module _ (w : World) (old : List Record) (invariant : Invariant w old) (batches 
       bodies_are = text;
       before = old;
       gained = joined batches;
-      reported = invariant.recovered;
+      reported = invariant.store.recovered;
       recovered = is_recovered;
       later = all_weaker (IsOwn w.first_guest w.guests) (λ r. w.first_guest ≤ r.guest) (joined batches) (λ r o. o.low) own;
     };
@@ -236,7 +236,7 @@ module _ (w : World) (old : List Record) (invariant : Invariant w old) where
 
   sizes_hand : IsBody (body_text w.flusher.hand) → AllByRecursion IsBody (map body_text (w.flusher.finished ++ w.flusher.hand ∷ []))
   sizes_hand is = subst (AllByRecursion IsBody) (sym (map-append body_text w.flusher.finished (w.flusher.hand ∷ [])))
-      (all_both IsBody (map body_text w.flusher.finished) (body_text w.flusher.hand ∷ []) (sizes_behind w.bodies w.flusher.finished invariant.sizes) (is, tt))
+      (all_both IsBody (map body_text w.flusher.finished) (body_text w.flusher.hand ∷ []) (sizes_behind w.bodies w.flusher.finished invariant.store.sizes) (is, tt))
 
   enough_hand : (g : ℕ) → committed_count (w.first_guest + g) w.flusher ≤ length (of_guest (w.first_guest + g) (joined (w.flusher.finished ++ w.flusher.hand ∷ [])))
   enough_hand g = omega (
@@ -247,7 +247,7 @@ module _ (w : World) (old : List Record) (invariant : Invariant w old) where
 
   pub stored_recovered : IsRecovered (stored_bodies w) (old ++ joined w.flusher.finished)
   stored_recovered = is_recovered w old invariant w.flusher.finished ((w.flusher.hand ++ w.flusher.waiting) ++ w.queue) front_finished (stored_bodies w) refl
-      (sizes_behind w.bodies w.flusher.finished invariant.sizes) (λ g l. omega arith)
+      (sizes_behind w.bodies w.flusher.finished invariant.store.sizes) (λ g l. omega arith)
 
   pub hand_recovered : IsBody (body_text w.flusher.hand) → IsRecovered (stored_bodies w ++ body_text w.flusher.hand ∷ []) (old ++ joined (w.flusher.finished ++ w.flusher.hand ∷ []))
   hand_recovered is = is_recovered w old invariant (w.flusher.finished ++ w.flusher.hand ∷ []) (w.flusher.waiting ++ w.queue) front_hand
@@ -255,7 +255,7 @@ module _ (w : World) (old : List Record) (invariant : Invariant w old) where
 
   pub left_finished : LeftBehind w old (stored_bodies w)
   left_finished = left w old invariant w.flusher.finished ((w.flusher.hand ++ w.flusher.waiting) ++ w.queue) front_finished (stored_bodies w) refl
-      (sizes_behind w.bodies w.flusher.finished invariant.sizes) (λ g l. omega arith)
+      (sizes_behind w.bodies w.flusher.finished invariant.store.sizes) (λ g l. omega arith)
 
   pub left_hand : IsBody (body_text w.flusher.hand) → LeftBehind w old (stored_bodies w ++ body_text w.flusher.hand ∷ [])
   left_hand is = left w old invariant (w.flusher.finished ++ w.flusher.hand ∷ []) (w.flusher.waiting ++ w.queue) front_hand
@@ -272,12 +272,12 @@ module _ (w : World) (old : List Record) (invariant : Invariant w old) where
   recovers content gives = by_outcome (outcome_at w.flusher.stage w.disk (stored_bodies w) w.flusher.hand invariant.disk content gives)
     where
       by_outcome : Outcome (stored_bodies w) (body_text w.flusher.hand) content → Recovers w old content
-      by_outcome (inl closed) = recovers_finished content (closed_sound (stored_bodies w) (body_text w.flusher.hand) invariant.sizes invariant.few content closed)
+      by_outcome (inl closed) = recovers_finished content (closed_sound (stored_bodies w) (body_text w.flusher.hand) invariant.store.sizes invariant.store.few content closed)
       by_outcome (inr ajar) = ⊎_elim (recovers_finished content) (recovers_hand content ajar.0.0)
-          (sound_outcome (stored_bodies w) (body_text w.flusher.hand) invariant.sizes invariant.few content (inr ajar))
+          (sound_outcome (stored_bodies w) (body_text w.flusher.hand) invariant.store.sizes invariant.store.few content (inr ajar))
 
   -- it is a store whose bodies the group left
   pub store_left : (content : List ℕ) → Gives w.disk content → IsStoreOf (LeftBehind w old) content
   store_left content gives =
-      outcome_store_of (stored_bodies w) (body_text w.flusher.hand) invariant.sizes invariant.few (LeftBehind w old) left_finished (λ can. left_hand can.0)
+      outcome_store_of (stored_bodies w) (body_text w.flusher.hand) invariant.store.sizes invariant.store.few (LeftBehind w old) left_finished (λ can. left_hand can.0)
       content (outcome_at w.flusher.stage w.disk (stored_bodies w) w.flusher.hand invariant.disk content gives)

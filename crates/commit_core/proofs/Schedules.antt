@@ -22,18 +22,18 @@ invariant_of_ready : (first_guest guests k : ℕ) (words totals : ℕ → ℕ) (
 invariant_of_ready first_guest guests k words totals halted r ready zero_words zero_totals =
     subst (RecorderInvariant first_guest guests [] words halted totals k) (sym ready.is) (record {
       sent = refl;
-      texts = (ready.has_text, tt);
-      seen = omega arith;
-      seen_sent = omega arith;
+      seen = record { in_word = omega arith; in_sent = omega arith };
       halt_known = λ knows. cc;
-      left = zero_words (guests + 1 + k);
-      known_total = inl (zero_totals k);
+      left = record { told = zero_words (guests + 1 + k); known = inl (zero_totals k) };
       output = nothing_put;
-      recorder = record {
-        recording = record { guest = first_guest + k; numbered = (refl, refl, tt); starts = (ready.state, ready.opens, tt) };
-        numbered = (refl, refl, tt);
-        length_is = refl;
-        had = λ j l. one_state j l;
+      recording = record {
+        texts = (ready.has_text, tt);
+        run = record {
+          recording = record { guest = first_guest + k; numbered = (refl, refl, tt); starts = (ready.state, ready.opens, tt) };
+          numbered = (refl, refl, tt);
+          length_is = refl;
+          had = λ j l. one_state j l;
+        };
       };
     })
   where
@@ -46,13 +46,17 @@ invariant_at_start w old s =
     let none : total w ≡ [] = ap (λ (f : Flusher). received f ++ w.queue) s.flusher ∙ s.queue in
     let bodies : stored_bodies w ≡ w.bodies = ap (λ (f : Flusher). w.bodies ++ map body_text f.finished) s.flusher ∙ append-nil w.bodies in
     record {
-      recovered = s.recovered;
-      next = s.next;
-      sizes = subst (AllByRecursion IsBody) (sym bodies) s.are_bodies;
-      few = omega (arith, s.count, ap length bodies);
+      store = record {
+        recovered = s.recovered;
+        next = s.next;
+        sizes = subst (AllByRecursion IsBody) (sym bodies) s.are_bodies;
+        few = omega (arith, s.count, ap length bodies);
+      };
+      words = record {
+        counts = λ k l. s.words k ∙ sym (ap (λ (f : Flusher). f.told k) s.flusher);
+        halt = s.words w.guests ∙ sym (ap (λ (f : Flusher). flag f.halted) s.flusher);
+      };
       own = subst (AllByRecursion (IsOwn w.first_guest w.guests)) (sym none) tt;
-      counts = λ k l. s.words k ∙ sym (ap (λ (f : Flusher). f.told k) s.flusher);
-      halt = s.words w.guests ∙ sym (ap (λ (f : Flusher). flag f.halted) s.flusher);
       told = λ k l. omega (arith, ap (λ (f : Flusher). f.told k) s.flusher);
       each = λ k l. subst (λ (t : List Record). RecorderInvariant w.first_guest w.guests t w.words w.flusher.halted w.flusher.totals k (w.recorders k)) (sym none)
           (invariant_of_ready w.first_guest w.guests k w.words w.flusher.totals w.flusher.halted (w.recorders k) (s.ready k l) s.words (λ j. ap (λ (f : Flusher). f.totals j) s.flusher));
@@ -68,18 +72,18 @@ pub facts : (w : World) (old : List Record) → Invariant w old → Facts w
 facts w old h = record {
   queue = record { sent = λ g l. (h.each g l).sent; made = λ g l. ((w.recorders g).backlog, refl) };
   words = record {
-    counts = h.counts;
-    halt = h.halt;
-    seen = λ g l. (h.each g l).seen;
+    counts = h.words.counts;
+    halt = h.words.halt;
+    seen = λ g l. (h.each g l).seen.in_word;
     halt_known = λ g l. (h.each g l).halt_known;
-    left = λ g l. (h.each g l).left;
-    totals = λ g l. (h.each g l).known_total;
+    left = λ g l. (h.each g l).left.told;
+    totals = λ g l. (h.each g l).left.known;
   };
   told = h.told;
-  disk = λ c crash. sound_outcome (stored_bodies w) (body_text w.flusher.hand) h.sizes h.few c
+  disk = λ c crash. sound_outcome (stored_bodies w) (body_text w.flusher.hand) h.store.sizes h.store.few c
       (outcome_at w.flusher.stage w.disk (stored_bodies w) w.flusher.hand h.disk c (inr crash));
   output = λ g l. (h.each g l).output;
-  recording = λ g l. (h.each g l).recorder;
+  recording = λ g l. (h.each g l).recording.run;
 }
 
 step_same : (w : World) (e : Event) → ((after w e).bodies ≡ w.bodies) × ((after w e).first_guest ≡ w.first_guest)
