@@ -26,18 +26,21 @@ IsGiven gives (AsksRandom a count) t answer before after = gives before (Random 
 IsGiven gives (AsksTime a) t answer before after = gives before (Clock (argument t 0)) answer after
 
 -- the record is that of an answer that the outside gave
-pub record IsAnswered {O : Type 0} (gives : O → Question → Answer → O → Type 0) (row : Row) (t : Thread) (r : CallRecord) (before after : O) : Type 0 where
+pub record IsAnswered {O : Type 0} (gives : O → Question → Answer → O → Type 0) (row : Row) (t : Thread)
+    (r : CallRecord) (before after : O) : Type 0 where
   pub answer : Answer
   pub given : IsGiven gives row t answer before after
   pub records : HasRecord row answer r
 
 -- so is that of the call that the thread makes
-abbrev pub CallIsAnswered : {O : Type 0} → (O → Question → Answer → O → Type 0) → State → ℕ → Option Thread → CallRecord → O → O → Type 0
+abbrev pub CallIsAnswered : {O : Type 0} → (O → Question → Answer → O → Type 0) → State → ℕ → Option Thread →
+    CallRecord → O → O → Type 0
 CallIsAnswered gives s tid None r before after = ⊥
 CallIsAnswered gives s tid (Some t) r before after = IsAnswered gives (call_row s tid t) t r before after
 
 -- the bytes are those of a moment that the outside gave for a clock (clock_gettime(2))
-pub record TellsMoment {O : Type 0} (gives : O → Question → Answer → O → Type 0) (clock : ℕ) (bytes : List ℕ) (before after : O) : Type 0 where
+pub record TellsMoment {O : Type 0} (gives : O → Question → Answer → O → Type 0) (clock : ℕ) (bytes : List ℕ)
+    (before after : O) : Type 0 where
   pub seconds : ℕ
   pub nanoseconds : ℕ
   pub seconds_low : seconds < 2 ^ 63

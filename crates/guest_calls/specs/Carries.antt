@@ -1,9 +1,11 @@
 -- What a call leaves, by its row.
-use Rattle.std.specs.Prelude.{◌≡◌, ℕ, List, [], ◌∷◌, Result, IfOk, OnErr}
+use Rattle.std.specs.Prelude.{◌≡◌, ◌*◌, ℕ, List, [], ◌∷◌, Result, IfOk, OnErr}
+use Rattle.rrv_model.specs.declared.machine.Permissions.{Permissions}
 use Rattle.rrv_model.specs.declared.machine.Thread.{Thread}
 use Rattle.rrv_model.specs.declared.record.CallRecord.{CallRecord}
 use Rattle.rrv_model.specs.declared.refusal.Memory.{Memory}
 use Rattle.rrv_model.specs.declared.syscall.Syscall.{Syscall}
+use Rattle.rrv_model.specs.Memory.{Memory as GuestMemory, mapped, page_bytes}
 use Rattle.rrv_model.specs.State.{State}
 use Rattle.rrv_model.specs.CallRows.{Row, NoResult, leaves, range, row_of, wakes}
 use Rattle.rrv_model.specs.Calls.{Answer, Silence, Calls, HasRecord, after_call}
@@ -26,7 +28,8 @@ pub record Carries (row : Row) (tid : ℕ) (old : State) (r : CallRecord) (new :
   pub leaves : new ≡ after_call row tid r old
 
 -- so of a guest: the record has a text, the call put these chunks out, and the rest stays
-pub record Makes (row : Row) (chunks : List Chunk) (tid : ℕ) (old : GuestValue) (r : CallRecord) (new : GuestValue) : Type 0 where
+pub record Makes (row : Row) (chunks : List Chunk) (tid : ℕ)
+    (old : GuestValue) (r : CallRecord) (new : GuestValue) : Type 0 where
   pub carries : Carries row tid (state_of old) r (state_of new)
   pub text : HasCallText r
   pub puts : chunks_of new.put ≡ chunks
@@ -36,8 +39,12 @@ pub record Makes (row : Row) (chunks : List Chunk) (tid : ℕ) (old : GuestValue
 abbrev pub clearing_row : (clear tid status : ℕ) → Row
 clearing_row clear tid status = NoResult (range clear (0 ∷ 0 ∷ 0 ∷ 0 ∷ [])) (λ s. leaves tid status (wakes clear 1 s))
 
--- what a thread's call comes to, which may ask an outside: by its row; or it finds no memory where it may take some, and then
--- nothing has changed and nobody was asked
+-- so many pages from a page on, of zeros, in place of what was there
+abbrev pub pages_mapped : (page count : ℕ) → Permissions → GuestMemory → GuestMemory
+pages_mapped page count permissions m = mapped (page * page_bytes) (count * page_bytes) permissions m
+
+-- what a thread's call comes to, by its row, which may ask the environment; or it finds no memory, where it may
+-- take some, and nothing has changed, and nobody was asked
 pub record ComesTo {O : Type 0} (gives : O → Question → Answer → O → Type 0) (call : Syscall) (tid : ℕ) (t : Thread)
     (old : GuestValue) (result : Result CallRecord Memory) (new : GuestValue) (before after : O) : Type 0 where
   pub answered : IfOk result (λ r. IsAnswered gives (row_of call tid (state_of old) t) t r before after)

@@ -49,7 +49,8 @@ pub record BeginsWait (tid : ℕ) (s : State) (t : Thread) : Type 0 where
   pub waits : argument t 1 - argument t 1 / 128 % 2 * 128 ≡ 0
   pub succeeds : Succeeds (futex_row tid s t)
 
--- the call puts bytes out, reads a list of buffers, clears a word, waits, makes a thread, maps pages or asks the outside
+-- the call puts bytes out, reads a list of buffers, clears a word, waits, makes a thread, maps pages or asks the
+-- environment; the others take no memory
 abbrev pub MayGrow : Syscall → ℕ → State → Thread → Type 0
 MayGrow calls.Read tid s t = Asks (read_row s t)
 MayGrow calls.Write tid s t = PutsBytes s t
@@ -61,7 +62,6 @@ MayGrow calls.Clone tid s t = Succeeds (clone_row s t)
 MayGrow calls.Mmap tid s t = Succeeds (mmap_row s t)
 MayGrow calls.Getrandom tid s t = Asks (getrandom_row s t)
 MayGrow calls.ClockGettime tid s t = Asks (clock_gettime_row s t)
--- the others take no memory
 MayGrow _ tid s t = ⊥
 
 -- the call that the thread makes may take memory

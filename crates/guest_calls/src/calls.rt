@@ -1,6 +1,7 @@
 //! A guest's calls, a function a row.
 
-ghost use Rattle.std.specs.Prelude.{◌≡◌, [], ◌∷◌, Some, None, MatchOption, true, IsTrue, IfOk, OnErr, length, if◌then◌else◌, ◌==◌, ◌+◌, ◌≤◌, ◌^◌};
+ghost use Rattle.std.specs.Prelude.{◌≡◌, [], ◌∷◌, Some, None, MatchOption, true, IsTrue, IfOk, OnErr, length};
+ghost use Rattle.std.specs.Prelude.{if◌then◌else◌, ◌==◌, ◌+◌, ◌≤◌, ◌^◌};
 ghost use Rattle.rrv_model.specs.declared.syscall.Syscall.TheVariants.{Write};
 ghost use Rattle.rrv_model.specs.Memory.{readable, writable, bytes_at};
 ghost use Rattle.rrv_model.specs.State.{thread_at, register, IsRunning, IsThread};
@@ -78,8 +79,8 @@ pub(crate) fn put_of(descriptor: u32, bytes: Vec<u8>) -> Option<Put>
 }
 
 impl Guest {
-    /// Makes the call of a running thread, whose `pc` is past its ECALL. The outside is asked once at most, and only where
-    /// the call's rule looks at it. Where a growth is refused, all is as before, and the outside was not asked.
+    /// Makes the call of a running thread, whose `pc` is past its ECALL. The environment is asked once at most, and
+    /// only where the call's rule looks at it. Where a growth is refused, all is as before, and nobody was asked.
     pub fn call<O: Outside>(
         &mut self,
         alloc: Global,
@@ -89,8 +90,8 @@ impl Guest {
         requires running { IsRunning (thread_at (state_of self.old) tid) }
         requires runs { (state_of self.old).ended ≡ None }
         ensures calls { IfOk result (λ r. CallDoes (state_of self.old) tid r (state_of self.new)) }
-        ensures answered { IfOk result (λ r.
-            CallIsAnswered O.gives (state_of self.old) tid (thread_at (state_of self.old) tid) r outside.old outside.new) }
+        ensures answered { IfOk result (λ r. CallIsAnswered O.gives (state_of self.old) tid
+            (thread_at (state_of self.old) tid) r outside.old outside.new) }
         ensures text { IfOk result HasCallText }
         ensures puts { IfOk result (λ r. chunks_of self.new.put
             ≡ put_out_by (thread_at (state_of self.old) tid) (state_of self.old).memory r.result) }
@@ -98,7 +99,8 @@ impl Guest {
         ensures refused { OnErr result (self.new ≡ self.old) }
         ensures refused_unasked { OnErr result (outside.new ≡ outside.old) }
         ensures keeps { KeepsRest self.old self.new }
-        ensures unasked { ¬ CallAsks (state_of self.old) tid (thread_at (state_of self.old) tid) → outside.new ≡ outside.old }
+        ensures unasked { ¬ CallAsks (state_of self.old) tid (thread_at (state_of self.old) tid)
+            → outside.new ≡ outside.old }
     {
         let thread = self.running_thread(tid);
         self.make_call(alloc, tid, &thread, outside)
@@ -203,7 +205,8 @@ impl Guest {
     /// exit(status)
     fn exit(&mut self, alloc: Global, tid: u32, thread: &Thread) -> Result<CallRecord, Memory>
         requires { IsRunning (thread_at (state_of self.old) tid) }
-        ensures makes { IfOk result (λ r. Makes (exit_row tid (state_of self.old) thread.now) [] tid self.old r self.new) }
+        ensures makes { IfOk result (λ r.
+            Makes (exit_row tid (state_of self.old) thread.now) [] tid self.old r self.new) }
         ensures memory { OnErr result (IsTrue (clears (state_of self.old) thread.now)) }
         ensures refused { OnErr result (self.new ≡ self.old) }
     {

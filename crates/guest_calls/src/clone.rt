@@ -1,10 +1,12 @@
 //! clone: a thread makes another one (Linux man pages, clone(2)).
 
-ghost use Rattle.std.specs.Prelude.{◌≡◌, ◌==◌, ◌∷◌, [], ◌≤◌, None, IfOk, OnOk, OnErr, true, false, length, if◌then◌else◌};
+ghost use Rattle.std.specs.Prelude.{◌≡◌, ◌==◌, ◌∷◌, [], ◌≤◌, None, IfOk, OnOk, OnErr, true, false, length};
+ghost use Rattle.std.specs.Prelude.{if◌then◌else◌};
 ghost use Rattle.std.specs.Int.{w32, to_le_bytes};
 ghost use Rattle.std.specs.List.{AllByRecursion};
 ghost use Rattle.rrv_model.specs.State.{State, with_register, AreRegs, IsThread};
-ghost use Rattle.rrv_model.specs.CallRows.{argument, all_writable, are_clone_flags, child_of, clone_row, has_flag, tid_places};
+ghost use Rattle.rrv_model.specs.CallRows.{argument, all_writable, are_clone_flags, child_of, clone_row, has_flag};
+ghost use Rattle.rrv_model.specs.CallRows.{tid_places};
 ghost use Rattle.rrv_model.specs.RecordText.{HasCallText, HasWrittenText};
 ghost use Rattle.guest_threads.specs.Threads.{is_full, spawned, with_threads};
 ghost use Rattle.guest_calls.specs.Guest.{state_of};
@@ -222,8 +224,8 @@ impl Guest {
         Ok(record)
     }
 
-    /// A child under the next tid, which is written at the places. The space comes last of what can be refused, so that a
-    /// refusal leaves all as before.
+    /// A child under the next tid, which is written at the places. The space comes last of what can be refused, so that
+    /// a refusal leaves all as before.
     fn add_child(
         &mut self,
         alloc: Global,
@@ -236,8 +238,8 @@ impl Guest {
         requires few { length places.now ≤ 2 }
         requires allowed { all_writable (state_of self.old).memory places.now ≡ true }
         ensures state { OnOk result (state_of self.new ≡ with_child_at places.now thread.now (state_of self.old)) }
-        ensures record_is { IfOk result (λ r. r
-            ≡ record { result = (state_of self.old).next_tid; written = words_at places.now (state_of self.old).next_tid }) }
+        ensures record_is { IfOk result (λ r. let tid = (state_of self.old).next_tid in
+            r ≡ record { result = tid; written = words_at places.now tid }) }
         ensures text { IfOk result HasCallText }
         ensures refused { OnErr result (self.new ≡ self.old) }
         ensures keeps { KeepsRest self.old self.new }

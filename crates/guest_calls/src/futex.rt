@@ -35,7 +35,8 @@ impl Guest {
         thread: &Thread,
     ) -> Result<CallRecord, Memory>
         requires { IsRunning (thread_at (state_of self.old) tid) }
-        ensures makes { IfOk result (λ r. Makes (futex_row tid (state_of self.old) thread.now) [] tid self.old r self.new) }
+        ensures makes { IfOk result (λ r.
+            Makes (futex_row tid (state_of self.old) thread.now) [] tid self.old r self.new) }
         ensures memory { OnErr result (BeginsWait tid (state_of self.old) thread.now) }
         ensures refused { OnErr result (self.new ≡ self.old) }
     {

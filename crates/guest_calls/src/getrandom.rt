@@ -24,7 +24,8 @@ impl Room {
     /// Takes as many random bytes as there is room for.
     fn take_random<O: Outside>(&mut self, outside: &mut O)
         ensures len { length self.new.bytes.items ≡ length self.old.bytes.items }
-        ensures gives { O.gives outside.old (Random (length self.old.bytes.items)) (Bytes self.new.bytes.items) outside.new }
+        ensures gives { O.gives outside.old
+            (Random (length self.old.bytes.items)) (Bytes self.new.bytes.items) outside.new }
     {
         outside.random(self.bytes.as_mut_slice());
     }

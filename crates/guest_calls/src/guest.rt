@@ -102,12 +102,13 @@ impl Guest {
         &self.space
     }
 
-    /// The guest's threads, with the waiting order and the next tid. That its state keeps the rules of one is told here,
-    /// too.
+    /// The guest's threads, with the waiting order and the next tid. That its state keeps the rules of one is told
+    /// here, too.
     pub fn threads(&self) -> &Threads
         ensures value { result.now ≡ self.now.threads }
         ensures is_state { IsState (state_of self.now) }
     {
+        // the proof opens the space and the threads here, for what holds of each
         let _ = self.space.page_count();
         let _ = self.threads.live();
         &self.threads

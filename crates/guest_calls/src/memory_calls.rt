@@ -1,6 +1,7 @@
 //! A guest's calls that change its memory: brk, munmap, mmap and mprotect.
 
-ghost use Rattle.std.specs.Prelude.{◌≡◌, ◌&&◌, ◌||◌, ◌==◌, ◌%◌, ◌+◌, ◌-◌, ◌^◌, ◌≤◌, [], not, nat_lt, IfOk, IfSome, OnErr};
+ghost use Rattle.std.specs.Prelude.{◌≡◌, ◌&&◌, ◌||◌, ◌==◌, ◌%◌, ◌+◌, ◌-◌, ◌^◌, ◌≤◌, [], not, nat_lt, IfOk, IfSome};
+ghost use Rattle.std.specs.Prelude.{OnErr};
 ghost use Rattle.rrv_model.specs.Memory.{highest_free_up_to, page_bytes, pages_for};
 ghost use Rattle.rrv_model.specs.CallRows.{argument, has_flag, brk_row, munmap_row, mmap_row, mmap_place, mprotect_row};
 ghost use Rattle.guest_calls.specs.Guest.{state_of};
@@ -27,11 +28,12 @@ const ADDRESSES: u64 = 0x8000_0000;
 /// The flags of mmap: FIXED maps at the address that is given.
 const FIXED: u32 = 0x10;
 
-/// Tests whether mmap takes these arguments: a length, permissions, a private mapping of no file, and for FIXED the address
-/// of a page.
+/// Tests whether mmap takes these arguments: a length, permissions, a private mapping of no file, and for FIXED the
+/// address of a page.
 fn is_mapping(thread: &Thread) -> bool
     ensures { result ≡ not (argument thread.now 1 == 0 || (nat_lt 7 (argument thread.now 2)
-        || (not (has_flag (argument thread.now 3) 2) || (not (has_flag (argument thread.now 3) 0x20) || (has_flag (argument thread.now 3) 1
+        || (not (has_flag (argument thread.now 3) 2) || (not (has_flag (argument thread.now 3) 0x20)
+        || (has_flag (argument thread.now 3) 1
         || (has_flag (argument thread.now 3) 0x10 && not (argument thread.now 0 % page_bytes == 0))))))) }
 {
     let address = thread.regs.registers[10];

@@ -51,9 +51,10 @@ impl Guest {
         self.space.drop_snapshot(snapshot);
     }
 
-    /// Puts a page with its permissions and bytes in place of what was there; None unmaps it. Refused with NoState exactly
-    /// where no state has such a page, else with TooManyPages exactly where more than 16,384 pages would be mapped, else with
-    /// Memory where a growth is refused, which is only where the page wasn't mapped. To unmap is never refused.
+    /// Puts a page with its permissions and bytes in place of what was there; None unmaps it. Refused with NoState
+    /// exactly where no state has such a page, else with TooManyPages exactly where more than 16,384 pages would be
+    /// mapped, else with Memory where a growth is refused, which is only where the page wasn't mapped. To unmap is
+    /// never refused.
     pub fn set_page(&mut self, number: u32, page: Option<PageView<'_>>) -> Result<(), SetPageFault>
         ensures state { OnOk result (state_of self.new
             ≡ with_memory (with_page number page.entry (state_of self.old).memory) (state_of self.old)) }
@@ -74,9 +75,9 @@ impl Guest {
         }
     }
 
-    /// Takes the rest of a checkpoint in place of the threads, the waiting order, the next tid and the program break; the
-    /// reservation and the end are gone. Refused with NoState exactly where its tids don't rise or it makes no state of the
-    /// guest's memory and opening break, else with Memory where a growth is refused.
+    /// Takes the rest of a checkpoint in place of the threads, the waiting order, the next tid and the program break;
+    /// the reservation and the end are gone. Refused with NoState exactly where its tids don't rise or it makes no
+    /// state of the guest's memory and opening break, else with Memory where a growth is refused.
     pub fn set_rest(&mut self, alloc: Global, rest: &CheckpointRest) -> Result<(), SetRestFault>
         ensures state { OnOk result (state_of self.new ≡ with_rest rest.now (state_of self.old)) }
         ensures possible { OnOk result (MakesState rest.now (state_of self.old)) }

@@ -23,7 +23,8 @@ impl Room {
         requires { length self.old.bytes.items ≤ MAX_TRANSFER }
         ensures len { result ≡ length self.new.bytes.items }
         ensures within { result ≤ length self.old.bytes.items }
-        ensures gives { O.gives outside.old (Input (length self.old.bytes.items)) (Bytes self.new.bytes.items) outside.new }
+        ensures gives { O.gives outside.old
+            (Input (length self.old.bytes.items)) (Bytes self.new.bytes.items) outside.new }
     {
         let len = outside.read(self.bytes.as_mut_slice());
         self.bytes.truncate(len);

@@ -1,5 +1,6 @@
 -- What a recorded guest puts out.
-use Rattle.std.specs.Prelude.{◌≡◌, ℕ, ◌-◌, nat_le, ◌&&◌, if◌then◌else◌, List, [], ◌∷◌, ◌++◌, flat_map, map, Option, Some, None}
+use Rattle.std.specs.Prelude.{◌≡◌, ℕ, ◌-◌, nat_le, ◌&&◌, if◌then◌else◌, List, [], ◌∷◌, ◌++◌, flat_map, map, Option}
+use Rattle.std.specs.Prelude.{Some, None}
 use Rattle.rrv_model.specs.declared.machine.Thread.{Thread}
 use Rattle.rrv_model.specs.declared.record.End.{End}
 use Rattle.rrv_model.specs.declared.record.End.TheVariants.{Preempt, Call, Fault, Stuck}
@@ -51,7 +52,8 @@ put_out_by (Some t) m count = put_out m t count
 -- what a frame from s on puts out: of a call, the bytes before its ECALL
 abbrev pub FramePuts : State → Frame → End → List Chunk → Type 0
 FramePuts s f (Call r) chunks =
-    (before : State) × Steps (f.count - 1) f.tid s before × (chunks ≡ put_out_by (thread_at before f.tid) before.memory r.result)
+    (before : State) × Steps (f.count - 1) f.tid s before
+    × (chunks ≡ put_out_by (thread_at before f.tid) before.memory r.result)
 FramePuts s f Preempt chunks = chunks ≡ []
 FramePuts s f (Fault kind) chunks = chunks ≡ []
 FramePuts s f Stuck chunks = chunks ≡ []
@@ -60,7 +62,8 @@ FramePuts s f Stuck chunks = chunks ≡ []
 abbrev pub PutFrom : State → List Frame → List Chunk → Type 0
 PutFrom s [] chunks = chunks ≡ []
 PutFrom s (f ∷ frames) chunks =
-    (mid : State) × (first rest : List Chunk) × FrameStep s f mid × FramePuts s f f.end first × PutFrom mid frames rest × (chunks ≡ first ++ rest)
+    (mid : State) × (first rest : List Chunk) × FrameStep s f mid × FramePuts s f f.end first
+    × PutFrom mid frames rest × (chunks ≡ first ++ rest)
 
 abbrev pub Output : Opening → List Frame → List Chunk → Type 0
 Output o frames chunks = (s : State) × Opens o.elf o.name o.random s × PutFrom s frames chunks
