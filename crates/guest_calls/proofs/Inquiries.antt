@@ -1,5 +1,5 @@
 -- Calls that ask the outside, and calls that don't.
-use Rattle.std.proofs.Common.{◌≡◌, ◌≢◌, ℕ, ◌<◌, ◌≤◌, ◌^◌, true, false, min, List, [], ◌∷◌, length, All, Result, Ok, Err, IfOk, OnErr, is_some, refl, sym, ◌∙◌, ap, subst, arith}
+use Rattle.std.proofs.Common.{◌≡◌, ◌≢◌, ℕ, ◌+◌, ◌-◌, ◌<◌, ◌≤◌, ◌^◌, true, false, min, List, [], ◌∷◌, length, All, Result, Ok, Err, IfOk, OnErr, is_some, refl, sym, ◌∙◌, ap, subst, arith}
 use Rattle.std.proofs.lemmas.Bool.Decides.{nat_tests}
 use Rattle.rrv_model.specs.declared.machine.Thread.{Thread}
 use Rattle.rrv_model.specs.declared.record.CallRecord.{CallRecord}
@@ -69,6 +69,14 @@ module _ {O : Type 0} {gives : O → Question → Answer → O → Type 0} (call
   answers_value {r} value row_is nothing made = quiet (Ok r)
       (subst (λ (chunks : List Chunk). Makes (row_of call tid (state_of old) t) chunks tid old r new) nothing
       (subst (λ (row : Row). Makes row [] tid old r new) (sym row_is) made)) tt tt
+
+  -- a test before the question fails
+  pub fails_with : {r : CallRecord} {value : ℕ} (errno : ℕ) → value + errno ≡ 2 ^ 32 → row_of call tid (state_of old) t ≡ fails errno →
+      [] ≡ puts call (state_of old).memory t r.result → Makes (only_returns value) [] tid old r new →
+      ComesTo gives call tid t old (Ok r) new before before
+  fails_with {r} {value} errno value_is row_is nothing made =
+      let negated : 2 ^ 32 - errno ≡ value = omega (arith, value_is) in
+      answers_value value (row_is ∙ ap only_returns negated) nothing made
 
   -- the question was answered
   pub was_answered : {r : CallRecord} {after : O} (row : Row) → row_of call tid (state_of old) t ≡ row → IsAnswered gives row t r before after →

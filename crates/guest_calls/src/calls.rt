@@ -17,11 +17,11 @@ ghost use Rattle.guest_calls.specs.Growth.{CallMayGrow, PutsBytes};
 use crate::guest::Guest;
 use crate::outside::Outside;
 use crate::put::Put;
-use rrv_model::sequence::Sequence;
 use rrv_model::limits::MAX_TRANSFER;
 use rrv_model::machine::Thread;
 use rrv_model::record::{CallRecord, Written};
 use rrv_model::refusal::Memory;
+use rrv_model::sequence::Sequence;
 use rrv_model::syscall::{Syscall, syscall_of};
 use std::alloc::Global;
 

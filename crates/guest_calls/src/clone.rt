@@ -18,10 +18,10 @@ use crate::calls::{BAD_ADDRESS, INVALID, TRY_AGAIN, failure};
 use crate::changes::{A0, with_register};
 use crate::guest::Guest;
 use guest_threads::Threads;
-use rrv_model::sequence::Sequence;
 use rrv_model::machine::{Regs, Thread};
 use rrv_model::record::{CallRecord, Written};
 use rrv_model::refusal::Memory;
+use rrv_model::sequence::Sequence;
 use std::alloc::Global;
 
 /// CLONE_VM, CLONE_FS, CLONE_FILES, CLONE_SIGHAND and CLONE_THREAD, which are required.

@@ -1,30 +1,22 @@
-use Rattle.std.proofs.Common.{◌≡◌, ◌∙◌, ◌-◌, ◌^◌, ◌<◌, ◌≤◌, ℕ, true, false, List, length, refl, ap, arith}
+use Rattle.std.proofs.Common.{◌≡◌, ◌∙◌, ◌≤◌, ℕ, true, List, length, refl, ap, arith}
 use Rattle.rrv_model.specs.declared.syscall.Syscall.TheVariants.{ClockGettime}
 use Rattle.rrv_model.specs.Memory.{writable}
-use Rattle.rrv_model.specs.CallRows.{AsksTime, only_returns, argument, row_of}
+use Rattle.rrv_model.specs.CallRows.{AsksTime, argument, row_of}
 use Rattle.guest_calls.specs.Guest.{state_of}
-use Rattle.guest_calls.proofs.Inquiries.{answers_value, at_room, clock_elsewhere, clock_locked, clock_asks, kept_then, leaves_range, time_answered, was_answered}
+use Rattle.guest_calls.proofs.Inquiries.{at_room, clock_elsewhere, clock_locked, clock_asks, fails_with, kept_then, leaves_range, time_answered, was_answered}
 use Rattle.guest_calls.proofs.guest.Guest.clock_gettime.Goals as goal
 
 pub returns-then-clock-gt-MONOTONIC : goal.returns-then-clock-gt-MONOTONIC
 unfolding row_of
 returns-then-clock-gt-MONOTONIC g c =
-    let s = state_of c.args.self.now in
-    let t = c.args.thread.now in
-    let high : 1 < argument t 0 = grind arith in
-    let value : 2 ^ 32 - 22 ≡ c.failure.result = omega (arith, c.failure.ensures) in
-    answers_value ClockGettime c.failure.result (clock_elsewhere s t high ∙ ap only_returns value) refl c.answer.ensures.makes
+    fails_with ClockGettime 22 c.failure.ensures (clock_elsewhere (state_of c.args.self.now) c.args.thread.now (grind arith)) refl
+    c.answer.ensures.makes
 
 pub returns-then-not-is_writable : goal.returns-then-not-is_writable
 unfolding row_of
 returns-then-not-is_writable g c =
-    let s = state_of c.args.self.now in
-    let t = c.args.thread.now in
-    let low : argument t 0 ≤ 1 = grind arith in
-    let locked : writable s.memory (argument t 1) 16 ≡ false = grind arith in
-    let value : 2 ^ 32 - 14 ≡ c.failure-then-not-is_writable.result = omega (arith, c.failure-then-not-is_writable.ensures) in
-    answers_value ClockGettime c.failure-then-not-is_writable.result (clock_locked s t low locked ∙ ap only_returns value) refl
-    c.answer-then-not-is_writable.ensures.makes
+    fails_with ClockGettime 14 c.failure-then-not-is_writable.ensures
+    (clock_locked (state_of c.args.self.now) c.args.thread.now (grind arith) (grind arith)) refl c.answer-then-not-is_writable.ensures.makes
 
 pub returns : goal.returns
 unfolding row_of

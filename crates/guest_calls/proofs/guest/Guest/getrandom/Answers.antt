@@ -1,39 +1,28 @@
-use Rattle.std.proofs.Common.{◌≡◌, ◌≢◌, ◌∙◌, ℕ, ◌-◌, ◌^◌, ◌<◌, ◌≤◌, min, true, false, List, length, refl, ap, arith}
+use Rattle.std.proofs.Common.{◌≡◌, ◌≢◌, ◌∙◌, ℕ, ◌≤◌, min, true, List, length, refl, ap, arith}
 use Rattle.rrv_model.specs.declared.syscall.Syscall.TheVariants.{Getrandom}
 use Rattle.rrv_model.specs.Memory.{writable}
-use Rattle.rrv_model.specs.CallRows.{AsksRandom, only_returns, argument, row_of}
+use Rattle.rrv_model.specs.CallRows.{AsksRandom, argument, row_of}
 use Rattle.guest_calls.specs.Guest.{state_of}
-use Rattle.guest_calls.proofs.Inquiries.{answers_value, at_room, getrandom_flags, getrandom_nothing, getrandom_locked, getrandom_asks, kept_then, leaves_range, random_answered, random_room, was_answered}
+use Rattle.guest_calls.proofs.Inquiries.{answers_value, at_room, getrandom_flags, getrandom_nothing, getrandom_locked, getrandom_asks, fails_with, kept_then, leaves_range, random_answered, random_room, was_answered}
 use Rattle.guest_calls.proofs.guest.Guest.getrandom.Goals as goal
 
 pub returns-then-flags-gt-MAX_FLAGS : goal.returns-then-flags-gt-MAX_FLAGS
 unfolding row_of
 returns-then-flags-gt-MAX_FLAGS g c =
-    let s = state_of c.args.self.now in
-    let t = c.args.thread.now in
-    let high : 7 < argument t 2 = grind arith in
-    let value : 2 ^ 32 - 22 ≡ c.failure.result = omega (arith, c.failure.ensures) in
-    answers_value Getrandom c.failure.result (getrandom_flags s t high ∙ ap only_returns value) refl c.answer.ensures.makes
+    fails_with Getrandom 22 c.failure.ensures (getrandom_flags (state_of c.args.self.now) c.args.thread.now (grind arith)) refl
+    c.answer.ensures.makes
 
 pub returns-then-count-eq0 : goal.returns-then-count-eq0
 unfolding row_of
 returns-then-count-eq0 g c =
-    let s = state_of c.args.self.now in
-    let t = c.args.thread.now in
-    let flags : argument t 2 ≤ 7 = grind arith in
-    let none : min (argument t 1) 256 ≡ 0 = grind arith in
-    answers_value Getrandom 0 (getrandom_nothing s t flags none) refl c.answer-then-count-eq0.ensures.makes
+    answers_value Getrandom 0 (getrandom_nothing (state_of c.args.self.now) c.args.thread.now (grind arith) (grind arith)) refl
+    c.answer-then-count-eq0.ensures.makes
 
 pub returns-then-not-is_writable : goal.returns-then-not-is_writable
 unfolding row_of
 returns-then-not-is_writable g c =
-    let s = state_of c.args.self.now in
-    let t = c.args.thread.now in
-    let flags : argument t 2 ≤ 7 = grind arith in
-    let some : min (argument t 1) 256 ≢ 0 = grind arith in
-    let locked : writable s.memory (argument t 0) (min (argument t 1) 256) ≡ false = grind arith in
-    let value : 2 ^ 32 - 14 ≡ c.failure-then-not-is_writable.result = omega (arith, c.failure-then-not-is_writable.ensures) in
-    answers_value Getrandom c.failure-then-not-is_writable.result (getrandom_locked s t flags some locked ∙ ap only_returns value) refl
+    fails_with Getrandom 14 c.failure-then-not-is_writable.ensures
+    (getrandom_locked (state_of c.args.self.now) c.args.thread.now (grind arith) (grind arith) (grind arith)) refl
     c.answer-then-not-is_writable.ensures.makes
 
 pub returns : goal.returns

@@ -1,39 +1,28 @@
-use Rattle.std.proofs.Common.{◌≡◌, ◌≢◌, ◌∙◌, ℕ, ◌-◌, ◌^◌, ◌≤◌, true, false, List, length, refl, ap, arith}
+use Rattle.std.proofs.Common.{◌≡◌, ◌≢◌, ◌∙◌, ℕ, ◌≤◌, true, List, length, refl, ap, arith}
 use Rattle.rrv_model.specs.declared.syscall.Syscall.TheVariants.{Read}
 use Rattle.rrv_model.specs.Memory.{writable}
-use Rattle.rrv_model.specs.CallRows.{AsksInput, only_returns, argument, row_of, transfer}
+use Rattle.rrv_model.specs.CallRows.{AsksInput, argument, row_of, transfer}
 use Rattle.guest_calls.specs.Guest.{state_of}
-use Rattle.guest_calls.proofs.Inquiries.{answers_value, at_room, fill_within, input_answered, input_room, kept_then, leaves_range, read_elsewhere, read_nothing, read_locked, read_asks, was_answered}
+use Rattle.guest_calls.proofs.Inquiries.{answers_value, at_room, fails_with, fill_within, input_answered, input_room, kept_then, leaves_range, read_elsewhere, read_nothing, read_locked, read_asks, was_answered}
 use Rattle.guest_calls.proofs.guest.Guest.read.Goals as goal
 
 pub returns-then-descriptor-ne0 : goal.returns-then-descriptor-ne0
 unfolding row_of
 returns-then-descriptor-ne0 g c =
-    let s = state_of c.args.self.now in
-    let t = c.args.thread.now in
-    let fd : argument t 0 ≢ 0 = grind arith in
-    let value : 2 ^ 32 - 9 ≡ c.failure.result = omega (arith, c.failure.ensures) in
-    answers_value Read c.failure.result (read_elsewhere s t fd ∙ ap only_returns value) refl c.answer.ensures.makes
+    fails_with Read 9 c.failure.ensures (read_elsewhere (state_of c.args.self.now) c.args.thread.now (grind arith)) refl
+    c.answer.ensures.makes
 
 pub returns-then-count-eq0 : goal.returns-then-count-eq0
 unfolding row_of
 returns-then-count-eq0 g c =
-    let s = state_of c.args.self.now in
-    let t = c.args.thread.now in
-    let fd : argument t 0 ≡ 0 = grind arith in
-    let none : transfer (argument t 2) ≡ 0 = grind arith in
-    answers_value Read 0 (read_nothing s t fd none) refl c.answer-then-count-eq0.ensures.makes
+    answers_value Read 0 (read_nothing (state_of c.args.self.now) c.args.thread.now (grind arith) (grind arith)) refl
+    c.answer-then-count-eq0.ensures.makes
 
 pub returns-then-not-is_writable : goal.returns-then-not-is_writable
 unfolding row_of
 returns-then-not-is_writable g c =
-    let s = state_of c.args.self.now in
-    let t = c.args.thread.now in
-    let fd : argument t 0 ≡ 0 = grind arith in
-    let some : transfer (argument t 2) ≢ 0 = grind arith in
-    let locked : writable s.memory (argument t 1) (transfer (argument t 2)) ≡ false = grind arith in
-    let value : 2 ^ 32 - 14 ≡ c.failure-then-not-is_writable.result = omega (arith, c.failure-then-not-is_writable.ensures) in
-    answers_value Read c.failure-then-not-is_writable.result (read_locked s t fd some locked ∙ ap only_returns value) refl
+    fails_with Read 14 c.failure-then-not-is_writable.ensures
+    (read_locked (state_of c.args.self.now) c.args.thread.now (grind arith) (grind arith) (grind arith)) refl
     c.answer-then-not-is_writable.ensures.makes
 
 pub write_answer-requires : goal.write_answer-requires
