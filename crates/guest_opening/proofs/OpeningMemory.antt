@@ -225,9 +225,11 @@ pub is_opening_memory : (file name random : List ℕ) → refusal file ≡ None 
 is_opening_memory file name random none small is_name random_small =
     let accepted = is_accepted file none in
     record {
-      paged = paged-opening file name random;
-      low = low-opening file name random accepted;
-      high = high-opening file name random accepted;
+      pages = record {
+        paged = paged-opening file name random;
+        low = low-opening file name random accepted;
+        high = high-opening file name random accepted;
+        cells = fits-opening file name random small is_name random_small;
+      };
       limit = opening_pages file name random accepted;
-      cells = fits-opening file name random small is_name random_small;
     }

@@ -12,7 +12,7 @@ use Rattle.std.proofs.lemmas.List.Elements.{All-set, All-replicate, All-from_get
 use Rattle.std.proofs.lemmas.Bool.Decides.{nat_tests}
 use Rattle.rrv_model.specs.declared.machine.Thread.{Thread}
 use Rattle.rrv_model.specs.Memory.{page_bytes, pages_for}
-use Rattle.rrv_model.specs.State.{IsState, IsThread, AreRegs, IsWaiting}
+use Rattle.rrv_model.specs.State.{IsState, IsThread, AreThreads, AreRegs, IsWaiting}
 use Rattle.rrv_model.specs.Elf.{Header, loads, load_end, refusal, elf_entry, is_empty_load}
 use Rattle.rrv_model.specs.Opening.{opening_state, opening_thread, image_break, stack_pointer, IsName}
 use Rattle.guest_opening.specs.Loading.{IsLoad}
@@ -147,8 +147,8 @@ pub is_opening_state : (file name random : List ℕ) → refusal file ≡ None �
     IsState (opening_state file name random)
 is_opening_state file name random none small is_name random_small =
     let t = opening_thread file name in
-    record {
-      memory = is_opening_memory file name random none small is_name random_small;
+    let memory = is_opening_memory file name random none small is_name random_small in
+    let threads : AreThreads (opening_state file name random).threads [] 2 = record {
       threads = λ tid. of_thread_one t tid (λ _. IsThread) (is_first_thread (elf_entry file) (stack_pointer name) (word-small (drop 24 file) (small-drop 24 file (are_bytes file small))) (small-stack_pointer name));
       live = live-one t;
       tids = λ tid. of_thread_one t tid (λ k _. (1 ≤ k) × (k < 2)) (omega arith, omega arith);
@@ -156,6 +156,15 @@ is_opening_state file name random none small is_name random_small =
       next_tid = omega arith;
       waiting = λ tid. (λ has. absurd (omega (arith, has.1)), λ waits. absurd (none_waits t tid refl waits));
       waiting_once = λ i j d above below. absurd (omega arith);
-      opening = high_image_break file (is_accepted file none);
-      breaks = (omega arith, low_image_break file (is_accepted file none));
+    } in
+    record {
+      rules = record {
+        memory = memory.pages;
+        threads = threads;
+        opening = high_image_break file (is_accepted file none);
+        breaks = (omega arith, low_image_break file (is_accepted file none));
+        reservation = tt;
+        ended = tt;
+      };
+      limit = memory.limit;
     }

@@ -10,8 +10,8 @@ use Rattle.std.specs.Cmp.{nat_cmp_total, eq_by_cmp_equiv}
 use Rattle.std.specs.FinMap.{FinMap, get, insert, remove, empty, len, get-insert, get-remove, get-empty, len-empty, len-insert, len-remove}
 use Rattle.std.specs.Ordering.{nat_cmp, eq_by_cmp}
 use Rattle.rrv_model.specs.declared.machine.Thread.{Thread}
-use Rattle.rrv_model.specs.State.{IsThread, IsRunning, IsWaiting}
-use Rattle.guest_threads.specs.Threads.{AreThreads, changed}
+use Rattle.rrv_model.specs.State.{IsThread, IsRunning, IsWaiting, AreThreads}
+use Rattle.guest_threads.specs.Threads.{changed}
 use Rattle.guest_threads.proofs.ByTid.{same_tid, tied}
 
 -- ---- numbers that are apart

@@ -5,7 +5,7 @@ use Rattle.std.specs.Ordering.{nat_cmp}
 use Rattle.std.specs.FinMap.{FinMap, from_entries, get, insert, remove, len}
 use Rattle.rrv_model.specs.declared.machine.Thread.{Thread}
 use Rattle.rrv_model.specs.Memory.{no_memory}
-use Rattle.rrv_model.specs.State.{State, IsThread, IsRunning, IsWaiting, with_thread}
+use Rattle.rrv_model.specs.State.{State, IsRunning, AreThreads, with_thread}
 use Rattle.guest_threads.specs.declared.fault.ThreadFault.{ThreadFault}
 use Rattle.guest_threads.specs.declared.fault.ThreadFault.TheVariants.{TooMany, NotThere, Memory}
 
@@ -46,17 +46,6 @@ abbrev pub live_count : ThreadsValue → ℕ
 live_count v = len (thread_map v.threads)
 
 -- ---- the rules
-
--- the rules of a state, for its threads, its waiting order and its next tid, which is at least 1
-pub record AreThreads (m : FinMap nat_cmp Thread) (order : List ℕ) (next : ℕ) : Type 0 where
-  pub threads : (tid : ℕ) → IfSome (get m tid) IsThread
-  pub live : len m ≤ 16
-  pub tids : (tid : ℕ) → IfSome (get m tid) (λ _. (1 ≤ tid) × (tid < next))
-  pub first : 1 ≤ next
-  pub next_tid : next ≤ 2 ^ 31
-  -- the waiting order names each waiting thread once
-  pub waiting : (tid : ℕ) → Contains order tid ↔ IsWaiting (get m tid)
-  pub waiting_once : AllPairs (λ a b. a ≢ b) order
 
 -- the threads keep the rules of a state
 abbrev pub KeepRules : ThreadsValue → Type 0
