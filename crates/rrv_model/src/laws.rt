@@ -1,6 +1,7 @@
 //! Laws of the definitions, each as the contract of a function that does nothing.
 
 ghost use Rattle.rrv_model.specs.Instructions.{OneRow};
+ghost use Rattle.rrv_model.specs.Memory.{HighestFreeIsFound};
 ghost use Rattle.rrv_model.specs.FrameStep.{OneStateAfterFrame};
 ghost use Rattle.rrv_model.specs.Calls.{OneStateAfterCall};
 ghost use Rattle.rrv_model.specs.RecordText.{OneReading, OneSpelling};
@@ -60,4 +61,9 @@ pub fn one_recovery()
 /// What is recovered from the first of some bodies is the first of what is recovered from all.
 pub fn beginnings_are_recovered()
     ensures { BeginningsAreRecovered }
+{}
+
+/// The search for a free place finds the highest, and none only where there is none.
+pub fn highest_free_is_found()
+    ensures { HighestFreeIsFound }
 {}
