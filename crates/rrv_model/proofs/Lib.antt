@@ -3,6 +3,7 @@ pub mod RecordingLaws
 pub mod InstructionLaws
 pub mod FrameLaws
 pub mod Examples
+pub mod TextSizes
 pub mod TextLaws
 pub mod OpeningFacts
 pub mod Decoding
