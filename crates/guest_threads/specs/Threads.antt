@@ -61,13 +61,6 @@ spawned t s = with_thread s.next_tid t (record s { next_tid = s.next_tid + 1 })
 abbrev pub without_thread : ℕ → State → State
 without_thread tid s = record s { threads = remove s.threads tid }
 
--- the threads with one of them changed, where it is there
-abbrev pub changed : ℕ → (Thread → Thread) → FinMap nat_cmp Thread → FinMap nat_cmp Thread
-changed tid change m = changed_found (get m tid) where
-  changed_found : Option Thread → FinMap nat_cmp Thread
-  changed_found None = m
-  changed_found (Some t) = insert m tid (change t)
-
 -- ---- refusals
 
 -- 16 threads live, or no tid is left

@@ -16,3 +16,17 @@ pub mod StoreCallLaws
 pub mod RecoveredLaws
 pub mod StoreLaws
 pub mod FreePlaces
+pub mod WordValues
+pub mod MemoryRules
+pub mod StepRules
+pub mod ThreadRules
+pub mod StateRules
+pub mod CallRules
+pub mod StateLaws
+pub mod PageTexts
+pub mod CheckpointLaws
+pub mod ImageParts
+pub mod PageCounts
+pub mod AcceptedFile
+pub mod OpeningMemory
+pub mod OpeningState

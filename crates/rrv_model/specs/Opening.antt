@@ -8,7 +8,7 @@ use Rattle.rrv_model.specs.declared.limits.TheConstants.{MAX_NAME}
 use Rattle.rrv_model.specs.declared.machine.Permissions.{Permissions}
 use Rattle.rrv_model.specs.declared.machine.Thread.{Thread}
 use Rattle.rrv_model.specs.Memory.{Memory, stored, mapped, is_within, page_bytes, pages_for}
-use Rattle.rrv_model.specs.State.{State}
+use Rattle.rrv_model.specs.State.{State, IsState}
 use Rattle.rrv_model.specs.CallRows.{has_flag}
 use Rattle.rrv_model.specs.Elf.{Header, loads, load_end, touches, refusal, elf_entry, elf_phoff, elf_phnum}
 
@@ -131,3 +131,7 @@ pub record Opens (file name random : List ℕ) (s : State) : Type 0 where
   pub sixteen : length random ≡ 16
   pub random_bytes : All (λ b. b < 256) random
   pub state_is : s ≡ opening_state file name random
+
+-- a guest starts in a state
+abbrev pub OpeningsAreStates : Type 0
+OpeningsAreStates = (file name random : List ℕ) (s : State) → Opens file name random s → IsState s
