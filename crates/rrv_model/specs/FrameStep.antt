@@ -1,6 +1,7 @@
--- Frame step: a frame leads from one state to the next by a thread's steps and what ends them, as in rr's record and replay
--- (O'Callahan and others, 2017), with switches at exact instruction counts.
+-- Frame step: a frame leads from one state to the next by a thread's steps and what ends them, as in rr's record and
+-- replay (O'Callahan and others, 2017), with switches at exact instruction counts.
 use Rattle.std.specs.Prelude.{◌≡◌, ℕ, zero, suc, ◌-◌, ◌≤◌, Some, None}
+use Rattle.rrv_model.specs.declared.limits.TheConstants.{MAX_QUANTUM}
 use Rattle.rrv_model.specs.declared.machine.GuestEnd.{GuestEnd}
 use Rattle.rrv_model.specs.declared.machine.GuestEnd.TheVariants as guest_ends
 use Rattle.rrv_model.specs.declared.record.End.{End}
@@ -63,12 +64,13 @@ FrameStepBy Stuck old tid count new = IsStuck old tid count new
 -- the frame leads from old, which hasn't ended, to new
 pub record FrameStep (old : State) (frame : Frame) (new : State) : Type 0 where
   pub runs : old.ended ≡ None
-  pub limit : frame.count ≤ 1_048_576
+  pub limit : frame.count ≤ MAX_QUANTUM
   pub goes : FrameStepBy frame.end old frame.tid frame.count new
 
 -- old and frame leave one new at most
 abbrev pub OneStateAfterFrame : Type 0
-OneStateAfterFrame = (old : State) (frame : Frame) (new new' : State) → FrameStep old frame new → FrameStep old frame new' → new ≡ new'
+OneStateAfterFrame =
+    (old : State) (frame : Frame) (new new' : State) → FrameStep old frame new → FrameStep old frame new' → new ≡ new'
 
 -- a frame from a state leads to a state
 abbrev pub FramesKeepStates : Type 0

@@ -31,8 +31,8 @@ abbrev pub row_after : Option CheckpointRest → List Part → List Part
 row_after None parts = parts
 row_after (Some rest) parts = []
 
--- The items go on from a state: base is that of the last complete checkpoint, or the opening state; parts are those in a row
--- since the last item that is no part or is flagged.
+-- The items go on from a state: base is that of the last complete checkpoint, or the opening state; parts are those in
+-- a row since the last item that is no part or is flagged.
 abbrev pub ItemsFollow : State → List Part → State → List Item → Type 0
 ItemsFollow base parts s [] = Unit {0}
 ItemsFollow base parts s (items.Opening o ∷ rest) = ⊥
@@ -85,6 +85,7 @@ OneEnd = (items : List Item) (s s' : State) → EndsIn items s → EndsIn items 
 -- a frame from the state behind a recording makes it a longer one, which ends in the frame's new state
 abbrev pub FramesAppend : Type 0
 FramesAppend =
-    (records : List Record) (guest : ℕ) (old new : State) (f : Frame) → IsRecording records → IsNumbered guest 0 records →
-    EndsIn (items_of records) old → FrameStep old f new →
-    IsRecording (records ++ frame_record guest (length records) f ∷ []) × EndsIn (items_of (records ++ frame_record guest (length records) f ∷ [])) new
+    (records : List Record) (guest : ℕ) (old new : State) (f : Frame) →
+    IsRecording records → IsNumbered guest 0 records → EndsIn (items_of records) old → FrameStep old f new →
+    IsRecording (records ++ frame_record guest (length records) f ∷ [])
+    × EndsIn (items_of (records ++ frame_record guest (length records) f ∷ [])) new

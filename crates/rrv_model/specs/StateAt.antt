@@ -10,11 +10,13 @@ use Rattle.rrv_model.specs.Opening.{Opens}
 abbrev pub total : List Frame → ℕ
 total frames = sum_by (λ f. f.count) frames
 
--- from s on: all frames whose counts end at or before t, then the remaining steps of the next
+-- from s on: all frames whose counts end at or before t, then the remaining steps of the next, whatever comes behind them
 abbrev pub StateAtFrom : State → List Frame → ℕ → State → Type 0
 StateAtFrom s [] t at = (t ≡ 0) × (at ≡ s)
 StateAtFrom s (f ∷ frames) t at =
-    MatchBool (nat_le f.count t) ((mid : State) × FrameStep s f mid × StateAtFrom mid frames (t - f.count) at) (Steps t f.tid s at)
+    MatchBool (nat_le f.count t)
+    ((mid : State) × FrameStep s f mid × StateAtFrom mid frames (t - f.count) at)
+    (Steps t f.tid s at)
 
 -- the state at t, the ends of the frames at or before t included
 abbrev pub StateAt : Opening → List Frame → ℕ → State → Type 0
