@@ -1,5 +1,5 @@
 -- A clone that makes a thread, put together from its parts.
-use Rattle.std.proofs.Common.{◌≡◌, ℕ, ◌+◌, ◌-◌, ◌%◌, ◌^◌, ◌<◌, ◌≤◌, Bool, true, false, not, ◌&&◌, ◌||◌, nat_le, nat_lt, cond, ◌==◌, if◌then◌else◌, None, List, [], ◌∷◌, ◌++◌, length, take, drop, get_or, All, refl, sym, ◌∙◌, ap, subst, arith, add-one, drop-cons, append_assoc}
+use Rattle.std.proofs.Common.{◌≡◌, ℕ, ◌+◌, ◌-◌, ◌^◌, ◌<◌, ◌≤◌, Bool, true, false, not, ◌&&◌, ◌||◌, nat_le, nat_lt, cond, ◌==◌, if◌then◌else◌, None, List, [], ◌∷◌, ◌++◌, length, drop, get_or, All, refl, sym, ◌∙◌, ap, subst, arith, add-one, drop-cons, append_assoc}
 use Rattle.std.proofs.lemmas.List.{append-nil, drop_all}
 use Rattle.std.proofs.lemmas.List.Elements.{All-from_recursion}
 use Rattle.std.specs.FinMap.{len}
@@ -12,7 +12,7 @@ use Rattle.rrv_model.specs.declared.record.CallRecord.{CallRecord}
 use Rattle.rrv_model.specs.Memory.{Memory, stored, writable}
 use Rattle.rrv_model.specs.State.{State, with_register, with_thread}
 use Rattle.rrv_model.specs.CallRows.{Row, all_writable, are_clone_flags, argument, child_of, clone_row, fails, has_flag, set_register, tid_places, with_memory}
-use Rattle.rrv_model.specs.Calls.{Silence, write_all, writes, results}
+use Rattle.rrv_model.specs.Calls.{write_all, writes, results}
 use Rattle.rrv_model.specs.RecordText.{HasCallText, HasWrittenText}
 use Rattle.guest_pages.specs.Stores.{stored_at_each}
 use Rattle.rrv_model.proofs.ThreadRules.{room_left}
@@ -80,7 +80,6 @@ pub carries_child : (tid : ℕ) (old mid new : State) (t : Thread) (places : Lis
 carries_child tid old mid new t places r r_is mid_is new_is =
     let made : State = with_thread old.next_tid (child_of t) (record old { next_tid = old.next_tid + 1 }) in
     record {
-      answer = Silence;
       records = r_is;
       leaves = new_is ∙ ap (results tid r.result) (mid_is
           ∙ ap (λ (memory : Memory). with_memory memory made) (words_written places old.next_tid old.memory)

@@ -1,176 +1,103 @@
 -- Calls that ask the outside, and calls that don't.
-use Rattle.std.proofs.Common.{◌≡◌, ◌≢◌, ℕ, ◌^◌, ◌<◌, ◌≤◌, zero, suc, Bool, true, false, cond, ◌==◌, min, List, [], ◌∷◌, ◌++◌, length, All, Option, Some, None, Result, Ok, Err, IfOk, is_some, refl, sym, ◌∙◌, ap, subst, arith}
-use Rattle.std.proofs.lemmas.Bool.{false≢true}
+use Rattle.std.proofs.Common.{◌≡◌, ◌≢◌, ℕ, ◌+◌, ◌-◌, ◌<◌, ◌≤◌, ◌^◌, true, false, min, List, [], ◌∷◌, length, All, Result, Ok, Err, IfOk, OnErr, is_some, refl, sym, ◌∙◌, ap, subst, arith}
 use Rattle.std.proofs.lemmas.Bool.Decides.{nat_tests}
-use Rattle.std.specs.Int.{w64, to_le_bytes}
 use Rattle.rrv_model.specs.declared.machine.Thread.{Thread}
 use Rattle.rrv_model.specs.declared.record.CallRecord.{CallRecord}
+use Rattle.rrv_model.specs.declared.refusal.Memory.{Memory as Refusal}
+use Rattle.rrv_model.specs.declared.syscall.Syscall.{Syscall}
 use Rattle.rrv_model.specs.Memory.{Memory, stored, writable}
-use Rattle.rrv_model.specs.State.{State, register}
-use Rattle.rrv_model.specs.CallRows.{Row, Returns, NoResult, AsksInput, AsksRandom, AsksTime, Call, Read, Write, Writev, Exit, ExitGroup, SetTidAddress, Futex, SchedYield, Getpid, Gettid, Brk, Munmap, Clone, Mmap, Mprotect, Getrandom, ClockGettime, Other, only_returns, argument, call_of, fails, maps_at, mmap_place, range, row_of, transfer, with_memory, read_row, getrandom_row, clock_gettime_row}
-use Rattle.rrv_model.specs.Calls.{Answer, Bytes, Time, HasRecord, call_row, results, write_all, writes}
+use Rattle.rrv_model.specs.State.{State}
+use Rattle.rrv_model.specs.CallRows.{Row, Returns, NoResult, AsksInput, AsksRandom, AsksTime, argument, fails, only_returns, range, row_of, transfer, with_memory}
+use Rattle.rrv_model.specs.CallRows.{read_row, getrandom_row, clock_gettime_row}
+use Rattle.rrv_model.specs.Calls.{Answer, Silence, Bytes, Time, HasRecord, after_call, results, write_all, writes}
 use Rattle.rrv_model.specs.RecordText.{HasCallText}
-use Rattle.guest_pages.specs.Space.{SpaceValue, CanFill, memory_of}
+use Rattle.rrv_model.specs.Output.{Chunk, puts}
+use Rattle.guest_pages.specs.Space.{SpaceValue, CanFill, memory_of, snapshots_of}
 use Rattle.guest_pages.proofs.Cells.{all_pass, one_of_all}
 use Rattle.guest_pages.proofs.Stores.{stored_none}
-use Rattle.guest_calls.specs.declared.asking.Inquiry.{Inquiry}
-use Rattle.guest_calls.specs.declared.asking.Inquiry.TheVariants as inquiries
-use Rattle.guest_calls.specs.Asking.{Question, Input, Random, Clock, IsAnswered, IsInquiry, IsQuiet}
-use Rattle.guest_calls.specs.Carries.{Asks, Carries}
+use Rattle.guest_calls.specs.Guest.{GuestValue, chunks_of, state_of}
+use Rattle.guest_calls.specs.Asking.{Question, Input, Random, IsAnswered, TellsMoment}
+use Rattle.guest_calls.specs.Carries.{ComesTo, KeepsRest, Makes}
 use Rattle.guest_calls.specs.Growth.{MayGrow}
 
--- ---- rows that ask nothing
+-- ---- what a call comes to
 
-abbrev pub asks : Row → Bool
-asks (Returns result written change) = false
-asks (NoResult written change) = false
-asks (AsksInput a count) = true
-asks (AsksRandom a count) = true
-asks (AsksTime a) = true
+pub kept : (old new : GuestValue) → new ≡ old → KeepsRest old new
+kept old new e = record {
+  ran = ap (λ (g : GuestValue). g.ran) e;
+  ran_before_call = ap (λ (g : GuestValue). g.ran_before_call) e;
+  snapshots = ap (λ (g : GuestValue). snapshots_of g.space) e;
+}
 
-either : (b : Bool) (x y : Row) → asks x ≡ false → asks y ≡ false → asks (cond b x y) ≡ false
-either true x y p q = p
-either false x y p q = q
+pub kept_then : (old mid new : GuestValue) → KeepsRest old mid → KeepsRest mid new → KeepsRest old new
+kept_then old mid new p q = record {
+  ran = q.ran ∙ p.ran;
+  ran_before_call = q.ran_before_call ∙ p.ran_before_call;
+  snapshots = q.snapshots ∙ p.snapshots;
+}
 
-maps_asks_nobody : (s : State) (t : Thread) (place : Option ℕ) → asks (maps_at s t place) ≡ false
-maps_asks_nobody s t None = refl
-maps_asks_nobody s t (Some page) = grind (arith, nat_tests, either)
+-- a row that answers in silence asks nobody
+quietly_answered : {O : Type 0} (gives : O → Question → Answer → O → Type 0) (row : Row) (t : Thread) (r : CallRecord) (o : O) →
+    HasRecord row Silence r → IsAnswered gives row t r o o
+quietly_answered gives (Returns result written change) t r o p = record { answer = Silence; given = refl; records = p }
+quietly_answered gives (NoResult written change) t r o p = record { answer = Silence; given = refl; records = p }
+quietly_answered gives (AsksInput a count) t r o p = absurd p
+quietly_answered gives (AsksRandom a count) t r o p = absurd p
+quietly_answered gives (AsksTime a) t r o p = absurd p
 
--- the calls that may ask
-abbrev inquires : Call → Bool
-inquires Read = true
-inquires Write = false
-inquires Writev = false
-inquires Exit = false
-inquires ExitGroup = false
-inquires SetTidAddress = false
-inquires Futex = false
-inquires SchedYield = false
-inquires Getpid = false
-inquires Gettid = false
-inquires Brk = false
-inquires Munmap = false
-inquires Clone = false
-inquires Mmap = false
-inquires Mprotect = false
-inquires Getrandom = true
-inquires ClockGettime = true
-inquires Other = false
+module _ {O : Type 0} {gives : O → Question → Answer → O → Type 0} (call : Syscall) {tid : ℕ} {t : Thread} {old new : GuestValue} {before : O} where
+  -- a call that asks nobody
+  pub quiet : (result : Result CallRecord Refusal) →
+      IfOk result (λ r. Makes (row_of call tid (state_of old) t) (puts call (state_of old).memory t r.result) tid old r new) →
+      OnErr result (MayGrow call tid (state_of old) t) → OnErr result (new ≡ old) → ComesTo gives call tid t old result new before before
+  quiet (Ok r) made memory refused = record {
+    answered = quietly_answered gives (row_of call tid (state_of old) t) t r before made.carries.records;
+    leaves = made.carries.leaves;
+    text = made.text;
+    puts = made.puts;
+    keeps = made.keeps;
+    memory = tt;
+    refused = tt;
+  }
+  quiet (Err e) made memory refused =
+      record { answered = tt; leaves = tt; text = tt; puts = tt; keeps = kept old new refused; memory = memory; refused = (refused, refl) }
 
-asks_nobody : (call : Call) (tid : ℕ) (s : State) (t : Thread) → inquires call ≡ false → asks (row_of (call) tid s t) ≡ false
-unfolding row_of
-asks_nobody Read tid s t e = absurd (false≢true (sym e))
-asks_nobody Write tid s t e = grind (arith, nat_tests, either)
-asks_nobody Writev tid s t e = grind (arith, nat_tests, either)
-asks_nobody Exit tid s t e = grind (arith, nat_tests, either)
-asks_nobody ExitGroup tid s t e = refl
-asks_nobody SetTidAddress tid s t e = refl
-asks_nobody Futex tid s t e = grind (arith, nat_tests, either)
-asks_nobody SchedYield tid s t e = refl
-asks_nobody Getpid tid s t e = refl
-asks_nobody Gettid tid s t e = refl
-asks_nobody Brk tid s t e = grind (arith, nat_tests, either)
-asks_nobody Munmap tid s t e = grind (arith, nat_tests, either)
-asks_nobody Clone tid s t e = grind (arith, nat_tests, either)
-asks_nobody Mmap tid s t e = either _ (fails 22) (maps_at s t (mmap_place s t)) refl (maps_asks_nobody s t (mmap_place s t))
-asks_nobody Mprotect tid s t e = grind (arith, nat_tests, either)
-asks_nobody Getrandom tid s t e = absurd (false≢true (sym e))
-asks_nobody ClockGettime tid s t e = absurd (false≢true (sym e))
-asks_nobody Other tid s t e = refl
+  -- a test before the question answers a value
+  pub answers_value : {r : CallRecord} (value : ℕ) → row_of call tid (state_of old) t ≡ only_returns value →
+      [] ≡ puts call (state_of old).memory t r.result → Makes (only_returns value) [] tid old r new →
+      ComesTo gives call tid t old (Ok r) new before before
+  answers_value {r} value row_is nothing made = quiet (Ok r)
+      (subst (λ (chunks : List Chunk). Makes (row_of call tid (state_of old) t) chunks tid old r new) nothing
+      (subst (λ (row : Row). Makes row [] tid old r new) (sym row_is) made)) tt tt
 
-other : (b : Bool) (x y : Call) → b ≡ false → inquires y ≡ false → inquires (cond b x y) ≡ false
-other true x y e p = absurd (false≢true (sym e))
-other false x y e p = p
+  -- a test before the question fails
+  pub fails_with : {r : CallRecord} {value : ℕ} (errno : ℕ) → value + errno ≡ 2 ^ 32 → row_of call tid (state_of old) t ≡ fails errno →
+      [] ≡ puts call (state_of old).memory t r.result → Makes (only_returns value) [] tid old r new →
+      ComesTo gives call tid t old (Ok r) new before before
+  fails_with {r} {value} errno value_is row_is nothing made =
+      let negated : 2 ^ 32 - errno ≡ value = omega (arith, value_is) in
+      answers_value value (row_is ∙ ap only_returns negated) nothing made
 
-one_of : (b : Bool) (x y : Call) → inquires x ≡ false → inquires y ≡ false → inquires (cond b x y) ≡ false
-one_of true x y p q = p
-one_of false x y p q = q
+  -- the question was answered
+  pub was_answered : {r : CallRecord} {after : O} (row : Row) → row_of call tid (state_of old) t ≡ row → IsAnswered gives row t r before after →
+      state_of new ≡ after_call row tid r (state_of old) → HasCallText r → chunks_of new.put ≡ puts call (state_of old).memory t r.result →
+      KeepsRest old new → ComesTo gives call tid t old (Ok r) new before after
+  was_answered {r} {after} row row_is answered leaves text put keeps = record {
+    answered = subst (λ (row : Row). IsAnswered gives row t r before after) (sym row_is) answered;
+    leaves = subst (λ (row : Row). state_of new ≡ after_call row tid r (state_of old)) (sym row_is) leaves;
+    text = text;
+    puts = put;
+    keeps = keeps;
+    memory = tt;
+    refused = tt;
+  }
 
-differs : (n k : ℕ) → n ≢ k → (n == k) ≡ false
-differs n k e = grind (arith, nat_tests)
-
-quiet_call : (n : ℕ) → IsQuiet n → inquires (call_of n) ≡ false
-quiet_call n quiet =
-    other (n == 63) Read _ (differs n 63 quiet.no_read) (one_of (n == 64) Write _ refl (one_of (n == 66) Writev _ refl
-    (one_of (n == 93) Exit _ refl (one_of (n == 94) ExitGroup _ refl (one_of (n == 96) SetTidAddress _ refl
-    (one_of (n == 98) Futex _ refl (one_of (n == 422) Futex _ refl (one_of (n == 124) SchedYield _ refl
-    (one_of (n == 172) Getpid _ refl (one_of (n == 178) Gettid _ refl (one_of (n == 214) Brk _ refl
-    (one_of (n == 215) Munmap _ refl (one_of (n == 220) Clone _ refl (one_of (n == 222) Mmap _ refl
-    (one_of (n == 226) Mprotect _ refl (other (n == 278) Getrandom _ (differs n 278 quiet.no_getrandom)
-    (other (n == 403) ClockGettime Other (differs n 403 quiet.no_clock_gettime) refl)))))))))))))))))
-
--- the row of another call asks nothing
-pub quiet_row : (tid : ℕ) (s : State) (t : Thread) → IsQuiet (register t.regs 17) → asks (call_row s tid t) ≡ false
-quiet_row tid s t quiet = asks_nobody (call_of (register t.regs 17)) tid s t (quiet_call (register t.regs 17) quiet)
-
--- what such a row leaves is answered by nobody
-pub quietly_answered : {O : Type 0} (gives : O → Question → Answer → O → Type 0) (row : Row) (t : Thread) (tid : ℕ) (old new : State) (r : CallRecord) (o : O) →
-    asks row ≡ false → Carries row tid old r new → IsAnswered gives row t r o o
-quietly_answered gives (Returns result written change) t tid old new r o e p = record { answer = p.answer; given = refl; records = p.records }
-quietly_answered gives (NoResult written change) t tid old new r o e p = record { answer = p.answer; given = refl; records = p.records }
-quietly_answered gives (AsksInput a count) t tid old new r o e p = absurd (false≢true (sym e))
-quietly_answered gives (AsksRandom a count) t tid old new r o e p = absurd (false≢true (sym e))
-quietly_answered gives (AsksTime a) t tid old new r o e p = absurd (false≢true (sym e))
-
-pub quietly_answered_ok : {O E : Type 0} (gives : O → Question → Answer → O → Type 0) (tid : ℕ) (s new : State) (t : Thread) (result : Result CallRecord E) (o : O) →
-    IsQuiet (register t.regs 17) → IfOk result (λ r. Carries (call_row s tid t) tid s r new) → IfOk result (λ r. IsAnswered gives (call_row s tid t) t r o o)
-quietly_answered_ok gives tid s new t (Ok r) o quiet p = quietly_answered gives (call_row s tid t) t tid s new r o (quiet_row tid s t quiet) p
-quietly_answered_ok gives tid s new t (Err x) o quiet p = tt
-
--- a test that comes before the question answers a value
-pub value_answered : {O : Type 0} (gives : O → Question → Answer → O → Type 0) (row : Row) (value : ℕ) (t : Thread) (tid : ℕ) (old new : State) (r : CallRecord) (o : O) →
-    row ≡ only_returns value → Carries (only_returns value) tid old r new → IsAnswered gives row t r o o
-value_answered gives row value t tid old new r o e p =
-    subst (λ (row : Row). IsAnswered gives row t r o o) (sym e) (quietly_answered gives (only_returns value) t tid old new r o refl p)
-
--- ---- rows by number
-
-abbrev pub asking_row : Inquiry → State → Thread → Row
-asking_row inquiries.Read s t = read_row s t
-asking_row inquiries.Getrandom s t = getrandom_row s t
-asking_row inquiries.ClockGettime s t = clock_gettime_row s t
-
-abbrev row_at : ℕ → ℕ → State → Thread → Row
-row_at n tid s t = row_of (call_of n) tid s t
-
-asking_row_is : (i : Inquiry) (n tid : ℕ) (s : State) (t : Thread) → IsInquiry (Some i) n → asking_row i s t ≡ row_at n tid s t
-unfolding row_of
-asking_row_is inquiries.Read n tid s t e = ap (λ n. row_at n tid s t) (sym e)
-asking_row_is inquiries.Getrandom n tid s t e = ap (λ n. row_at n tid s t) (sym e)
-asking_row_is inquiries.ClockGettime n tid s t e = ap (λ n. row_at n tid s t) (sym e)
-
-pub asking_carries : (i : Inquiry) (tid : ℕ) (s : State) (t : Thread) (r : CallRecord) (new : State) → IsInquiry (Some i) (register t.regs 17) →
-    Carries (asking_row i s t) tid s r new → Carries (call_row s tid t) tid s r new
-asking_carries i tid s t r new e p = subst (λ (row : Row). Carries row tid s r new) (asking_row_is i (register t.regs 17) tid s t e) p
-
-pub asking_answered : {O : Type 0} (gives : O → Question → Answer → O → Type 0) (i : Inquiry) (tid : ℕ) (s : State) (t : Thread) (r : CallRecord) (before after : O) →
-    IsInquiry (Some i) (register t.regs 17) → IsAnswered gives (asking_row i s t) t r before after → IsAnswered gives (call_row s tid t) t r before after
-asking_answered gives i tid s t r before after e p =
-    subst (λ (row : Row). IsAnswered gives row t r before after) (asking_row_is i (register t.regs 17) tid s t e) p
-
-pub asking_answered_ok : {O E : Type 0} (gives : O → Question → Answer → O → Type 0) (i : Inquiry) (tid : ℕ) (s : State) (t : Thread) (result : Result CallRecord E) (before after : O) →
-    IsInquiry (Some i) (register t.regs 17) → IfOk result (λ r. IsAnswered gives (asking_row i s t) t r before after) → IfOk result (λ r. IsAnswered gives (call_row s tid t) t r before after)
-asking_answered_ok gives i tid s t (Ok r) before after e p = asking_answered gives i tid s t r before after e p
-asking_answered_ok gives i tid s t (Err x) before after e p = tt
-
-pub asking_unasked : {O : Type 0} (i : Inquiry) (tid : ℕ) (s : State) (t : Thread) (before after : O) → IsInquiry (Some i) (register t.regs 17) →
-    (¬ Asks (asking_row i s t) → after ≡ before) → ¬ Asks (call_row s tid t) → after ≡ before
-asking_unasked i tid s t before after e p silent =
-    p (λ asks. silent (subst (λ (row : Row). Asks row) (asking_row_is i (register t.regs 17) tid s t e) asks))
-
-abbrev pub asking_call : Inquiry → Call
-asking_call inquiries.Read = Read
-asking_call inquiries.Getrandom = Getrandom
-asking_call inquiries.ClockGettime = ClockGettime
-
-asking_call_is : (i : Inquiry) (n : ℕ) → IsInquiry (Some i) n → asking_call i ≡ call_of n
-asking_call_is inquiries.Read n e = ap (λ n. call_of n) (sym e)
-asking_call_is inquiries.Getrandom n e = ap (λ n. call_of n) (sym e)
-asking_call_is inquiries.ClockGettime n e = ap (λ n. call_of n) (sym e)
-
-pub asking_grows : (i : Inquiry) (tid : ℕ) (s : State) (t : Thread) → IsInquiry (Some i) (register t.regs 17) →
-    MayGrow (asking_call i) tid s t → MayGrow (call_of (register t.regs 17)) tid s t
-asking_grows i tid s t e p = subst (λ (call : Call). MayGrow call tid s t) (asking_call_is i (register t.regs 17) e) p
+-- the call with this number
+pub by_number : {O : Type 0} {gives : O → Question → Answer → O → Type 0} {call number : Syscall} {tid : ℕ} {t : Thread} {old new : GuestValue}
+    {result : Result CallRecord Refusal} {before after : O} → call ≡ number →
+    ComesTo gives call tid t old result new before after → ComesTo gives number tid t old result new before after
+by_number {O} {gives} {call} {number} {tid} {t} {old} {new} {result} {before} {after} e p =
+    subst (λ (call : Syscall). ComesTo gives call tid t old result new before after) e p
 
 -- ---- what an answer leaves
 
@@ -196,7 +123,7 @@ unfolding write_all
 written_range a [] m = sym (stored_none a m)
 written_range a (b ∷ bytes) m = refl
 
-leaves_range : (tid value a : ℕ) (bytes : List ℕ) (old new : State) (r : CallRecord) → r ≡ record { result = value; written = range a bytes } →
+pub leaves_range : (tid value a : ℕ) (bytes : List ℕ) (old new : State) (r : CallRecord) → r ≡ record { result = value; written = range a bytes } →
     new ≡ results tid value (with_memory (stored a bytes old.memory) old) → new ≡ results tid r.result (writes r.written old)
 leaves_range tid value a bytes old new r is n =
     n ∙ ap (λ (m : Memory). results tid value (with_memory m old)) (sym (written_range a bytes old.memory))
@@ -210,52 +137,29 @@ text_range value a bytes r low at most small is = subst HasCallText (sym is) (li
   listed (b ∷ bytes) most small =
       record { result = low; two = omega arith; written = (record { address = at; some = omega arith; most = most; bytes = small }, tt) }
 
-module _ (row : Row) (a count tid value : ℕ) (bytes : List ℕ) (old new : State) (r : CallRecord) (is : r ≡ record { result = value; written = range a bytes })
-    (n : new ≡ results tid value (with_memory (stored a bytes old.memory) old)) (small : All (λ b. b < 256) bytes) where
-  input_records : value ≡ length bytes → length bytes ≤ count → HasRecord (AsksInput a count) (Bytes bytes) r
-  input_records len within =
+-- the record of an answer, by what was asked
+module _ {O : Type 0} (gives : O → Question → Answer → O → Type 0) (t : Thread) (a : ℕ) (bytes : List ℕ) (r : CallRecord) (before after : O) where
+  pub input_answered : (count value : ℕ) → r ≡ record { result = value; written = range a bytes } → All (λ b. b < 256) bytes →
+      value ≡ length bytes → length bytes ≤ count → gives before (Input count) (Bytes bytes) after → IsAnswered gives (AsksInput a count) t r before after
+  input_answered count value is small len within given =
       let made : ℕ → CallRecord = λ n. record { result = n; written = range a bytes } in
-      (within, small, is ∙ ap made len)
+      record { answer = Bytes bytes; given = given; records = (within, small, is ∙ ap made len) }
 
-  pub input_carries : row ≡ AsksInput a count → value ≡ length bytes → length bytes ≤ count → Carries row tid old r new
-  input_carries e len within = subst (λ (row : Row). Carries row tid old r new) (sym e)
-      (record { answer = Bytes bytes; records = input_records len within; leaves = leaves_range tid value a bytes old new r is n })
-
-  pub input_answered : {O : Type 0} (gives : O → Question → Answer → O → Type 0) (t : Thread) (before after : O) → row ≡ AsksInput a count →
-      value ≡ length bytes → length bytes ≤ count → gives before (Input count) (Bytes bytes) after → IsAnswered gives row t r before after
-  input_answered gives t before after e len within given = subst (λ (row : Row). IsAnswered gives row t r before after) (sym e)
-      (record { answer = Bytes bytes; given = given; records = input_records len within })
-
-  random_records : value ≡ count → length bytes ≡ count → HasRecord (AsksRandom a count) (Bytes bytes) r
-  random_records all len =
+  pub random_answered : (count value : ℕ) → r ≡ record { result = value; written = range a bytes } → All (λ b. b < 256) bytes →
+      value ≡ count → length bytes ≡ count → gives before (Random count) (Bytes bytes) after → IsAnswered gives (AsksRandom a count) t r before after
+  random_answered count value is small all len given =
       let made : ℕ → CallRecord = λ n. record { result = n; written = range a bytes } in
-      (len, small, is ∙ ap made all)
+      record { answer = Bytes bytes; given = given; records = (len, small, is ∙ ap made all) }
 
-  pub random_carries : row ≡ AsksRandom a count → value ≡ count → length bytes ≡ count → Carries row tid old r new
-  random_carries e all len = subst (λ (row : Row). Carries row tid old r new) (sym e)
-      (record { answer = Bytes bytes; records = random_records all len; leaves = leaves_range tid value a bytes old new r is n })
-
-  pub random_answered : {O : Type 0} (gives : O → Question → Answer → O → Type 0) (t : Thread) (before after : O) → row ≡ AsksRandom a count →
-      value ≡ count → length bytes ≡ count → gives before (Random count) (Bytes bytes) after → IsAnswered gives row t r before after
-  random_answered gives t before after e all len given = subst (λ (row : Row). IsAnswered gives row t r before after) (sym e)
-      (record { answer = Bytes bytes; given = given; records = random_records all len })
-
-module _ (row : Row) (a tid seconds nanoseconds : ℕ) (bytes : List ℕ) (old new : State) (r : CallRecord) (is : r ≡ record { result = 0; written = range a bytes })
-    (n : new ≡ results tid 0 (with_memory (stored a bytes old.memory) old)) (moment : bytes ≡ to_le_bytes w64 seconds ++ to_le_bytes w64 nanoseconds)
-    (low : seconds < 2 ^ 63) (part : nanoseconds < 10 ^ 9) where
-  time_records : HasRecord (AsksTime a) (Time seconds nanoseconds) r
-  time_records =
+  pub time_answered : r ≡ record { result = 0; written = range a bytes } → TellsMoment gives (argument t 0) bytes before after →
+      IsAnswered gives (AsksTime a) t r before after
+  time_answered is told =
       let made : List ℕ → CallRecord = λ bytes. record { result = 0; written = range a bytes } in
-      (low, part, is ∙ ap made moment)
-
-  pub time_carries : row ≡ AsksTime a → Carries row tid old r new
-  time_carries e = subst (λ (row : Row). Carries row tid old r new) (sym e)
-      (record { answer = Time seconds nanoseconds; records = time_records; leaves = leaves_range tid 0 a bytes old new r is n })
-
-  pub time_answered : {O : Type 0} (gives : O → Question → Answer → O → Type 0) (t : Thread) (before after : O) → row ≡ AsksTime a →
-      gives before (Clock (argument t 0)) (Time seconds nanoseconds) after → IsAnswered gives row t r before after
-  time_answered gives t before after e given = subst (λ (row : Row). IsAnswered gives row t r before after) (sym e)
-      (record { answer = Time seconds nanoseconds; given = given; records = time_records })
+      record {
+        answer = Time told.seconds told.nanoseconds;
+        given = told.given;
+        records = (told.seconds_low, told.nanoseconds_low, is ∙ ap made told.are);
+      }
 
 -- ---- as many bytes as there is room for
 

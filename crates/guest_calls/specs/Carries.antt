@@ -1,50 +1,60 @@
 -- What a call leaves, by its row.
-use Rattle.std.specs.Prelude.{◌≡◌, ◌⊎◌, ℕ, Option, Some, None}
+use Rattle.std.specs.Prelude.{◌≡◌, ◌*◌, ℕ, List, [], ◌∷◌, Result, IfOk, OnErr}
+use Rattle.rrv_model.specs.declared.machine.Permissions.{Permissions}
 use Rattle.rrv_model.specs.declared.machine.Thread.{Thread}
 use Rattle.rrv_model.specs.declared.record.CallRecord.{CallRecord}
+use Rattle.rrv_model.specs.declared.refusal.Memory.{Memory}
+use Rattle.rrv_model.specs.declared.syscall.Syscall.{Syscall}
+use Rattle.rrv_model.specs.Memory.{Memory as GuestMemory, mapped, page_bytes}
 use Rattle.rrv_model.specs.State.{State}
-use Rattle.rrv_model.specs.CallRows.{Row, Returns, NoResult, AsksInput, AsksRandom, AsksTime, call_of, Other}
-use Rattle.rrv_model.specs.Calls.{Answer, Calls, HasRecord, after_call, call_row}
-use Rattle.guest_calls.specs.declared.syscall.Syscall.{Syscall}
-use Rattle.guest_calls.specs.declared.syscall.Syscall.TheVariants as syscalls
+use Rattle.rrv_model.specs.CallRows.{Row, NoResult, leaves, range, row_of, wakes}
+use Rattle.rrv_model.specs.Calls.{Answer, Silence, Calls, HasRecord, after_call}
+use Rattle.rrv_model.specs.RecordText.{HasCallText}
+use Rattle.rrv_model.specs.Output.{Chunk, puts}
+use Rattle.guest_pages.specs.Space.{snapshots_of}
+use Rattle.guest_calls.specs.Guest.{GuestValue, chunks_of, state_of}
+use Rattle.guest_calls.specs.Asking.{IsAnswered, Question}
+use Rattle.guest_calls.specs.Growth.{MayGrow}
 
--- the row leads from one state to the next, with this record
+-- a guest's counters and snapshots stay
+pub record KeepsRest (old new : GuestValue) : Type 0 where
+  pub ran : new.ran ≡ old.ran
+  pub ran_before_call : new.ran_before_call ≡ old.ran_before_call
+  pub snapshots : snapshots_of new.space ≡ snapshots_of old.space
+
+-- the row, which asks nothing, leads from one state to the next, with this record
 pub record Carries (row : Row) (tid : ℕ) (old : State) (r : CallRecord) (new : State) : Type 0 where
-  pub answer : Answer
-  pub records : HasRecord row answer r
+  pub records : HasRecord row Silence r
   pub leaves : new ≡ after_call row tid r old
+
+-- so of a guest: the record has a text, the call put these chunks out, and the rest stays
+pub record Makes (row : Row) (chunks : List Chunk) (tid : ℕ)
+    (old : GuestValue) (r : CallRecord) (new : GuestValue) : Type 0 where
+  pub carries : Carries row tid (state_of old) r (state_of new)
+  pub text : HasCallText r
+  pub puts : chunks_of new.put ≡ chunks
+  pub keeps : KeepsRest old new
+
+-- an exit that clears a word and wakes a thread
+abbrev pub clearing_row : (clear tid status : ℕ) → Row
+clearing_row clear tid status = NoResult (range clear (0 ∷ 0 ∷ 0 ∷ 0 ∷ [])) (λ s. leaves tid status (wakes clear 1 s))
+
+-- so many pages from a page on, of zeros, in place of what was there
+abbrev pub pages_mapped : (page count : ℕ) → Permissions → GuestMemory → GuestMemory
+pages_mapped page count permissions m = mapped (page * page_bytes) (count * page_bytes) permissions m
+
+-- what a thread's call comes to, by its row, which may ask the environment; or it finds no memory, where it may
+-- take some, and nothing has changed, and nobody was asked
+pub record ComesTo {O : Type 0} (gives : O → Question → Answer → O → Type 0) (call : Syscall) (tid : ℕ) (t : Thread)
+    (old : GuestValue) (result : Result CallRecord Memory) (new : GuestValue) (before after : O) : Type 0 where
+  pub answered : IfOk result (λ r. IsAnswered gives (row_of call tid (state_of old) t) t r before after)
+  pub leaves : IfOk result (λ r. state_of new ≡ after_call (row_of call tid (state_of old) t) tid r (state_of old))
+  pub text : IfOk result HasCallText
+  pub puts : IfOk result (λ r. chunks_of new.put ≡ puts call (state_of old).memory t r.result)
+  pub keeps : KeepsRest old new
+  pub memory : OnErr result (MayGrow call tid (state_of old) t)
+  pub refused : OnErr result ((new ≡ old) × (after ≡ before))
 
 -- some answer of the outside leads there
 abbrev pub CallDoes : State → ℕ → CallRecord → State → Type 0
 CallDoes old tid r new = (answer : Answer) × Calls old tid answer r new
-
--- the row looks at the outside
-abbrev pub Asks : Row → Type 0
-Asks (Returns result written change) = ⊥
-Asks (NoResult written change) = ⊥
-Asks (AsksInput a count) = Unit {0}
-Asks (AsksRandom a count) = Unit {0}
-Asks (AsksTime a) = Unit {0}
-
--- the call that the thread makes looks at the outside
-abbrev pub CallAsks : State → ℕ → Option Thread → Type 0
-CallAsks s tid None = ⊥
-CallAsks s tid (Some t) = Asks (call_row s tid t)
-
--- the number is that of the call; any other is one that is not carried out
-abbrev pub IsNumber : Syscall → ℕ → Type 0
-IsNumber syscalls.Write n = n ≡ 64
-IsNumber syscalls.Writev n = n ≡ 66
-IsNumber syscalls.Exit n = n ≡ 93
-IsNumber syscalls.ExitGroup n = n ≡ 94
-IsNumber syscalls.SetTidAddress n = n ≡ 96
-IsNumber syscalls.Futex n = (n ≡ 98) ⊎ (n ≡ 422)
-IsNumber syscalls.SchedYield n = n ≡ 124
-IsNumber syscalls.Getpid n = n ≡ 172
-IsNumber syscalls.Gettid n = n ≡ 178
-IsNumber syscalls.Brk n = n ≡ 214
-IsNumber syscalls.Munmap n = n ≡ 215
-IsNumber syscalls.Clone n = n ≡ 220
-IsNumber syscalls.Mmap n = n ≡ 222
-IsNumber syscalls.Mprotect n = n ≡ 226
-IsNumber syscalls.Other n = call_of n ≡ Other

@@ -14,8 +14,10 @@ words_at places word = flat_map (λ a. range a (to_le_bytes w32 word)) places
 
 -- the last case of a clone: the child stands under the next tid, which is written at these places
 abbrev pub makes_child : State → Thread → List ℕ → Row
-makes_child s t places = Returns s.next_tid (words_at places s.next_tid) (λ s'. with_thread s.next_tid (child_of t) (record s' { next_tid = s.next_tid + 1 }))
+makes_child s t places = Returns s.next_tid (words_at places s.next_tid)
+    (λ s'. with_thread s.next_tid (child_of t) (record s' { next_tid = s.next_tid + 1 }))
 
 -- the child is there under the next tid, which stands at these places
 abbrev pub with_child_at : List ℕ → Thread → State → State
-with_child_at places t s = with_memory (stored_at_each places (to_le_bytes w32 s.next_tid) s.memory) (spawned (child_of t) s)
+with_child_at places t s =
+    with_memory (stored_at_each places (to_le_bytes w32 s.next_tid) s.memory) (spawned (child_of t) s)

@@ -3,8 +3,12 @@ use Rattle.std.specs.Prelude.{◌≡◌, ℕ, ◌-◌, ◌*◌, ◌/◌, ◌%◌
 use Rattle.rrv_model.specs.declared.machine.Thread.{Thread}
 use Rattle.rrv_model.specs.Memory.{readable, pages_for}
 use Rattle.rrv_model.specs.State.{State, register}
-use Rattle.rrv_model.specs.CallRows.{Row, Returns, NoResult, AsksInput, AsksRandom, AsksTime, Call, Read, Write, Writev, Exit, ExitGroup, SetTidAddress, Futex, SchedYield, Getpid, Gettid, Brk, Munmap, Clone, Mmap, Mprotect, Getrandom, ClockGettime, Other, argument, call_of, clears, is_output, read_row, write_row, futex_row, brk_row, clone_row, mmap_row, getrandom_row, clock_gettime_row}
-use Rattle.guest_calls.specs.Carries.{Asks}
+use Rattle.rrv_model.specs.declared.syscall.Syscall.{Syscall}
+use Rattle.rrv_model.specs.declared.syscall.Syscall.TheVariants as calls
+use Rattle.rrv_model.specs.CallRows.{Row, Returns, NoResult, AsksInput, AsksRandom, AsksTime, argument, syscall_of}
+use Rattle.rrv_model.specs.CallRows.{clears, is_output, read_row, write_row, futex_row, brk_row, clone_row, mmap_row}
+use Rattle.rrv_model.specs.CallRows.{getrandom_row, clock_gettime_row}
+use Rattle.guest_calls.specs.Asking.{Asks}
 
 -- the call answers no negated error number, which is -4095 to -1 (Linux man pages, intro(2) and errno(3))
 abbrev pub Succeeds : Row → Type 0
@@ -45,29 +49,22 @@ pub record BeginsWait (tid : ℕ) (s : State) (t : Thread) : Type 0 where
   pub waits : argument t 1 - argument t 1 / 128 % 2 * 128 ≡ 0
   pub succeeds : Succeeds (futex_row tid s t)
 
--- the call puts bytes out, reads a list of buffers, clears a word, waits, makes a thread, maps pages or asks the outside; the
--- others take no memory
-abbrev pub MayGrow : Call → ℕ → State → Thread → Type 0
-MayGrow Read tid s t = Asks (read_row s t)
-MayGrow Write tid s t = PutsBytes s t
-MayGrow Writev tid s t = ReadsBuffers s t
-MayGrow Exit tid s t = IsTrue (clears s t)
-MayGrow ExitGroup tid s t = ⊥
-MayGrow SetTidAddress tid s t = ⊥
-MayGrow Futex tid s t = BeginsWait tid s t
-MayGrow SchedYield tid s t = ⊥
-MayGrow Getpid tid s t = ⊥
-MayGrow Gettid tid s t = ⊥
-MayGrow Brk tid s t = RaisesBreak s t
-MayGrow Munmap tid s t = ⊥
-MayGrow Clone tid s t = Succeeds (clone_row s t)
-MayGrow Mmap tid s t = Succeeds (mmap_row s t)
-MayGrow Mprotect tid s t = ⊥
-MayGrow Getrandom tid s t = Asks (getrandom_row s t)
-MayGrow ClockGettime tid s t = Asks (clock_gettime_row s t)
-MayGrow Other tid s t = ⊥
+-- the call puts bytes out, reads a list of buffers, clears a word, waits, makes a thread, maps pages or asks the
+-- environment; the others take no memory
+abbrev pub MayGrow : Syscall → ℕ → State → Thread → Type 0
+MayGrow calls.Read tid s t = Asks (read_row s t)
+MayGrow calls.Write tid s t = PutsBytes s t
+MayGrow calls.Writev tid s t = ReadsBuffers s t
+MayGrow calls.Exit tid s t = IsTrue (clears s t)
+MayGrow calls.Futex tid s t = BeginsWait tid s t
+MayGrow calls.Brk tid s t = RaisesBreak s t
+MayGrow calls.Clone tid s t = Succeeds (clone_row s t)
+MayGrow calls.Mmap tid s t = Succeeds (mmap_row s t)
+MayGrow calls.Getrandom tid s t = Asks (getrandom_row s t)
+MayGrow calls.ClockGettime tid s t = Asks (clock_gettime_row s t)
+MayGrow _ tid s t = ⊥
 
 -- the call that the thread makes may take memory
 abbrev pub CallMayGrow : State → ℕ → Option Thread → Type 0
 CallMayGrow s tid None = ⊥
-CallMayGrow s tid (Some t) = MayGrow (call_of (register t.regs 17)) tid s t
+CallMayGrow s tid (Some t) = MayGrow (syscall_of (register t.regs 17)) tid s t

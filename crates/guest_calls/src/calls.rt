@@ -1,27 +1,28 @@
 //! A guest's calls, a function a row.
 
-ghost use Rattle.std.specs.Prelude.{◌≡◌, [], ◌∷◌, Some, None, MatchOption, true, IsTrue, IfOk, OnOk, OnErr, length, if◌then◌else◌, ◌==◌, ◌+◌, ◌≤◌, ◌^◌};
+ghost use Rattle.std.specs.Prelude.{◌≡◌, [], ◌∷◌, Some, None, MatchOption, true, IsTrue, IfOk, OnErr, length};
+ghost use Rattle.std.specs.Prelude.{if◌then◌else◌, ◌==◌, ◌+◌, ◌≤◌, ◌^◌};
+ghost use Rattle.rrv_model.specs.declared.syscall.Syscall.TheVariants.{Write};
 ghost use Rattle.rrv_model.specs.Memory.{readable, writable, bytes_at};
 ghost use Rattle.rrv_model.specs.State.{thread_at, register, IsRunning, IsThread};
-ghost use Rattle.rrv_model.specs.CallRows.{NoResult, range, only_returns, call_of, clears, leaves, wakes, write_row, exit_row, exit_group_row, set_tid_address_row};
-ghost use Rattle.rrv_model.specs.Calls.{call_row};
+ghost use Rattle.rrv_model.specs.CallRows.{range, only_returns, syscall_of, clears};
+ghost use Rattle.rrv_model.specs.CallRows.{write_row, exit_row, exit_group_row, set_tid_address_row};
 ghost use Rattle.rrv_model.specs.RecordText.{HasCallText};
-ghost use Rattle.rrv_model.specs.Output.{put_out, put_out_by};
-ghost use Rattle.guest_pages.specs.Space.{snapshots_of};
+ghost use Rattle.rrv_model.specs.Output.{puts, put_out_by};
 ghost use Rattle.guest_calls.specs.Guest.{state_of, chunks_of};
-ghost use Rattle.guest_calls.specs.Asking.{CallIsAnswered, IsQuiet};
-ghost use Rattle.guest_calls.specs.Carries.{Carries, CallDoes, CallAsks};
-ghost use Rattle.guest_calls.specs.Growth.{CallMayGrow, MayGrow, PutsBytes};
+ghost use Rattle.guest_calls.specs.Asking.{CallAsks, CallIsAnswered};
+ghost use Rattle.guest_calls.specs.Carries.{CallDoes, ComesTo, KeepsRest, Makes, clearing_row};
+ghost use Rattle.guest_calls.specs.Growth.{CallMayGrow, PutsBytes};
 
 use crate::guest::Guest;
 use crate::outside::Outside;
 use crate::put::Put;
-use crate::syscall::{Syscall, syscall_of};
-use rrv_model::sequence::Sequence;
 use rrv_model::limits::MAX_TRANSFER;
 use rrv_model::machine::Thread;
 use rrv_model::record::{CallRecord, Written};
 use rrv_model::refusal::Memory;
+use rrv_model::sequence::Sequence;
+use rrv_model::syscall::{Syscall, syscall_of};
 use std::alloc::Global;
 
 /// The numbers of errors (Linux man pages, errno(3)).
@@ -78,8 +79,8 @@ pub(crate) fn put_of(descriptor: u32, bytes: Vec<u8>) -> Option<Put>
 }
 
 impl Guest {
-    /// Makes the call of a running thread, whose `pc` is past its ECALL. The outside is asked once at most, and only where
-    /// the call's rule looks at it. Where a growth is refused, all is as before, and the outside was not asked.
+    /// Makes the call of a running thread, whose `pc` is past its ECALL. The environment is asked once at most, and
+    /// only where the call's rule looks at it. Where a growth is refused, all is as before, and nobody was asked.
     pub fn call<O: Outside>(
         &mut self,
         alloc: Global,
@@ -89,17 +90,17 @@ impl Guest {
         requires running { IsRunning (thread_at (state_of self.old) tid) }
         requires runs { (state_of self.old).ended ≡ None }
         ensures calls { IfOk result (λ r. CallDoes (state_of self.old) tid r (state_of self.new)) }
-        ensures answered { IfOk result (λ r.
-            CallIsAnswered O.gives (state_of self.old) tid (thread_at (state_of self.old) tid) r outside.old outside.new) }
+        ensures answered { IfOk result (λ r. CallIsAnswered O.gives (state_of self.old) tid
+            (thread_at (state_of self.old) tid) r outside.old outside.new) }
         ensures text { IfOk result HasCallText }
         ensures puts { IfOk result (λ r. chunks_of self.new.put
             ≡ put_out_by (thread_at (state_of self.old) tid) (state_of self.old).memory r.result) }
         ensures memory { OnErr result (CallMayGrow (state_of self.old) tid (thread_at (state_of self.old) tid)) }
         ensures refused { OnErr result (self.new ≡ self.old) }
-        ensures ran { self.new.ran ≡ self.old.ran }
-        ensures snapshots { snapshots_of self.new.space ≡ snapshots_of self.old.space }
         ensures refused_unasked { OnErr result (outside.new ≡ outside.old) }
-        ensures unasked { ¬ CallAsks (state_of self.old) tid (thread_at (state_of self.old) tid) → outside.new ≡ outside.old }
+        ensures keeps { KeepsRest self.old self.new }
+        ensures unasked { ¬ CallAsks (state_of self.old) tid (thread_at (state_of self.old) tid)
+            → outside.new ≡ outside.old }
     {
         let thread = self.running_thread(tid);
         self.make_call(alloc, tid, &thread, outside)
@@ -116,27 +117,22 @@ impl Guest {
         }
     }
 
-    /// Makes a call that doesn't ask the outside.
-    pub(crate) fn carry_out(
+    /// Makes a call, by its number: each has a function of its own, or answers a value.
+    fn make_call<O: Outside>(
         &mut self,
         alloc: Global,
         tid: u32,
         thread: &Thread,
+        outside: &mut O,
     ) -> Result<CallRecord, Memory>
         requires there { thread_at (state_of self.old) tid ≡ Some thread.now }
         requires running { thread.now.waits_at ≡ None }
         requires fits { IsThread thread.now }
-        requires quiet { IsQuiet (register thread.now.regs 17) }
-        ensures carries { IfOk result (λ r.
-            Carries (call_row (state_of self.old) tid thread.now) tid (state_of self.old) r (state_of self.new)) }
-        ensures text { IfOk result HasCallText }
-        ensures puts { IfOk result (λ r. chunks_of self.new.put ≡ put_out (state_of self.old).memory thread.now r.result) }
-        ensures memory { OnErr result (MayGrow (call_of (register thread.now.regs 17)) tid (state_of self.old) thread.now) }
-        ensures refused { OnErr result (self.new ≡ self.old) }
-        ensures ran { self.new.ran ≡ self.old.ran }
-        ensures snapshots { snapshots_of self.new.space ≡ snapshots_of self.old.space }
+        ensures { ComesTo O.gives (syscall_of (register thread.now.regs 17)) tid thread.now
+            self.old result self.new outside.old outside.new }
     {
         match syscall_of(thread.regs.registers[NUMBER]) {
+            Syscall::Read => self.read(alloc, tid, thread, outside),
             Syscall::Write => self.write(alloc, tid, thread),
             Syscall::Writev => self.writev(alloc, tid, thread),
             Syscall::Exit => self.exit(alloc, tid, thread),
@@ -151,18 +147,16 @@ impl Guest {
             Syscall::Clone => self.clone_thread(alloc, tid, thread),
             Syscall::Mmap => self.mmap(alloc, tid, thread),
             Syscall::Mprotect => Ok(self.mprotect(alloc, tid, thread)),
+            Syscall::Getrandom => self.getrandom(alloc, tid, thread, outside),
+            Syscall::ClockGettime => self.clock_gettime(alloc, tid, thread, outside),
             Syscall::Other => Ok(self.answer(alloc, tid, failure(NO_SUCH_CALL))),
         }
     }
 
     /// Answers a value, and does nothing else.
     pub(crate) fn answer(&mut self, alloc: Global, tid: u32, value: u32) -> CallRecord
-        ensures carries { Carries (only_returns value) tid (state_of self.old) result (state_of self.new) }
-        ensures text { HasCallText result }
+        ensures makes { Makes (only_returns value) [] tid self.old result self.new }
         ensures value { result.result ≡ value }
-        ensures put { self.new.put ≡ None }
-        ensures ran { self.new.ran ≡ self.old.ran }
-        ensures snapshots { snapshots_of self.new.space ≡ snapshots_of self.old.space }
     {
         self.set_result(tid, value);
         self.put = None;
@@ -184,15 +178,10 @@ impl Guest {
 
     /// write(fd, buf, len)
     fn write(&mut self, alloc: Global, tid: u32, thread: &Thread) -> Result<CallRecord, Memory>
-        requires { register thread.now.regs 17 ≡ 64 }
-        ensures carries { IfOk result (λ r.
-            Carries (write_row (state_of self.old) thread.now) tid (state_of self.old) r (state_of self.new)) }
-        ensures text { IfOk result HasCallText }
-        ensures puts { IfOk result (λ r. chunks_of self.new.put ≡ put_out (state_of self.old).memory thread.now r.result) }
+        ensures makes { IfOk result (λ r. Makes (write_row (state_of self.old) thread.now)
+            (puts Write (state_of self.old).memory thread.now r.result) tid self.old r self.new) }
         ensures memory { OnErr result (PutsBytes (state_of self.old) thread.now) }
         ensures refused { OnErr result (self.new ≡ self.old) }
-        ensures ran { self.new.ran ≡ self.old.ran }
-        ensures snapshots { snapshots_of self.new.space ≡ snapshots_of self.old.space }
     {
         let descriptor = thread.regs.registers[10];
         let address = thread.regs.registers[11];
@@ -216,15 +205,10 @@ impl Guest {
     /// exit(status)
     fn exit(&mut self, alloc: Global, tid: u32, thread: &Thread) -> Result<CallRecord, Memory>
         requires { IsRunning (thread_at (state_of self.old) tid) }
-        ensures carries { IfOk result (λ r.
-            Carries (exit_row tid (state_of self.old) thread.now) tid (state_of self.old) r (state_of self.new)) }
-        ensures value { IfOk result (λ r. r.result ≡ 0) }
-        ensures text { IfOk result HasCallText }
-        ensures put { OnOk result (self.new.put ≡ None) }
+        ensures makes { IfOk result (λ r.
+            Makes (exit_row tid (state_of self.old) thread.now) [] tid self.old r self.new) }
         ensures memory { OnErr result (IsTrue (clears (state_of self.old) thread.now)) }
         ensures refused { OnErr result (self.new ≡ self.old) }
-        ensures ran { self.new.ran ≡ self.old.ran }
-        ensures snapshots { snapshots_of self.new.space ≡ snapshots_of self.old.space }
     {
         let status = thread.regs.registers[10];
         if self.clears(thread) {
@@ -248,15 +232,8 @@ impl Guest {
     ) -> Result<CallRecord, Memory>
         requires running { IsRunning (thread_at (state_of self.old) tid) }
         requires allowed { IsTrue (writable (state_of self.old).memory clear 4) }
-        ensures carries { IfOk result (λ r.
-            Carries (NoResult (range clear (0 ∷ 0 ∷ 0 ∷ 0 ∷ [])) (λ s. leaves tid status (wakes clear 1 s)))
-            tid (state_of self.old) r (state_of self.new)) }
-        ensures value { IfOk result (λ r. r.result ≡ 0) }
-        ensures text { IfOk result HasCallText }
-        ensures put { OnOk result (self.new.put ≡ None) }
+        ensures makes { IfOk result (λ r. Makes (clearing_row clear tid status) [] tid self.old r self.new) }
         ensures refused { OnErr result (self.new ≡ self.old) }
-        ensures ran { self.new.ran ≡ self.old.ran }
-        ensures snapshots { snapshots_of self.new.space ≡ snapshots_of self.old.space }
     {
         let written = cleared_word(alloc, clear)?;
         self.clear_word(clear)?;
@@ -268,12 +245,7 @@ impl Guest {
 
     /// exit_group(status)
     fn exit_group(&mut self, alloc: Global, tid: u32, thread: &Thread) -> CallRecord
-        ensures carries { Carries (exit_group_row thread.now) tid (state_of self.old) result (state_of self.new) }
-        ensures text { HasCallText result }
-        ensures value { result.result ≡ 0 }
-        ensures put { self.new.put ≡ None }
-        ensures ran { self.new.ran ≡ self.old.ran }
-        ensures snapshots { snapshots_of self.new.space ≡ snapshots_of self.old.space }
+        ensures makes { Makes (exit_group_row thread.now) [] tid self.old result self.new }
     {
         self.end(thread.regs.registers[10]);
         self.put = None;
@@ -285,12 +257,7 @@ impl Guest {
 
     /// set_tid_address(a)
     fn set_tid_address(&mut self, alloc: Global, tid: u32, thread: &Thread) -> CallRecord
-        ensures carries { Carries (set_tid_address_row tid thread.now) tid (state_of self.old) result (state_of self.new) }
-        ensures text { HasCallText result }
-        ensures value { result.result ≡ tid }
-        ensures put { self.new.put ≡ None }
-        ensures ran { self.new.ran ≡ self.old.ran }
-        ensures snapshots { snapshots_of self.new.space ≡ snapshots_of self.old.space }
+        ensures makes { Makes (set_tid_address_row tid thread.now) [] tid self.old result self.new }
     {
         self.set_clear(tid, thread.regs.registers[10]);
         self.set_result(tid, tid);

@@ -6,8 +6,8 @@ ghost use Rattle.rrv_model.specs.Memory.{writable, stored};
 ghost use Rattle.rrv_model.specs.State.{thread_at, with_register, AreRegs, IsRunning};
 ghost use Rattle.rrv_model.specs.CallRows.{change_thread, waiters, waits, wakes, leaves, clears, ends, with_memory};
 ghost use Rattle.rrv_model.specs.Calls.{results};
-ghost use Rattle.guest_pages.specs.Space.{snapshots_of};
 ghost use Rattle.guest_calls.specs.Guest.{state_of};
+ghost use Rattle.guest_calls.specs.Carries.{KeepsRest};
 
 use crate::guest::Guest;
 use rrv_model::machine::{GuestEnd, Regs, Thread};
@@ -32,8 +32,7 @@ impl Guest {
     /// Puts a call's result into a0.
     pub(crate) fn set_result(&mut self, tid: u32, value: u32)
         ensures state { state_of self.new ≡ results tid value (state_of self.old) }
-        ensures ran { self.new.ran ≡ self.old.ran }
-        ensures snapshots { snapshots_of self.new.space ≡ snapshots_of self.old.space }
+        ensures keeps { KeepsRest self.old self.new }
     {
         if let Some(thread) = self.threads.get(tid) {
             self.threads
@@ -44,8 +43,7 @@ impl Guest {
     /// Sets the clear address.
     pub(crate) fn set_clear(&mut self, tid: u32, address: u32)
         ensures state { state_of self.new ≡ change_thread tid (λ t. record t { clear = address }) (state_of self.old) }
-        ensures ran { self.new.ran ≡ self.old.ran }
-        ensures snapshots { snapshots_of self.new.space ≡ snapshots_of self.old.space }
+        ensures keeps { KeepsRest self.old self.new }
     {
         self.threads.set_clear(tid, address);
     }
@@ -62,8 +60,7 @@ impl Guest {
         requires { IsTrue (writable (state_of self.old).memory address 4) }
         ensures state { OnOk result (state_of self.new
             ≡ with_memory (stored address (to_le_bytes w32 0) (state_of self.old).memory) (state_of self.old)) }
-        ensures ran { OnOk result (self.new.ran ≡ self.old.ran) }
-        ensures snapshots { snapshots_of self.new.space ≡ snapshots_of self.old.space }
+        ensures keeps { KeepsRest self.old self.new }
         ensures refused { OnErr result (self.new ≡ self.old) }
     {
         match self.space.store_word(address, 0) {
@@ -77,8 +74,7 @@ impl Guest {
         requires { IsRunning (thread_at (state_of self.old) tid) }
         ensures state { OnOk result (state_of self.new ≡ waits tid address (state_of self.old)) }
         ensures refused { OnErr result (self.new ≡ self.old) }
-        ensures ran { self.new.ran ≡ self.old.ran }
-        ensures snapshots { snapshots_of self.new.space ≡ snapshots_of self.old.space }
+        ensures keeps { KeepsRest self.old self.new }
     {
         let Ok(()) = self.threads.wait(tid, address) else {
             return Err(Memory);
@@ -90,8 +86,7 @@ impl Guest {
     pub(crate) fn wake(&mut self, address: u32, count: u32) -> u32
         ensures count { result ≡ length (waiters (state_of self.old) address count) }
         ensures state { state_of self.new ≡ wakes address count (state_of self.old) }
-        ensures ran { self.new.ran ≡ self.old.ran }
-        ensures snapshots { snapshots_of self.new.space ≡ snapshots_of self.old.space }
+        ensures keeps { KeepsRest self.old self.new }
     {
         self.threads.wake(address, count)
     }
@@ -99,8 +94,7 @@ impl Guest {
     /// Ends the guest.
     pub(crate) fn end(&mut self, status: u32)
         ensures state { state_of self.new ≡ ends status (state_of self.old) }
-        ensures ran { self.new.ran ≡ self.old.ran }
-        ensures snapshots { snapshots_of self.new.space ≡ snapshots_of self.old.space }
+        ensures keeps { KeepsRest self.old self.new }
     {
         self.ended = Some(GuestEnd::Exited((status % 256) as u8));
     }
@@ -109,8 +103,7 @@ impl Guest {
     pub(crate) fn leave(&mut self, tid: u32, status: u32)
         requires { IsRunning (thread_at (state_of self.old) tid) }
         ensures state { state_of self.new ≡ leaves tid status (state_of self.old) }
-        ensures ran { self.new.ran ≡ self.old.ran }
-        ensures snapshots { snapshots_of self.new.space ≡ snapshots_of self.old.space }
+        ensures keeps { KeepsRest self.old self.new }
     {
         let Ok(()) = self.threads.exit(tid) else {
             unreachable!();

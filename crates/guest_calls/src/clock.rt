@@ -1,13 +1,10 @@
 //! clock_gettime: the time of a clock, which the outside gives.
 
-ghost use Rattle.std.specs.Prelude.{◌≡◌, ◌++◌, None, length, IfOk, OnOk, OnErr};
+ghost use Rattle.std.specs.Prelude.{◌≡◌, ◌++◌, length};
 ghost use Rattle.std.specs.Int.{w64, to_le_bytes};
-ghost use Rattle.rrv_model.specs.CallRows.{clock_gettime_row};
-ghost use Rattle.rrv_model.specs.RecordText.{HasCallText};
-ghost use Rattle.guest_pages.specs.Space.{snapshots_of};
-ghost use Rattle.guest_calls.specs.Guest.{state_of};
-ghost use Rattle.guest_calls.specs.Asking.{IsAnswered, TellsMoment};
-ghost use Rattle.guest_calls.specs.Carries.{Asks, Carries};
+ghost use Rattle.rrv_model.specs.declared.syscall.Syscall.TheVariants.{ClockGettime};
+ghost use Rattle.guest_calls.specs.Asking.{TellsMoment};
+ghost use Rattle.guest_calls.specs.Carries.{ComesTo};
 
 use crate::calls::{BAD_ADDRESS, INVALID, failure};
 use crate::guest::Guest;
@@ -52,18 +49,7 @@ impl Guest {
         thread: &Thread,
         outside: &mut O,
     ) -> Result<CallRecord, Memory>
-        ensures carries { IfOk result (λ r.
-            Carries (clock_gettime_row (state_of self.old) thread.now) tid (state_of self.old) r (state_of self.new)) }
-        ensures answered { IfOk result (λ r.
-            IsAnswered O.gives (clock_gettime_row (state_of self.old) thread.now) thread.now r outside.old outside.new) }
-        ensures text { IfOk result HasCallText }
-        ensures put { OnOk result (self.new.put ≡ None) }
-        ensures memory { OnErr result (Asks (clock_gettime_row (state_of self.old) thread.now)) }
-        ensures refused { OnErr result (self.new ≡ self.old) }
-        ensures refused_unasked { OnErr result (outside.new ≡ outside.old) }
-        ensures unasked { ¬ Asks (clock_gettime_row (state_of self.old) thread.now) → outside.new ≡ outside.old }
-        ensures ran { self.new.ran ≡ self.old.ran }
-        ensures snapshots { snapshots_of self.new.space ≡ snapshots_of self.old.space }
+        ensures { ComesTo O.gives ClockGettime tid thread.now self.old result self.new outside.old outside.new }
     {
         let clock = thread.regs.registers[10];
         let address = thread.regs.registers[11];

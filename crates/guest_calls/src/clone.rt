@@ -1,15 +1,16 @@
 //! clone: a thread makes another one (Linux man pages, clone(2)).
 
-ghost use Rattle.std.specs.Prelude.{◌≡◌, ◌==◌, ◌∷◌, [], ◌≤◌, None, IfOk, OnOk, OnErr, true, false, length, if◌then◌else◌};
+ghost use Rattle.std.specs.Prelude.{◌≡◌, ◌==◌, ◌∷◌, [], ◌≤◌, None, IfOk, OnOk, OnErr, true, false, length};
+ghost use Rattle.std.specs.Prelude.{if◌then◌else◌};
 ghost use Rattle.std.specs.Int.{w32, to_le_bytes};
 ghost use Rattle.std.specs.List.{AllByRecursion};
 ghost use Rattle.rrv_model.specs.State.{State, with_register, AreRegs, IsThread};
-ghost use Rattle.rrv_model.specs.CallRows.{argument, all_writable, are_clone_flags, child_of, clone_row, has_flag, tid_places};
+ghost use Rattle.rrv_model.specs.CallRows.{argument, all_writable, are_clone_flags, child_of, clone_row, has_flag};
+ghost use Rattle.rrv_model.specs.CallRows.{tid_places};
 ghost use Rattle.rrv_model.specs.RecordText.{HasCallText, HasWrittenText};
-ghost use Rattle.guest_pages.specs.Space.{snapshots_of};
 ghost use Rattle.guest_threads.specs.Threads.{is_full, spawned, with_threads};
 ghost use Rattle.guest_calls.specs.Guest.{state_of};
-ghost use Rattle.guest_calls.specs.Carries.{Carries};
+ghost use Rattle.guest_calls.specs.Carries.{KeepsRest, Makes};
 ghost use Rattle.guest_calls.specs.Clones.{makes_child, with_child_at, words_at};
 ghost use Rattle.guest_calls.specs.Growth.{Succeeds};
 
@@ -17,10 +18,10 @@ use crate::calls::{BAD_ADDRESS, INVALID, TRY_AGAIN, failure};
 use crate::changes::{A0, with_register};
 use crate::guest::Guest;
 use guest_threads::Threads;
-use rrv_model::sequence::Sequence;
 use rrv_model::machine::{Regs, Thread};
 use rrv_model::record::{CallRecord, Written};
 use rrv_model::refusal::Memory;
+use rrv_model::sequence::Sequence;
 use std::alloc::Global;
 
 /// CLONE_VM, CLONE_FS, CLONE_FILES, CLONE_SIGHAND and CLONE_THREAD, which are required.
@@ -169,14 +170,9 @@ impl Guest {
     ) -> Result<CallRecord, Memory>
         requires fits { IsThread thread.now }
         requires running { thread.now.waits_at ≡ None }
-        ensures carries { IfOk result (λ r.
-            Carries (clone_row (state_of self.old) thread.now) tid (state_of self.old) r (state_of self.new)) }
-        ensures text { IfOk result HasCallText }
-        ensures put { OnOk result (self.new.put ≡ None) }
+        ensures makes { IfOk result (λ r. Makes (clone_row (state_of self.old) thread.now) [] tid self.old r self.new) }
         ensures memory { OnErr result (Succeeds (clone_row (state_of self.old) thread.now)) }
         ensures refused { OnErr result (self.new ≡ self.old) }
-        ensures ran { self.new.ran ≡ self.old.ran }
-        ensures snapshots { snapshots_of self.new.space ≡ snapshots_of self.old.space }
     {
         if !are_clone_flags(thread.regs.registers[10]) {
             return Ok(self.answer(alloc, tid, failure(INVALID)));
@@ -218,13 +214,9 @@ impl Guest {
         requires room { is_full self.old.threads ≡ false }
         requires few { length places.now ≤ 2 }
         requires allowed { all_writable (state_of self.old).memory places.now ≡ true }
-        ensures carries { IfOk result (λ r.
-            Carries (makes_child (state_of self.old) thread.now places.now) tid (state_of self.old) r (state_of self.new)) }
-        ensures text { IfOk result HasCallText }
-        ensures put { OnOk result (self.new.put ≡ None) }
+        ensures makes { IfOk result (λ r.
+            Makes (makes_child (state_of self.old) thread.now places.now) [] tid self.old r self.new) }
         ensures refused { OnErr result (self.new ≡ self.old) }
-        ensures ran { self.new.ran ≡ self.old.ran }
-        ensures snapshots { snapshots_of self.new.space ≡ snapshots_of self.old.space }
     {
         let record = self.add_child(alloc, thread, places)?;
         self.set_result(tid, record.result);
@@ -232,8 +224,8 @@ impl Guest {
         Ok(record)
     }
 
-    /// A child under the next tid, which is written at the places. The space comes last of what can be refused, so that a
-    /// refusal leaves all as before.
+    /// A child under the next tid, which is written at the places. The space comes last of what can be refused, so that
+    /// a refusal leaves all as before.
     fn add_child(
         &mut self,
         alloc: Global,
@@ -246,12 +238,11 @@ impl Guest {
         requires few { length places.now ≤ 2 }
         requires allowed { all_writable (state_of self.old).memory places.now ≡ true }
         ensures state { OnOk result (state_of self.new ≡ with_child_at places.now thread.now (state_of self.old)) }
-        ensures record_is { IfOk result (λ r. r
-            ≡ record { result = (state_of self.old).next_tid; written = words_at places.now (state_of self.old).next_tid }) }
+        ensures record_is { IfOk result (λ r. let tid = (state_of self.old).next_tid in
+            r ≡ record { result = tid; written = words_at places.now tid }) }
         ensures text { IfOk result HasCallText }
         ensures refused { OnErr result (self.new ≡ self.old) }
-        ensures ran { self.new.ran ≡ self.old.ran }
-        ensures snapshots { snapshots_of self.new.space ≡ snapshots_of self.old.space }
+        ensures keeps { KeepsRest self.old self.new }
     {
         let child = self.threads.next_tid();
         let written = written_words(alloc, places, child)?;

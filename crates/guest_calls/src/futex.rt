@@ -1,14 +1,10 @@
 //! futex: a thread waits at a word, and others wake it (Linux man pages, futex(2)).
 
-ghost use Rattle.std.specs.Prelude.{◌≡◌, ◌==◌, ◌%◌, ◌/◌, ◌*◌, ◌-◌, [], None, not, IfOk, OnOk, OnErr, length};
-ghost use Rattle.rrv_model.specs.Memory.{readable};
+ghost use Rattle.std.specs.Prelude.{◌≡◌, ◌%◌, ◌/◌, ◌*◌, ◌-◌, [], IfOk, OnErr, length};
 ghost use Rattle.rrv_model.specs.State.{thread_at, IsRunning};
-ghost use Rattle.rrv_model.specs.Step.{word_at};
-ghost use Rattle.rrv_model.specs.CallRows.{Returns, argument, futex_row, waiters, waits, wakes};
-ghost use Rattle.rrv_model.specs.RecordText.{HasCallText};
-ghost use Rattle.guest_pages.specs.Space.{snapshots_of};
+ghost use Rattle.rrv_model.specs.CallRows.{Returns, futex_row, waiters, waits, wakes};
 ghost use Rattle.guest_calls.specs.Guest.{state_of};
-ghost use Rattle.guest_calls.specs.Carries.{Carries};
+ghost use Rattle.guest_calls.specs.Carries.{Makes};
 ghost use Rattle.guest_calls.specs.Growth.{BeginsWait};
 
 use crate::calls::{BAD_ADDRESS, INVALID, NO_SUCH_CALL, TRY_AGAIN, failure};
@@ -39,14 +35,10 @@ impl Guest {
         thread: &Thread,
     ) -> Result<CallRecord, Memory>
         requires { IsRunning (thread_at (state_of self.old) tid) }
-        ensures carries { IfOk result (λ r.
-            Carries (futex_row tid (state_of self.old) thread.now) tid (state_of self.old) r (state_of self.new)) }
-        ensures text { IfOk result HasCallText }
-        ensures put { OnOk result (self.new.put ≡ None) }
+        ensures makes { IfOk result (λ r.
+            Makes (futex_row tid (state_of self.old) thread.now) [] tid self.old r self.new) }
         ensures memory { OnErr result (BeginsWait tid (state_of self.old) thread.now) }
         ensures refused { OnErr result (self.new ≡ self.old) }
-        ensures ran { self.new.ran ≡ self.old.ran }
-        ensures snapshots { snapshots_of self.new.space ≡ snapshots_of self.old.space }
     {
         let address = thread.regs.registers[10];
         let operation = operation_of(thread.regs.registers[11]);
@@ -74,12 +66,8 @@ impl Guest {
 
     /// Wakes the first count waiters at an address, in the waiting order, and answers how many there were.
     fn wake_waiters(&mut self, alloc: Global, tid: u32, address: u32, count: u32) -> CallRecord
-        ensures carries { Carries (Returns (length (waiters (state_of self.old) address count)) [] (wakes address count))
-            tid (state_of self.old) result (state_of self.new) }
-        ensures text { HasCallText result }
-        ensures put { self.new.put ≡ None }
-        ensures ran { self.new.ran ≡ self.old.ran }
-        ensures snapshots { snapshots_of self.new.space ≡ snapshots_of self.old.space }
+        ensures makes { Makes (Returns (length (waiters (state_of self.old) address count)) [] (wakes address count)) []
+            tid self.old result self.new }
     {
         let woken = self.wake(address, count);
         self.answer(alloc, tid, woken)
@@ -88,13 +76,8 @@ impl Guest {
     /// A running thread waits at an address, last in the waiting order; when it is woken it finds 0.
     fn begin_wait(&mut self, alloc: Global, tid: u32, address: u32) -> Result<CallRecord, Memory>
         requires { IsRunning (thread_at (state_of self.old) tid) }
-        ensures carries { IfOk result (λ r.
-            Carries (Returns 0 [] (waits tid address)) tid (state_of self.old) r (state_of self.new)) }
-        ensures text { IfOk result HasCallText }
-        ensures put { OnOk result (self.new.put ≡ None) }
+        ensures makes { IfOk result (λ r. Makes (Returns 0 [] (waits tid address)) [] tid self.old r self.new) }
         ensures refused { OnErr result (self.new ≡ self.old) }
-        ensures ran { self.new.ran ≡ self.old.ran }
-        ensures snapshots { snapshots_of self.new.space ≡ snapshots_of self.old.space }
     {
         self.wait(tid, address)?;
         Ok(self.answer(alloc, tid, 0))

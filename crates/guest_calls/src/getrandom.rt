@@ -1,13 +1,10 @@
 //! getrandom: random bytes, which the outside gives.
 
-ghost use Rattle.std.specs.Prelude.{◌≡◌, length, None, IfOk, OnOk, OnErr};
-ghost use Rattle.rrv_model.specs.CallRows.{getrandom_row};
+ghost use Rattle.std.specs.Prelude.{◌≡◌, length};
+ghost use Rattle.rrv_model.specs.declared.syscall.Syscall.TheVariants.{Getrandom};
 ghost use Rattle.rrv_model.specs.Calls.{Bytes};
-ghost use Rattle.rrv_model.specs.RecordText.{HasCallText};
-ghost use Rattle.guest_pages.specs.Space.{snapshots_of};
-ghost use Rattle.guest_calls.specs.Guest.{state_of};
-ghost use Rattle.guest_calls.specs.Asking.{IsAnswered, Random};
-ghost use Rattle.guest_calls.specs.Carries.{Asks, Carries};
+ghost use Rattle.guest_calls.specs.Asking.{Random};
+ghost use Rattle.guest_calls.specs.Carries.{ComesTo};
 
 use crate::calls::{BAD_ADDRESS, INVALID, failure};
 use crate::guest::Guest;
@@ -27,7 +24,8 @@ impl Room {
     /// Takes as many random bytes as there is room for.
     fn take_random<O: Outside>(&mut self, outside: &mut O)
         ensures len { length self.new.bytes.items ≡ length self.old.bytes.items }
-        ensures gives { O.gives outside.old (Random (length self.old.bytes.items)) (Bytes self.new.bytes.items) outside.new }
+        ensures gives { O.gives outside.old
+            (Random (length self.old.bytes.items)) (Bytes self.new.bytes.items) outside.new }
     {
         outside.random(self.bytes.as_mut_slice());
     }
@@ -42,18 +40,7 @@ impl Guest {
         thread: &Thread,
         outside: &mut O,
     ) -> Result<CallRecord, Memory>
-        ensures carries { IfOk result (λ r.
-            Carries (getrandom_row (state_of self.old) thread.now) tid (state_of self.old) r (state_of self.new)) }
-        ensures answered { IfOk result (λ r.
-            IsAnswered O.gives (getrandom_row (state_of self.old) thread.now) thread.now r outside.old outside.new) }
-        ensures text { IfOk result HasCallText }
-        ensures put { OnOk result (self.new.put ≡ None) }
-        ensures memory { OnErr result (Asks (getrandom_row (state_of self.old) thread.now)) }
-        ensures refused { OnErr result (self.new ≡ self.old) }
-        ensures refused_unasked { OnErr result (outside.new ≡ outside.old) }
-        ensures unasked { ¬ Asks (getrandom_row (state_of self.old) thread.now) → outside.new ≡ outside.old }
-        ensures ran { self.new.ran ≡ self.old.ran }
-        ensures snapshots { snapshots_of self.new.space ≡ snapshots_of self.old.space }
+        ensures { ComesTo O.gives Getrandom tid thread.now self.old result self.new outside.old outside.new }
     {
         let address = thread.regs.registers[10];
         let count = thread.regs.registers[11].min(MAX_RANDOM);

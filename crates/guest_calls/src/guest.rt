@@ -4,7 +4,7 @@ ghost use Rattle.std.specs.Prelude.{◌≡◌, ◌↔◌, ◌<◌, ◌≤◌, �
 ghost use Rattle.std.specs.List.Sorted.{IsStrictlyIncreasing};
 ghost use Rattle.rrv_model.specs.Memory.{page_count, IsMemory};
 ghost use Rattle.rrv_model.specs.State.{thread_at, IsEnd, IsRunning, IsState, IsThread};
-ghost use Rattle.guest_pages.specs.Space.{snapshots_of};
+ghost use Rattle.guest_calls.specs.Carries.{KeepsRest};
 
 use crate::put::Put;
 use guest_pages::Space;
@@ -102,12 +102,13 @@ impl Guest {
         &self.space
     }
 
-    /// The guest's threads, with the waiting order and the next tid. That its state keeps the rules of one is told here,
-    /// too.
+    /// The guest's threads, with the waiting order and the next tid. That its state keeps the rules of one is told
+    /// here, too.
     pub fn threads(&self) -> &Threads
         ensures value { result.now ≡ self.now.threads }
         ensures is_state { IsState (state_of self.now) }
     {
+        // the proof opens the space and the threads here, for what holds of each
         let _ = self.space.page_count();
         let _ = self.threads.live();
         are_numbers(self.reservation, self.ended);
@@ -160,7 +161,8 @@ impl Guest {
     /// The tids of the threads that run, rising.
     pub fn running(&self, alloc: Global) -> Result<Vec<u32>, Memory>
         ensures rising { IfOk result (λ tids. IsStrictlyIncreasing tids.items) }
-        ensures running { IfOk result (λ tids. (tid : ℕ) → Contains tids.items tid ↔ IsRunning (thread_at (state_of self.now) tid)) }
+        ensures running { IfOk result (λ tids. (tid : ℕ)
+            → Contains tids.items tid ↔ IsRunning (thread_at (state_of self.now) tid)) }
         ensures memory { OnErr result (HasRunning (state_of self.now)) }
     {
         self.threads.runnable(alloc)
@@ -179,9 +181,7 @@ impl Guest {
     /// Ends a slice: the reservation is gone, and the guest has ended where an end is given.
     pub fn close_slice(&mut self, end: Option<GuestEnd>)
         ensures state { state_of self.new ≡ closed_by end (state_of self.old) }
-        ensures ran { self.new.ran ≡ self.old.ran }
-        ensures ran_before_call { self.new.ran_before_call ≡ self.old.ran_before_call }
-        ensures snapshots { snapshots_of self.new.space ≡ snapshots_of self.old.space }
+        ensures keeps { KeepsRest self.old self.new }
         ensures put { self.new.put ≡ self.old.put }
     {
         self.reservation = None;

@@ -19,7 +19,6 @@ mod put;
 mod read;
 mod room;
 mod steps;
-mod syscall;
 mod writev;
 
 pub use fault::{SetPageFault, SetRestFault};

@@ -1,12 +1,11 @@
 //! A guest's calls that change its memory: brk, munmap, mmap and mprotect.
 
-ghost use Rattle.std.specs.Prelude.{◌≡◌, ◌&&◌, ◌||◌, ◌==◌, ◌%◌, ◌+◌, ◌-◌, ◌^◌, ◌≤◌, not, nat_lt, None, IfOk, IfSome, OnOk, OnErr};
+ghost use Rattle.std.specs.Prelude.{◌≡◌, ◌&&◌, ◌||◌, ◌==◌, ◌%◌, ◌+◌, ◌-◌, ◌^◌, ◌≤◌, [], not, nat_lt, IfOk, IfSome};
+ghost use Rattle.std.specs.Prelude.{OnErr};
 ghost use Rattle.rrv_model.specs.Memory.{highest_free_up_to, page_bytes, pages_for};
 ghost use Rattle.rrv_model.specs.CallRows.{argument, has_flag, brk_row, munmap_row, mmap_row, mmap_place, mprotect_row};
-ghost use Rattle.rrv_model.specs.RecordText.{HasCallText};
-ghost use Rattle.guest_pages.specs.Space.{snapshots_of};
 ghost use Rattle.guest_calls.specs.Guest.{state_of};
-ghost use Rattle.guest_calls.specs.Carries.{Carries};
+ghost use Rattle.guest_calls.specs.Carries.{Makes};
 ghost use Rattle.guest_calls.specs.Growth.{RaisesBreak, Succeeds};
 
 use crate::calls::{INVALID, NO_MEMORY, failure};
@@ -29,11 +28,12 @@ const ADDRESSES: u64 = 0x8000_0000;
 /// The flags of mmap: FIXED maps at the address that is given.
 const FIXED: u32 = 0x10;
 
-/// Tests whether mmap takes these arguments: a length, permissions, a private mapping of no file, and for FIXED the address
-/// of a page.
+/// Tests whether mmap takes these arguments: a length, permissions, a private mapping of no file, and for FIXED the
+/// address of a page.
 fn is_mapping(thread: &Thread) -> bool
     ensures { result ≡ not (argument thread.now 1 == 0 || (nat_lt 7 (argument thread.now 2)
-        || (not (has_flag (argument thread.now 3) 2) || (not (has_flag (argument thread.now 3) 0x20) || (has_flag (argument thread.now 3) 1
+        || (not (has_flag (argument thread.now 3) 2) || (not (has_flag (argument thread.now 3) 0x20)
+        || (has_flag (argument thread.now 3) 1
         || (has_flag (argument thread.now 3) 0x10 && not (argument thread.now 0 % page_bytes == 0))))))) }
 {
     let address = thread.regs.registers[10];
@@ -57,14 +57,9 @@ impl Guest {
         tid: u32,
         thread: &Thread,
     ) -> Result<CallRecord, Memory>
-        ensures carries { IfOk result (λ r.
-            Carries (brk_row (state_of self.old) thread.now) tid (state_of self.old) r (state_of self.new)) }
-        ensures text { IfOk result HasCallText }
-        ensures put { OnOk result (self.new.put ≡ None) }
+        ensures makes { IfOk result (λ r. Makes (brk_row (state_of self.old) thread.now) [] tid self.old r self.new) }
         ensures memory { OnErr result (RaisesBreak (state_of self.old) thread.now) }
         ensures refused { OnErr result (self.new ≡ self.old) }
-        ensures ran { self.new.ran ≡ self.old.ran }
-        ensures snapshots { snapshots_of self.new.space ≡ snapshots_of self.old.space }
     {
         let address = thread.regs.registers[10];
         if address < self.opening_break || HIGHEST_BREAK < address {
@@ -88,11 +83,7 @@ impl Guest {
 
     /// munmap(a, len)
     pub(crate) fn munmap(&mut self, alloc: Global, tid: u32, thread: &Thread) -> CallRecord
-        ensures carries { Carries (munmap_row (state_of self.old) thread.now) tid (state_of self.old) result (state_of self.new) }
-        ensures text { HasCallText result }
-        ensures put { self.new.put ≡ None }
-        ensures ran { self.new.ran ≡ self.old.ran }
-        ensures snapshots { snapshots_of self.new.space ≡ snapshots_of self.old.space }
+        ensures makes { Makes (munmap_row (state_of self.old) thread.now) [] tid self.old result self.new }
     {
         let address = thread.regs.registers[10];
         let len = thread.regs.registers[11];
@@ -139,14 +130,9 @@ impl Guest {
         tid: u32,
         thread: &Thread,
     ) -> Result<CallRecord, Memory>
-        ensures carries { IfOk result (λ r.
-            Carries (mmap_row (state_of self.old) thread.now) tid (state_of self.old) r (state_of self.new)) }
-        ensures text { IfOk result HasCallText }
-        ensures put { OnOk result (self.new.put ≡ None) }
+        ensures makes { IfOk result (λ r. Makes (mmap_row (state_of self.old) thread.now) [] tid self.old r self.new) }
         ensures memory { OnErr result (Succeeds (mmap_row (state_of self.old) thread.now)) }
         ensures refused { OnErr result (self.new ≡ self.old) }
-        ensures ran { self.new.ran ≡ self.old.ran }
-        ensures snapshots { snapshots_of self.new.space ≡ snapshots_of self.old.space }
     {
         if !is_mapping(thread) {
             return Ok(self.answer(alloc, tid, failure(INVALID)));
@@ -164,11 +150,7 @@ impl Guest {
 
     /// mprotect(a, len, prot)
     pub(crate) fn mprotect(&mut self, alloc: Global, tid: u32, thread: &Thread) -> CallRecord
-        ensures carries { Carries (mprotect_row (state_of self.old) thread.now) tid (state_of self.old) result (state_of self.new) }
-        ensures text { HasCallText result }
-        ensures put { self.new.put ≡ None }
-        ensures ran { self.new.ran ≡ self.old.ran }
-        ensures snapshots { snapshots_of self.new.space ≡ snapshots_of self.old.space }
+        ensures makes { Makes (mprotect_row (state_of self.old) thread.now) [] tid self.old result self.new }
     {
         let address = thread.regs.registers[10];
         let pages = pages_for(thread.regs.registers[11]);

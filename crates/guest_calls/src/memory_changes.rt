@@ -1,10 +1,11 @@
 //! Changes of a guest's memory by whole pages.
 
-ghost use Rattle.std.specs.Prelude.{◌≡◌, ◌+◌, ◌*◌, ◌/◌, ◌%◌, ◌^◌, ◌<◌, ◌≤◌, not, nat_lt, if◌then◌else◌, IsTrue, IsFalse, IfOk, OnErr};
-ghost use Rattle.rrv_model.specs.Memory.{all_mapped, mapped, unmapped, protected, page_bytes, page_count, pages_for};
+ghost use Rattle.std.specs.Prelude.{◌≡◌, ◌+◌, ◌*◌, ◌/◌, ◌%◌, ◌^◌, ◌<◌, ◌≤◌, not, nat_lt, if◌then◌else◌, IsTrue};
+ghost use Rattle.std.specs.Prelude.{IsFalse, IfOk, OnErr};
+ghost use Rattle.rrv_model.specs.Memory.{all_mapped, unmapped, protected, page_bytes, page_count, pages_for};
 ghost use Rattle.rrv_model.specs.CallRows.{page_limit, permissions_of, with_memory};
-ghost use Rattle.guest_pages.specs.Space.{snapshots_of};
 ghost use Rattle.guest_calls.specs.Guest.{state_of};
+ghost use Rattle.guest_calls.specs.Carries.{KeepsRest, pages_mapped};
 
 use crate::guest::Guest;
 use guest_pages::PageFault;
@@ -42,17 +43,18 @@ impl Guest {
         requires high { page + count ≤ 0x80000 }
         requires readable { IsTrue permissions.write → IsTrue permissions.read }
         ensures limit { IfOk result (λ fits. fits
-            ≡ not (nat_lt page_limit (page_count (mapped (page * page_bytes) (count * page_bytes) permissions (state_of self.old).memory)))) }
+            ≡ not (nat_lt page_limit (page_count (pages_mapped page count permissions (state_of self.old).memory)))) }
         ensures state { IfOk result (λ fits. IsTrue fits → state_of self.new
-            ≡ with_memory (mapped (page * page_bytes) (count * page_bytes) permissions (state_of self.old).memory) (state_of self.old)) }
+            ≡ with_memory (pages_mapped page count permissions (state_of self.old).memory) (state_of self.old)) }
         ensures full { IfOk result (λ fits. IsFalse fits → self.new ≡ self.old) }
-        ensures memory { OnErr result (page_count (mapped (page * page_bytes) (count * page_bytes) permissions (state_of self.old).memory) ≤ page_limit) }
+        ensures memory { OnErr result
+            (page_count (pages_mapped page count permissions (state_of self.old).memory) ≤ page_limit) }
         ensures refused { OnErr result (self.new ≡ self.old) }
-        ensures ran { self.new.ran ≡ self.old.ran }
-        ensures snapshots { snapshots_of self.new.space ≡ snapshots_of self.old.space }
+        ensures keeps { KeepsRest self.old self.new }
     {
         match self.space.map(page, count, permissions) {
             Ok(()) => {
+                // the proof opens the space here: that the pages are no more than the limit is a rule of it
                 let _limit = self.space.page_count();
                 Ok(true)
             }
@@ -64,10 +66,9 @@ impl Guest {
     /// Takes pages away.
     pub(crate) fn unmap_pages(&mut self, page: u32, count: u32)
         requires { page + count < 2 ^ 32 }
-        ensures state { state_of self.new
-            ≡ with_memory (unmapped (page * page_bytes) (count * page_bytes) (state_of self.old).memory) (state_of self.old) }
-        ensures ran { self.new.ran ≡ self.old.ran }
-        ensures snapshots { snapshots_of self.new.space ≡ snapshots_of self.old.space }
+        ensures state { state_of self.new ≡ with_memory
+            (unmapped (page * page_bytes) (count * page_bytes) (state_of self.old).memory) (state_of self.old) }
+        ensures keeps { KeepsRest self.old self.new }
     {
         self.space.unmap(page, count);
     }
@@ -77,11 +78,11 @@ impl Guest {
         requires low { page + count < 2 ^ 32 }
         requires readable { IsTrue permissions.write → IsTrue permissions.read }
         ensures mapped { result ≡ all_mapped (state_of self.old).memory page count }
-        ensures state { IsTrue result → state_of self.new
-            ≡ with_memory (protected (page * page_bytes) (count * page_bytes) permissions (state_of self.old).memory) (state_of self.old) }
+        ensures state { IsTrue result → state_of self.new ≡ with_memory
+            (protected (page * page_bytes) (count * page_bytes) permissions (state_of self.old).memory)
+            (state_of self.old) }
         ensures refused { IsFalse result → self.new ≡ self.old }
-        ensures ran { self.new.ran ≡ self.old.ran }
-        ensures snapshots { snapshots_of self.new.space ≡ snapshots_of self.old.space }
+        ensures keeps { KeepsRest self.old self.new }
     {
         self.space.protect(page, count, permissions).is_ok()
     }
@@ -91,8 +92,7 @@ impl Guest {
         requires low { (state_of self.old).opening_break ≤ address }
         requires high { address ≤ 0x70000000 }
         ensures state { state_of self.new ≡ record (state_of self.old) { program_break = address } }
-        ensures ran { self.new.ran ≡ self.old.ran }
-        ensures snapshots { snapshots_of self.new.space ≡ snapshots_of self.old.space }
+        ensures keeps { KeepsRest self.old self.new }
     {
         self.program_break = address;
     }

@@ -4,6 +4,7 @@ ghost use Rattle.std.specs.Prelude.{◌≡◌, ◌≢◌, ◌↔◌, ℕ, IsTrue
 ghost use Rattle.rrv_model.specs.CallRows.{with_memory};
 ghost use Rattle.guest_pages.specs.WholePages.{with_page, MayHave};
 ghost use Rattle.guest_calls.specs.Guest.{state_of};
+ghost use Rattle.guest_calls.specs.Carries.{KeepsRest};
 ghost use Rattle.guest_calls.specs.Parts.{with_rest, MakesState, IsSetPageRefusal, IsSetRestRefusal};
 ghost use Rattle.guest_calls.specs.Snapshots.{guest_snapshots};
 
@@ -50,9 +51,10 @@ impl Guest {
         self.space.drop_snapshot(snapshot);
     }
 
-    /// Puts a page with its permissions and bytes in place of what was there; None unmaps it. Refused with NoState exactly
-    /// where no state has such a page, else with TooManyPages exactly where more than 16,384 pages would be mapped, else with
-    /// Memory where a growth is refused, which is only where the page wasn't mapped. To unmap is never refused.
+    /// Puts a page with its permissions and bytes in place of what was there; None unmaps it. Refused with NoState
+    /// exactly where no state has such a page, else with TooManyPages exactly where more than 16,384 pages would be
+    /// mapped, else with Memory where a growth is refused, which is only where the page wasn't mapped. To unmap is
+    /// never refused.
     pub fn set_page(&mut self, number: u32, page: Option<PageView<'_>>) -> Result<(), SetPageFault>
         ensures state { OnOk result (state_of self.new
             ≡ with_memory (with_page number page.entry (state_of self.old).memory) (state_of self.old)) }
@@ -60,10 +62,8 @@ impl Guest {
         ensures refused { IfErr result (λ fault. IsSetPageRefusal fault number page.entry (state_of self.old).memory) }
         ensures some { OnErr result (IsSome page.entry) }
         ensures err { OnErr result (self.new ≡ self.old) }
-        ensures ran { self.new.ran ≡ self.old.ran }
-        ensures ran_before_call { self.new.ran_before_call ≡ self.old.ran_before_call }
+        ensures keeps { KeepsRest self.old self.new }
         ensures put { self.new.put ≡ self.old.put }
-        ensures snapshots { guest_snapshots self.new ≡ guest_snapshots self.old }
     {
         if !may_have(number, page) {
             return Err(SetPageFault::NoState);
@@ -75,18 +75,16 @@ impl Guest {
         }
     }
 
-    /// Takes the rest of a checkpoint in place of the threads, the waiting order, the next tid and the program break; the
-    /// reservation and the end are gone. Refused with NoState exactly where its tids don't rise or it makes no state of the
-    /// guest's memory and opening break, else with Memory where a growth is refused.
+    /// Takes the rest of a checkpoint in place of the threads, the waiting order, the next tid and the program break;
+    /// the reservation and the end are gone. Refused with NoState exactly where its tids don't rise or it makes no
+    /// state of the guest's memory and opening break, else with Memory where a growth is refused.
     pub fn set_rest(&mut self, alloc: Global, rest: &CheckpointRest) -> Result<(), SetRestFault>
         ensures state { OnOk result (state_of self.new ≡ with_rest rest.now (state_of self.old)) }
         ensures possible { OnOk result (MakesState rest.now (state_of self.old)) }
         ensures refused { IfErr result (λ fault. IsSetRestRefusal fault rest.now (state_of self.old)) }
         ensures err { OnErr result (self.new ≡ self.old) }
-        ensures ran { self.new.ran ≡ self.old.ran }
-        ensures ran_before_call { self.new.ran_before_call ≡ self.old.ran_before_call }
+        ensures keeps { KeepsRest self.old self.new }
         ensures put { self.new.put ≡ self.old.put }
-        ensures snapshots { guest_snapshots self.new ≡ guest_snapshots self.old }
     {
         if rest.program_break < self.opening_break || rest.program_break > HIGHEST_BREAK {
             return Err(SetRestFault::NoState);

@@ -1,13 +1,11 @@
 //! read: input, which the outside gives.
 
-ghost use Rattle.std.specs.Prelude.{◌≡◌, ◌≤◌, length, None, IfOk, OnOk, OnErr};
-ghost use Rattle.rrv_model.specs.CallRows.{read_row};
+ghost use Rattle.std.specs.Prelude.{◌≡◌, ◌≤◌, length};
+ghost use Rattle.rrv_model.specs.declared.syscall.Syscall.TheVariants.{Read};
+ghost use Rattle.rrv_model.specs.declared.limits.TheConstants.{MAX_TRANSFER};
 ghost use Rattle.rrv_model.specs.Calls.{Bytes};
-ghost use Rattle.rrv_model.specs.RecordText.{HasCallText};
-ghost use Rattle.guest_pages.specs.Space.{snapshots_of};
-ghost use Rattle.guest_calls.specs.Guest.{state_of};
-ghost use Rattle.guest_calls.specs.Asking.{Input, IsAnswered};
-ghost use Rattle.guest_calls.specs.Carries.{Asks, Carries};
+ghost use Rattle.guest_calls.specs.Asking.{Input};
+ghost use Rattle.guest_calls.specs.Carries.{ComesTo};
 
 use crate::calls::{BAD_ADDRESS, BAD_DESCRIPTOR, failure};
 use crate::guest::Guest;
@@ -22,10 +20,11 @@ use std::alloc::Global;
 impl Room {
     /// Takes as much input as there is room for, and answers how much it is.
     fn take_input<O: Outside>(&mut self, outside: &mut O) -> u32
-        requires { length self.old.bytes.items ≤ 65_536 }
+        requires { length self.old.bytes.items ≤ MAX_TRANSFER }
         ensures len { result ≡ length self.new.bytes.items }
         ensures within { result ≤ length self.old.bytes.items }
-        ensures gives { O.gives outside.old (Input (length self.old.bytes.items)) (Bytes self.new.bytes.items) outside.new }
+        ensures gives { O.gives outside.old
+            (Input (length self.old.bytes.items)) (Bytes self.new.bytes.items) outside.new }
     {
         let len = outside.read(self.bytes.as_mut_slice());
         self.bytes.truncate(len);
@@ -42,18 +41,7 @@ impl Guest {
         thread: &Thread,
         outside: &mut O,
     ) -> Result<CallRecord, Memory>
-        ensures carries { IfOk result (λ r.
-            Carries (read_row (state_of self.old) thread.now) tid (state_of self.old) r (state_of self.new)) }
-        ensures answered { IfOk result (λ r.
-            IsAnswered O.gives (read_row (state_of self.old) thread.now) thread.now r outside.old outside.new) }
-        ensures text { IfOk result HasCallText }
-        ensures put { OnOk result (self.new.put ≡ None) }
-        ensures memory { OnErr result (Asks (read_row (state_of self.old) thread.now)) }
-        ensures refused { OnErr result (self.new ≡ self.old) }
-        ensures refused_unasked { OnErr result (outside.new ≡ outside.old) }
-        ensures unasked { ¬ Asks (read_row (state_of self.old) thread.now) → outside.new ≡ outside.old }
-        ensures ran { self.new.ran ≡ self.old.ran }
-        ensures snapshots { snapshots_of self.new.space ≡ snapshots_of self.old.space }
+        ensures { ComesTo O.gives Read tid thread.now self.old result self.new outside.old outside.new }
     {
         let descriptor = thread.regs.registers[10];
         let address = thread.regs.registers[11];

@@ -3,9 +3,9 @@
 ghost use Rattle.std.specs.Prelude.{◌≡◌, [], length, vec_len, vec_capacity, IfOk};
 ghost use Rattle.rrv_model.specs.CallRows.{range};
 
-use rrv_model::sequence::Sequence;
 use rrv_model::record::Written;
 use rrv_model::refusal::Memory;
+use rrv_model::sequence::Sequence;
 use std::alloc::Global;
 
 /// Room for an answer: for its bytes, and in the list of what the call wrote for the range that tells them.

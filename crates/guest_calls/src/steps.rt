@@ -5,6 +5,7 @@ ghost use Rattle.rrv_model.specs.State.{thread_at, IsRunning};
 ghost use Rattle.rrv_model.specs.Step.{ThreadMayStore};
 ghost use Rattle.guest_pages.specs.Space.{snapshots_of};
 ghost use Rattle.guest_calls.specs.Guest.{state_of, counted};
+ghost use Rattle.guest_calls.specs.Carries.{KeepsRest};
 ghost use Rattle.guest_calls.specs.Runs.{Runs, StepDoes, before_call};
 
 use crate::guest::Guest;
@@ -12,14 +13,15 @@ use rrv_model::refusal::Memory;
 use rv_machine::{Run, RunEnd, Stepped, run_hart};
 
 impl Guest {
-    /// Runs up to `limit` instructions of a running thread: it stops behind a call's ECALL, before a fault, and before an
-    /// instruction that finds no memory.
+    /// Runs up to `limit` instructions of a running thread: it stops behind a call's ECALL, before a fault, and before
+    /// an instruction that finds no memory.
     pub fn run_thread(&mut self, tid: u32, limit: u32) -> Run
         requires { IsRunning (thread_at (state_of self.old) tid) }
         ensures runs { Runs limit tid (state_of self.old) result (state_of self.new) }
         ensures ran { self.new.ran ≡ counted self.old.ran result.count }
         ensures snapshots { snapshots_of self.new.space ≡ snapshots_of self.old.space }
-        ensures ran_before_call { result.end ≡ RunEnd.Call → self.new.ran_before_call ≡ counted self.old.ran (result.count - 1) }
+        ensures ran_before_call { result.end ≡ RunEnd.Call
+            → self.new.ran_before_call ≡ counted self.old.ran (result.count - 1) }
         ensures put { self.new.put ≡ self.old.put }
     {
         let run = self.run_uncounted(tid, limit);
@@ -33,8 +35,7 @@ impl Guest {
     fn run_uncounted(&mut self, tid: u32, limit: u32) -> Run
         requires { IsRunning (thread_at (state_of self.old) tid) }
         ensures runs { Runs limit tid (state_of self.old) result (state_of self.new) }
-        ensures ran { self.new.ran ≡ self.old.ran }
-        ensures snapshots { snapshots_of self.new.space ≡ snapshots_of self.old.space }
+        ensures keeps { KeepsRest self.old self.new }
         ensures put { self.new.put ≡ self.old.put }
     {
         let mut thread = self.running_thread(tid);
@@ -54,12 +55,14 @@ impl Guest {
         ensures step { IfOk result (λ stepped. StepDoes stepped tid (state_of self.old) (state_of self.new)) }
         ensures ran { OnOk result (self.new.ran ≡ counted self.old.ran 1) }
         ensures snapshots { snapshots_of self.new.space ≡ snapshots_of self.old.space }
-        ensures ran_before_call { IfOk result (λ stepped. stepped ≡ Stepped.Call → self.new.ran_before_call ≡ self.old.ran) }
+        ensures ran_before_call { IfOk result (λ stepped.
+            stepped ≡ Stepped.Call → self.new.ran_before_call ≡ self.old.ran) }
         ensures refused { OnErr result (state_of self.new ≡ state_of self.old) }
         ensures refused_ran { OnErr result (self.new.ran ≡ self.old.ran) }
         ensures takes { OnErr result (ThreadMayStore (state_of self.old) tid) }
         ensures put { self.new.put ≡ self.old.put }
     {
+        // the proof opens the guest here: that the count lies below 2^64 is a rule of it
         let _ran = self.ran;
         let run = self.run_thread(tid, 1);
         match run.end {

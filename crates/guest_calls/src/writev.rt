@@ -1,13 +1,11 @@
 //! writev: the buffers of a list, put out one behind another.
 
 ghost use Rattle.std.specs.Prelude.{◌≡◌, IfOk, OnErr};
-ghost use Rattle.rrv_model.specs.State.{register};
+ghost use Rattle.rrv_model.specs.declared.syscall.Syscall.TheVariants.{Writev};
 ghost use Rattle.rrv_model.specs.CallRows.{writev_row};
-ghost use Rattle.rrv_model.specs.Output.{put_out};
-ghost use Rattle.rrv_model.specs.RecordText.{HasCallText};
-ghost use Rattle.guest_pages.specs.Space.{snapshots_of};
-ghost use Rattle.guest_calls.specs.Guest.{state_of, chunks_of};
-ghost use Rattle.guest_calls.specs.Carries.{Carries};
+ghost use Rattle.rrv_model.specs.Output.{puts};
+ghost use Rattle.guest_calls.specs.Guest.{state_of};
+ghost use Rattle.guest_calls.specs.Carries.{Makes};
 ghost use Rattle.guest_calls.specs.Growth.{ReadsBuffers};
 
 use crate::calls::{BAD_ADDRESS, BAD_DESCRIPTOR, INVALID, failure, put_of};
@@ -33,15 +31,10 @@ impl Guest {
         tid: u32,
         thread: &Thread,
     ) -> Result<CallRecord, Memory>
-        requires { register thread.now.regs 17 ≡ 66 }
-        ensures carries { IfOk result (λ r.
-            Carries (writev_row (state_of self.old) thread.now) tid (state_of self.old) r (state_of self.new)) }
-        ensures text { IfOk result HasCallText }
-        ensures puts { IfOk result (λ r. chunks_of self.new.put ≡ put_out (state_of self.old).memory thread.now r.result) }
+        ensures makes { IfOk result (λ r. Makes (writev_row (state_of self.old) thread.now)
+            (puts Writev (state_of self.old).memory thread.now r.result) tid self.old r self.new) }
         ensures memory { OnErr result (ReadsBuffers (state_of self.old) thread.now) }
         ensures refused { OnErr result (self.new ≡ self.old) }
-        ensures ran { self.new.ran ≡ self.old.ran }
-        ensures snapshots { snapshots_of self.new.space ≡ snapshots_of self.old.space }
     {
         let descriptor = thread.regs.registers[10];
         let address = thread.regs.registers[11];

@@ -2,7 +2,7 @@
 use Rattle.std.proofs.Common.{◌≡◌, ℕ, [], ◌∷◌, ◌++◌, refl, None, replicate}
 use Rattle.rrv_model.specs.declared.machine.Thread.{Thread}
 use Rattle.rrv_model.specs.State.{State}
-use Rattle.rrv_model.specs.CallRows.{fails, only_returns, futex_row, clone_row, write_row, read_row, munmap_row, call_of, row_of}
+use Rattle.rrv_model.specs.CallRows.{fails, only_returns, futex_row, clone_row, write_row, read_row, munmap_row, syscall_of, row_of}
 use Rattle.rrv_model.specs.Opening.{opening_state}
 use Rattle.rrv_model.specs.Elf.{headers_from}
 use Rattle.rrv_model.proofs.Examples.{elf_e}
@@ -33,7 +33,7 @@ _write-descriptor s = refl
 _read-nothing : (s : State) → read_row s (called_with 0 0x10000 0 0 63) ≡ only_returns 0
 _read-nothing s = refl
 
-_other : (s : State) (t : Thread) → row_of (call_of 1000) 1 s t ≡ fails 38
+_other : (s : State) (t : Thread) → row_of (syscall_of 1000) 1 s t ≡ fails 38
 unfolding row_of
 _other s t = refl
 

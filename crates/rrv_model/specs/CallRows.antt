@@ -1,5 +1,7 @@
 -- What each call does: the subset of Linux calls that a guest may make, a row a call (Linux man pages, section 2).
-use Rattle.std.specs.Prelude.{ℕ, zero, suc, ◌+◌, ◌-◌, ◌*◌, ◌/◌, ◌%◌, ◌^◌, min, Bool, true, false, not, ◌&&◌, ◌||◌, ◌==◌, nat_lt, nat_le, bit_and, if◌then◌else◌, List, [], ◌∷◌, ◌++◌, length, take, filter, flat_map, sum_by, fold, Option, Some, None}
+use Rattle.std.specs.Prelude.{ℕ, zero, suc, ◌+◌, ◌-◌, ◌*◌, ◌/◌, ◌%◌, ◌^◌, min, Bool, true, false, not, ◌&&◌, ◌||◌}
+use Rattle.std.specs.Prelude.{◌==◌, nat_lt, nat_le, bit_and, if◌then◌else◌, List, [], ◌∷◌, ◌++◌, length, take, filter}
+use Rattle.std.specs.Prelude.{flat_map, sum_by, fold, Option, Some, None}
 use Rattle.std.specs.FinMap.{FinMap, get, insert, remove, len}
 use Rattle.std.specs.Ordering.{nat_cmp}
 use Rattle.std.specs.Int.{w32, to_le_bytes}
@@ -7,14 +9,22 @@ use Rattle.rrv_model.specs.declared.machine.Permissions.{Permissions}
 use Rattle.rrv_model.specs.declared.machine.Thread.{Thread}
 use Rattle.rrv_model.specs.declared.machine.GuestEnd.TheVariants.{Exited}
 use Rattle.rrv_model.specs.declared.record.Written.{Written}
-use Rattle.rrv_model.specs.Memory.{Memory, readable, writable, mapped, unmapped, protected, page_count, all_free, all_mapped, highest_free_up_to, pages_for, page_bytes}
+use Rattle.rrv_model.specs.declared.syscall.Syscall.{Syscall}
+use Rattle.rrv_model.specs.declared.syscall.Syscall.TheVariants.{Read, Write, Writev, Exit, ExitGroup, SetTidAddress}
+use Rattle.rrv_model.specs.declared.syscall.Syscall.TheVariants.{Futex, SchedYield, Getpid, Gettid, Brk, Munmap}
+use Rattle.rrv_model.specs.declared.syscall.Syscall.TheVariants.{Clone, Mmap, Mprotect, Getrandom, ClockGettime}
+use Rattle.rrv_model.specs.declared.syscall.Syscall.TheVariants.{Other}
+use Rattle.rrv_model.specs.declared.limits.TheConstants.{MAX_PAGES, MAX_TRANSFER}
+use Rattle.rrv_model.specs.Memory.{Memory, readable, writable, mapped, unmapped, protected, page_count, all_free}
+use Rattle.rrv_model.specs.Memory.{all_mapped, highest_free_up_to, pages_for, page_bytes}
 use Rattle.rrv_model.specs.State.{State, thread_at, with_thread, register, with_register}
 use Rattle.rrv_model.specs.Step.{word_at}
 
 -- ---- rows
 
--- what a call does: it answers a result, writes, and changes the state otherwise; or the thread goes without a result;
--- or the outside is asked, for up to count bytes, for just count random bytes, or for the time, which are written at an address
+-- what a call does: it returns a result, writes, and changes the state otherwise; or the thread goes without a result;
+-- or the environment is asked, for up to count bytes, for just count random bytes, or for the time, which are written
+-- at an address
 pub data Row : Type 0 where
   Returns : (result : ℕ) → List Written → (State → State) → Row
   NoResult : List Written → (State → State) → Row
@@ -47,7 +57,7 @@ range a (b ∷ bytes) = record { address = a; bytes = b ∷ bytes } ∷ []
 
 -- at most so many bytes go in one call
 abbrev pub transfer : ℕ → ℕ
-transfer count = min count 65_536
+transfer count = min count MAX_TRANSFER
 
 -- ---- input and output
 
@@ -97,7 +107,7 @@ writev_row s t =
     else if nat_lt 1024 count then fails 22
     else if not (readable s.memory (argument t 1) (8 * count)) then fails 14
     else if nat_lt (2 ^ 31 - 1) (total_len buffers) then fails 22
-    else if not (all_readable s.memory (clipped 65_536 buffers)) then fails 14
+    else if not (all_readable s.memory (clipped MAX_TRANSFER buffers)) then fails 14
     else only_returns (transfer (total_len buffers))
 
 -- ---- threads
@@ -130,7 +140,9 @@ changed tid change m = changed_found (get m tid) where
   changed_found (Some t) = insert m tid (change t)
 
 abbrev pub woken : State → ℕ → State
-woken s tid = change_thread tid (λ t. record t { waits_at = None }) (record s { waiting = filter (λ w. not (w == tid)) s.waiting })
+woken s tid =
+    change_thread tid (λ t. record t { waits_at = None })
+    (record s { waiting = filter (λ w. not (w == tid)) s.waiting })
 
 -- the first count waiters at a run again
 abbrev pub wakes : ℕ → ℕ → State → State
@@ -195,9 +207,11 @@ abbrev pub has_flag : ℕ → ℕ → Bool
 has_flag flags f = bit_and flags f == f
 
 abbrev pub are_clone_flags : ℕ → Bool
-are_clone_flags flags = has_flag flags required_flags && bit_and flags (2 ^ 32 - 1 - (required_flags + allowed_flags)) == 0
+are_clone_flags flags =
+    has_flag flags required_flags && bit_and flags (2 ^ 32 - 1 - (required_flags + allowed_flags)) == 0
 
--- the parent's registers after the ECALL, with a0 0, a stack where there is one, the thread pointer and the clear address by flags
+-- the parent's registers after the ECALL, with a0 0, a stack where there is one, and by the flags a thread pointer and a
+-- clear address
 abbrev pub child_of : Thread → Thread
 child_of t =
     let flags = argument t 0 in
@@ -229,10 +243,12 @@ clone_row s t =
 
 -- READ 1, WRITE 2, EXEC 4; a page with W has R
 abbrev pub permissions_of : ℕ → Permissions
-permissions_of prot = record { read = has_flag prot 1 || has_flag prot 2; write = has_flag prot 2; execute = has_flag prot 4 }
+permissions_of prot =
+    record { read = has_flag prot 1 || has_flag prot 2; write = has_flag prot 2; execute = has_flag prot 4 }
 
+-- pages that a guest may have mapped
 abbrev pub page_limit : ℕ
-page_limit = 16_384
+page_limit = MAX_PAGES
 
 abbrev pub with_memory : Memory → State → State
 with_memory m s = record s { memory = m }
@@ -247,7 +263,8 @@ brk_row s t =
     let shrunk = unmapped (to * page_bytes) ((from - to) * page_bytes) s.memory in
     if nat_lt a s.opening_break || nat_lt 0x70000000 a then only_returns s.program_break
     else if nat_le to from then Returns a [] (λ s'. record s' { memory = shrunk; program_break = a })
-    else if not (all_free s.memory from (to - from)) || nat_lt page_limit (page_count grown) then only_returns s.program_break
+    else if not (all_free s.memory from (to - from)) || nat_lt page_limit (page_count grown)
+    then only_returns s.program_break
     else Returns a [] (λ s'. record s' { memory = grown; program_break = a })
 
 -- munmap(2): munmap(a, len)
@@ -270,7 +287,8 @@ mmap_place s t =
 abbrev pub maps_at : State → Thread → Option ℕ → Row
 maps_at s t None = fails 12
 maps_at s t (Some page) =
-    let new = mapped (page * page_bytes) (pages_for (argument t 1) * page_bytes) (permissions_of (argument t 2)) s.memory in
+    let bytes = pages_for (argument t 1) * page_bytes in
+    let new = mapped (page * page_bytes) bytes (permissions_of (argument t 2)) s.memory in
     if nat_lt page_limit (page_count new) then fails 12
     else Returns (page * page_bytes) [] (λ s'. record s' { memory = new })
 
@@ -278,8 +296,8 @@ maps_at s t (Some page) =
 abbrev pub mmap_row : State → Thread → Row
 mmap_row s t =
     let flags = argument t 3 in
-    if argument t 1 == 0 || (nat_lt 7 (argument t 2) || (not (has_flag flags 2) || (not (has_flag flags 0x20) || (has_flag flags 1
-    || (has_flag flags 0x10 && not (argument t 0 % page_bytes == 0)))))) then fails 22
+    if argument t 1 == 0 || (nat_lt 7 (argument t 2) || (not (has_flag flags 2) || (not (has_flag flags 0x20)
+    || (has_flag flags 1 || (has_flag flags 0x10 && not (argument t 0 % page_bytes == 0)))))) then fails 22
     else maps_at s t (mmap_place s t)
 
 -- mprotect(2): mprotect(a, len, prot)
@@ -289,7 +307,8 @@ mprotect_row s t =
     let pages = pages_for (argument t 1) in
     if not (a % page_bytes == 0) || nat_lt 7 (argument t 2) then fails 22
     else if not (all_mapped s.memory (a / page_bytes) pages) then fails 12
-    else Returns 0 [] (λ s'. record s' { memory = protected a (pages * page_bytes) (permissions_of (argument t 2)) s'.memory })
+    else Returns 0 []
+    (λ s'. record s' { memory = protected a (pages * page_bytes) (permissions_of (argument t 2)) s'.memory })
 
 -- ---- random bytes and the time
 
@@ -311,11 +330,9 @@ clock_gettime_row s t =
 
 -- ---- the rows by number
 
-pub data Call : Type 0 where
-  Read Write Writev Exit ExitGroup SetTidAddress Futex SchedYield Getpid Gettid Brk Munmap Clone Mmap Mprotect Getrandom ClockGettime Other : Call
-
-abbrev pub call_of : ℕ → Call
-call_of n =
+-- the call with a number, which is in a7
+abbrev pub syscall_of : ℕ → Syscall
+syscall_of n =
     if n == 63 then Read else if n == 64 then Write else if n == 66 then Writev
     else if n == 93 then Exit else if n == 94 then ExitGroup else if n == 96 then SetTidAddress
     else if n == 98 then Futex else if n == 422 then Futex else if n == 124 then SchedYield
@@ -325,7 +342,7 @@ call_of n =
     else Other
 
 -- sched_yield(2), getpid(2) and gettid(2) have no row of their own: they only answer
-unfoldable pub row_of : Call → ℕ → State → Thread → Row
+unfoldable pub row_of : Syscall → ℕ → State → Thread → Row
 row_of Read tid s t = read_row s t
 row_of Write tid s t = write_row s t
 row_of Writev tid s t = writev_row s t

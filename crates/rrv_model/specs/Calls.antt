@@ -1,4 +1,4 @@
--- The call relation: state, calling thread, the outside's answer, the call's record, and the state after.
+-- The call relation: state, calling thread, the environment's answer, the call's record, and the state after.
 use Rattle.std.specs.Prelude.{◌≡◌, ℕ, ◌^◌, ◌<◌, ◌≤◌, List, [], ◌∷◌, ◌++◌, length, All, Some, None}
 use Rattle.std.specs.Int.{w64, to_le_bytes}
 use Rattle.rrv_model.specs.declared.machine.Thread.{Thread}
@@ -6,9 +6,10 @@ use Rattle.rrv_model.specs.declared.record.Written.{Written}
 use Rattle.rrv_model.specs.declared.record.CallRecord.{CallRecord}
 use Rattle.rrv_model.specs.Memory.{Memory, stored}
 use Rattle.rrv_model.specs.State.{State, thread_at, register}
-use Rattle.rrv_model.specs.CallRows.{Row, Returns, NoResult, AsksInput, AsksRandom, AsksTime, call_of, row_of, range, change_thread, set_register}
+use Rattle.rrv_model.specs.CallRows.{Row, Returns, NoResult, AsksInput, AsksRandom, AsksTime, syscall_of, row_of}
+use Rattle.rrv_model.specs.CallRows.{range, change_thread, set_register}
 
--- what the outside answers, where it is asked
+-- what the environment answers, where it is asked
 pub data Answer : Type 0 where
   Silence : Answer
   Bytes : List ℕ → Answer
@@ -16,11 +17,11 @@ pub data Answer : Type 0 where
 
 -- the number is in a7
 abbrev pub call_row : State → ℕ → Thread → Row
-call_row s tid t = row_of (call_of (register t.regs 17)) tid s t
+call_row s tid t = row_of (syscall_of (register t.regs 17)) tid s t
 
 -- ---- the relation
 
--- the outside may give this answer, and the record is then this
+-- the environment may give this answer, and the record is then this
 abbrev pub HasRecord : Row → Answer → CallRecord → Type 0
 HasRecord (Returns result written change) answer r = r ≡ record { result = result; written = written }
 HasRecord (NoResult written change) answer r = r ≡ record { result = 0; written = written }
@@ -58,7 +59,7 @@ after_call (AsksInput a count) tid r s = results tid r.result (writes r.written 
 after_call (AsksRandom a count) tid r s = results tid r.result (writes r.written s)
 after_call (AsksTime a) tid r s = results tid r.result (writes r.written s)
 
--- the running thread, whose pc is past its ECALL, calls; the outside would answer so
+-- the running thread, whose pc is past its ECALL, calls; the environment would answer so
 pub record Calls (s : State) (tid : ℕ) (answer : Answer) (r : CallRecord) (after : State) : Type 0 where
   pub thread : Thread
   pub there : thread_at s tid ≡ Some thread
@@ -66,7 +67,7 @@ pub record Calls (s : State) (tid : ℕ) (answer : Answer) (r : CallRecord) (aft
   pub records : HasRecord (call_row s tid thread) answer r
   pub leaves : after ≡ after_call (call_row s tid thread) tid r s
 
--- state, thread and record leave one state after at most, whatever the outside answered
+-- state, thread and record leave one state after at most, whatever the environment answered
 abbrev pub OneStateAfterCall : Type 0
 OneStateAfterCall =
     (s : State) (tid : ℕ) (r : CallRecord) (answer answer' : Answer) (after after' : State) →

@@ -3,10 +3,11 @@
 
 pub mod fields;
 pub mod instr;
-pub mod sequence;
 pub mod laws;
 pub mod limits;
 pub mod machine;
 pub mod record;
 pub mod refusal;
+pub mod sequence;
 pub mod sink;
+pub mod syscall;

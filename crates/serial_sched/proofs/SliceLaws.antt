@@ -7,17 +7,19 @@ use Rattle.rrv_model.specs.declared.record.CallRecord.{CallRecord}
 use Rattle.rrv_model.specs.declared.record.Choice.{Choice}
 use Rattle.rrv_model.specs.declared.record.End.TheVariants as ends
 use Rattle.rrv_model.specs.declared.record.Frame.{Frame}
+use Rattle.rrv_model.specs.declared.syscall.Syscall.{Syscall}
+use Rattle.rrv_model.specs.declared.syscall.Syscall.TheVariants.{Write, Writev}
 use Rattle.rrv_model.specs.Words.{minus}
-use Rattle.rrv_model.specs.State.{State, thread_at, with_thread, IsRunning}
+use Rattle.rrv_model.specs.Memory.{Memory}
+use Rattle.rrv_model.specs.State.{State, register, thread_at, with_thread, IsRunning}
 use Rattle.rrv_model.specs.Step.{ThreadMayStore, ThreadMayTakeMemory}
-use Rattle.rrv_model.specs.CallRows.{change_thread}
+use Rattle.rrv_model.specs.CallRows.{change_thread, syscall_of}
 use Rattle.rrv_model.specs.Calls.{Answer, Calls}
 use Rattle.rrv_model.specs.FrameStep.{Steps, closed, closed_at_end}
-use Rattle.rrv_model.specs.Output.{Chunk, put_out_by}
+use Rattle.rrv_model.specs.Output.{Chunk, put_out_by, puts}
 use Rattle.rrv_model.specs.RecordText.{HasCallText}
 use Rattle.guest_calls.specs.Runs.{RunsToCall, RunsToFault, before_call}
-use Rattle.guest_calls.specs.Asking.{Question, CallIsAnswered}
-use Rattle.guest_calls.specs.Carries.{CallAsks}
+use Rattle.guest_calls.specs.Asking.{Question, CallAsks, CallIsAnswered}
 use Rattle.guest_calls.specs.Growth.{CallMayGrow}
 use Rattle.serial_sched.specs.Asking.{FrameAsks, FrameIsAnswered}
 use Rattle.serial_sched.specs.Slices.{CanRun, CallsToGrow, NextMayGrow, Sliced, IsWhole}
@@ -35,6 +37,11 @@ changed_there tid change s t there = rw there refl
 abbrev at_ecall : Thread → Thread
 at_ecall t = record t { regs = record t.regs { pc = minus t.regs.pc 4 } }
 
+same_puts : (call : Syscall) (m : Memory) (t : Thread) (count : ℕ) → puts call m t count ≡ puts call m (at_ecall t) count
+same_puts Write m t count = refl
+same_puts Writev m t count = refl
+same_puts _ m t count = refl
+
 -- an ECALL changes nothing that a call puts out
 pub same_put : (tid count : ℕ) (before called : State) (t : Thread) → thread_at called tid ≡ Some t → before_call tid called ≡ before →
     put_out_by (thread_at called tid) called.memory count ≡ put_out_by (thread_at before tid) before.memory count
@@ -42,6 +49,7 @@ same_put tid count before called t there back =
     let was : before_call tid called ≡ with_thread tid (at_ecall t) called = changed_there tid at_ecall called t there in
     let is : before ≡ with_thread tid (at_ecall t) called = sym back ∙ was in
     ap (λ (o : Option Thread). put_out_by o called.memory count) there
+    ∙ same_puts (syscall_of (register t.regs 17)) called.memory t count
     ∙ sym (ap (λ (o : Option Thread). put_out_by o called.memory count) (get-insert_same called.threads tid (at_ecall t)))
     ∙ sym (ap (λ (s : State). put_out_by (thread_at s tid) s.memory count) is)
 

@@ -5,8 +5,7 @@ use Rattle.rrv_model.specs.declared.record.End.{End}
 use Rattle.rrv_model.specs.declared.record.End.TheVariants.{Preempt, Call, Fault, Stuck}
 use Rattle.rrv_model.specs.State.{State, thread_at}
 use Rattle.rrv_model.specs.Calls.{Answer}
-use Rattle.guest_calls.specs.Asking.{Question, CallIsAnswered}
-use Rattle.guest_calls.specs.Carries.{CallAsks}
+use Rattle.guest_calls.specs.Asking.{Question, CallAsks, CallIsAnswered}
 use Rattle.serial_sched.specs.Follows.{ReachesCall}
 
 -- the last of so many instructions is a call that looks at the outside

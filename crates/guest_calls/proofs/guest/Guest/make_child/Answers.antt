@@ -1,9 +1,14 @@
-use Rattle.std.proofs.Common.{◌∙◌, ap}
+use Rattle.std.proofs.Common.{refl, ◌∙◌, ap, rules}
 use Rattle.guest_calls.specs.Guest.{state_of}
 use Rattle.guest_calls.proofs.CloneParts.{carries_child}
 use Rattle.guest_calls.proofs.guest.Guest.make_child.Goals as goal
 
-pub returns-clause-carries : goal.returns-clause-carries
-returns-clause-carries c =
-    carries_child c.args.tid (state_of c.args.self.now) (state_of c.add_child.new.self) _ c.args.thread.now c.args.places.now c.in_ok-record.record
-    c.in_ok-record.ensures.record_is c.in_ok-record.ensures.state (ap state_of c.self.view_is ∙ c.set_result.ensures.state)
+pub returns-clause-makes : goal.returns-clause-makes
+returns-clause-makes c = record {
+  carries = carries_child c.args.tid (state_of c.args.self.now) (state_of c.add_child.new.self) _ c.args.thread.now c.args.places.now
+      c.in_ok-record.record c.in_ok-record.ensures.record_is c.in_ok-record.ensures.state
+      (ap state_of c.self.view_is ∙ c.set_result.ensures.state);
+  text = c.in_ok-record.ensures.text;
+  puts = refl;
+  keeps = search rules;
+}

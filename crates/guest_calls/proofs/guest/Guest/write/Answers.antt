@@ -1,11 +1,23 @@
-use Rattle.std.proofs.Common.{arith}
+use Rattle.std.proofs.Common.{◌≡◌, ◌∙◌, ◌≤◌, List, ℕ, length, sym, ap, arith, rules}
+use Rattle.rrv_model.specs.Memory.{bytes_at}
+use Rattle.rrv_model.specs.CallRows.{argument}
+use Rattle.guest_pages.proofs.Cells.{length_bytes_at}
 use Rattle.guest_calls.specs.Guest.{state_of, chunks_of}
-use Rattle.guest_calls.proofs.CallParts.{write_puts}
+use Rattle.guest_calls.proofs.CallParts.{bytes_moved}
 use Rattle.guest_calls.proofs.guest.Guest.write.Goals as goal
 
-pub returns-clause-puts : goal.returns-clause-puts
-returns-clause-puts c =
+pub returns-clause-makes : goal.returns-clause-makes
+returns-clause-makes c =
     let m = (state_of c.args.self.now).memory in
-    let t = c.args.thread.now in
-    write_puts m t c.in_ok-bytes.bytes.items c.min-count.result c.answer-record.result.result (chunks_of c.put_of.result) c.requires
-    c.in_ok-bytes.ensures (omega arith) (omega arith) c.answer-record.ensures.value c.put_of.ensures
+    let from = argument c.args.thread.now 1 in
+    let count = c.answer-record.result.result in
+    let bytes : List ℕ = c.in_ok-bytes.bytes.items in
+    let are : bytes ≡ bytes_at m from count = c.in_ok-bytes.ensures ∙ ap (bytes_at m from) (sym c.answer-record.ensures.value) in
+    let most : count ≤ 65_536 = omega (arith, c.answer-record.ensures.value) in
+    record {
+      carries = search rules;
+      text = c.answer-record.ensures.makes.text;
+      puts = bytes_moved (argument c.args.thread.now 0) count (bytes_at m from count) bytes (chunks_of c.put_of.result)
+          are (ap length are ∙ length_bytes_at m from count) most c.put_of.ensures;
+      keeps = search rules;
+    }

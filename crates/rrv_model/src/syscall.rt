@@ -1,11 +1,12 @@
-//! The calls that are carried out without asking the outside, by their numbers.
+//! The Linux calls that a guest may make, by their numbers (Linux, include/uapi/asm-generic/unistd.h).
 
-ghost use Rattle.guest_calls.specs.Asking.{IsQuiet};
-ghost use Rattle.guest_calls.specs.Carries.{IsNumber};
+ghost use Rattle.std.specs.Prelude.{◌≡◌};
+ghost use Rattle.rrv_model.specs.CallRows.{syscall_of};
 
-/// A call that is carried out, or any other, which is refused.
+/// A call of a guest. What each does is its row, in specs/CallRows.antt.
 #[derive(Clone, Copy, Debug, PartialEq, Eq)]
-pub(crate) enum Syscall {
+pub enum Syscall {
+    Read,
     Write,
     Writev,
     Exit,
@@ -20,15 +21,18 @@ pub(crate) enum Syscall {
     Clone,
     Mmap,
     Mprotect,
+    Getrandom,
+    ClockGettime,
+    /// Any other, which is refused.
     Other,
 }
 
-/// The call with a number, which isn't that of a call that asks the outside.
-pub(crate) fn syscall_of(number: u32) -> Syscall
-    requires { IsQuiet number }
-    ensures { IsNumber result number }
+/// The call with a number.
+pub fn syscall_of(number: u32) -> Syscall
+    ensures { result ≡ syscall_of number }
 {
     match number {
+        63 => Syscall::Read,
         64 => Syscall::Write,
         66 => Syscall::Writev,
         93 => Syscall::Exit,
@@ -43,6 +47,8 @@ pub(crate) fn syscall_of(number: u32) -> Syscall
         220 => Syscall::Clone,
         222 => Syscall::Mmap,
         226 => Syscall::Mprotect,
+        278 => Syscall::Getrandom,
+        403 => Syscall::ClockGettime,
         _ => Syscall::Other,
     }
 }
