@@ -2,7 +2,8 @@
 use Rattle.std.specs.Prelude.{ℕ, zero, suc, ◌+◌, ◌-◌, ◌*◌, ◌/◌, ◌%◌, ◌^◌, min, Bool, true, false, not, ◌&&◌, ◌||◌}
 use Rattle.std.specs.Prelude.{◌==◌, nat_lt, nat_le, bit_and, if◌then◌else◌, List, [], ◌∷◌, ◌++◌, length, take, filter}
 use Rattle.std.specs.Prelude.{flat_map, sum_by, fold, Option, Some, None}
-use Rattle.std.specs.FinMap.{remove, len}
+use Rattle.std.specs.FinMap.{FinMap, get, insert, remove, len}
+use Rattle.std.specs.Ordering.{nat_cmp}
 use Rattle.std.specs.Int.{w32, to_le_bytes}
 use Rattle.rrv_model.specs.declared.machine.Permissions.{Permissions}
 use Rattle.rrv_model.specs.declared.machine.Thread.{Thread}
@@ -130,6 +131,13 @@ change_thread tid change s = change_found (thread_at s tid) where
   change_found : Option Thread → State
   change_found None = s
   change_found (Some t) = with_thread tid (change t) s
+
+-- the threads with one of them changed, where it is there
+abbrev pub changed : ℕ → (Thread → Thread) → FinMap nat_cmp Thread → FinMap nat_cmp Thread
+changed tid change m = changed_found (get m tid) where
+  changed_found : Option Thread → FinMap nat_cmp Thread
+  changed_found None = m
+  changed_found (Some t) = insert m tid (change t)
 
 abbrev pub woken : State → ℕ → State
 woken s tid =

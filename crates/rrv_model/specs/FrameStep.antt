@@ -1,6 +1,7 @@
--- Frame step: a frame leads from one state to the next by a thread's steps and what ends them, as in rr's record and replay
--- (O'Callahan and others, 2017), with switches at exact instruction counts.
+-- Frame step: a frame leads from one state to the next by a thread's steps and what ends them, as in rr's record and
+-- replay (O'Callahan and others, 2017), with switches at exact instruction counts.
 use Rattle.std.specs.Prelude.{◌≡◌, ℕ, zero, suc, ◌-◌, ◌≤◌, Some, None}
+use Rattle.rrv_model.specs.declared.limits.TheConstants.{MAX_QUANTUM}
 use Rattle.rrv_model.specs.declared.machine.GuestEnd.{GuestEnd}
 use Rattle.rrv_model.specs.declared.machine.GuestEnd.TheVariants as guest_ends
 use Rattle.rrv_model.specs.declared.record.End.{End}
@@ -8,7 +9,7 @@ use Rattle.rrv_model.specs.declared.record.End.TheVariants.{Preempt, Call, Fault
 use Rattle.rrv_model.specs.declared.record.Frame.{Frame}
 use Rattle.rrv_model.specs.declared.record.CallRecord.{CallRecord}
 use Rattle.rrv_model.specs.declared.machine.FaultKind.{FaultKind}
-use Rattle.rrv_model.specs.State.{State, thread_at, IsRunning}
+use Rattle.rrv_model.specs.State.{State, thread_at, IsRunning, IsState}
 use Rattle.rrv_model.specs.Step.{StepsTo, CallsFrom, FaultsFrom}
 use Rattle.rrv_model.specs.Calls.{Calls, Answer}
 
@@ -63,9 +64,14 @@ FrameStepBy Stuck old tid count new = IsStuck old tid count new
 -- the frame leads from old, which hasn't ended, to new
 pub record FrameStep (old : State) (frame : Frame) (new : State) : Type 0 where
   pub runs : old.ended ≡ None
-  pub limit : frame.count ≤ 1_048_576
+  pub limit : frame.count ≤ MAX_QUANTUM
   pub goes : FrameStepBy frame.end old frame.tid frame.count new
 
 -- old and frame leave one new at most
 abbrev pub OneStateAfterFrame : Type 0
-OneStateAfterFrame = (old : State) (frame : Frame) (new new' : State) → FrameStep old frame new → FrameStep old frame new' → new ≡ new'
+OneStateAfterFrame =
+    (old : State) (frame : Frame) (new new' : State) → FrameStep old frame new → FrameStep old frame new' → new ≡ new'
+
+-- a frame from a state leads to a state
+abbrev pub FramesKeepStates : Type 0
+FramesKeepStates = (old : State) (frame : Frame) (new : State) → IsState old → FrameStep old frame new → IsState new

@@ -1,13 +1,14 @@
 -- Opening state: that from which a guest starts, from its ELF file, its name and 16 random bytes
 -- (System V ABI, chapter 5 "Program Loading"; the stack as execve(2) leaves it, with the pairs of getauxval(3)).
-use Rattle.std.specs.Prelude.{◌≡◌, ℕ, ◌+◌, ◌-◌, ◌*◌, ◌/◌, ◌%◌, ◌≤◌, max, Bool, ◌&&◌, ◌||◌, nat_le, ◌==◌, if◌then◌else◌, List, [], ◌∷◌, ◌++◌, length, fold, flat_map, replicate, All, Some, None, slice_index, slice_set}
+use Rattle.std.specs.Prelude.{◌≡◌, ℕ, ◌+◌, ◌-◌, ◌*◌, ◌/◌, ◌%◌, ◌<◌, ◌≤◌, max, Bool, ◌&&◌, ◌||◌, nat_le, ◌==◌, if◌then◌else◌, List, [], ◌∷◌, ◌++◌, length, fold, flat_map, replicate, All, Some, None, slice_index, slice_set}
 use Rattle.std.specs.List.{list_any}
 use Rattle.std.specs.FinMap.{empty, insert}
 use Rattle.std.specs.Int.{w32, to_le_bytes}
+use Rattle.rrv_model.specs.declared.limits.TheConstants.{MAX_NAME}
 use Rattle.rrv_model.specs.declared.machine.Permissions.{Permissions}
 use Rattle.rrv_model.specs.declared.machine.Thread.{Thread}
 use Rattle.rrv_model.specs.Memory.{Memory, stored, mapped, is_within, page_bytes, pages_for}
-use Rattle.rrv_model.specs.State.{State}
+use Rattle.rrv_model.specs.State.{State, IsState}
 use Rattle.rrv_model.specs.CallRows.{has_flag}
 use Rattle.rrv_model.specs.Elf.{Header, loads, load_end, touches, refusal, elf_entry, elf_phoff, elf_phnum}
 
@@ -47,10 +48,19 @@ headers_address file (h ∷ hs) =
 
 -- the highest loaded end, rounded up to a page
 abbrev pub image_break : List ℕ → ℕ
-image_break file = pages_for (fold (λ end h. if h.memory_len == 0 then end else max end (load_end h)) 0 (loads file)) * page_bytes
+image_break file =
+    pages_for (fold (λ end h. if h.memory_len == 0 then end else max end (load_end h)) 0 (loads file)) * page_bytes
 
 -- ---- the stack
 
+-- where the stack begins, and its bytes: it ends with the addresses of a guest
+abbrev pub stack_at : ℕ
+stack_at = 0x7FF00000
+
+abbrev pub stack_bytes : ℕ
+stack_bytes = 0x100000
+
+-- the random bytes are the top 16 of the stack
 abbrev pub random_at : ℕ
 random_at = 0x7FFFFFF0
 
@@ -58,21 +68,29 @@ random_at = 0x7FFFFFF0
 abbrev pub name_at : List ℕ → ℕ
 name_at name = random_at - (length name + 1)
 
+-- the bytes of the 18 words that stand from the stack pointer on
+abbrev pub words_bytes : ℕ
+words_bytes = 72
+
+-- the stack pointer is a multiple of 16
 abbrev pub stack_pointer : List ℕ → ℕ
-stack_pointer name = let top = name_at name - 72 in top - top % 16
+stack_pointer name = let top = name_at name - words_bytes in top - top % 16
 
 -- argc, argv, its end, the end of the environment, and the pairs PHDR, PHENT, PHNUM, PAGESZ, ENTRY, RANDOM, NULL
 abbrev pub stack_words : List ℕ → List ℕ → List ℕ
 stack_words file name =
     1 ∷ name_at name ∷ 0 ∷ 0
-    ∷ 3 ∷ headers_address file (loads file) ∷ 4 ∷ 32 ∷ 5 ∷ elf_phnum file ∷ 6 ∷ page_bytes ∷ 9 ∷ elf_entry file ∷ 25 ∷ random_at ∷ 0 ∷ 0 ∷ []
+    ∷ 3 ∷ headers_address file (loads file) ∷ 4 ∷ 32 ∷ 5 ∷ elf_phnum file ∷ 6 ∷ page_bytes
+    ∷ 9 ∷ elf_entry file ∷ 25 ∷ random_at ∷ 0 ∷ 0 ∷ []
 
 -- the image and the stack, of zeros
 abbrev pub bare_memory : List ℕ → Memory
-bare_memory file = mapped 0x7FF00000 0x100000 (record { read = Bool.true; write = Bool.true; execute = Bool.false }) (image_memory file)
+bare_memory file =
+    mapped stack_at stack_bytes (record { read = Bool.true; write = Bool.true; execute = Bool.false }) (image_memory file)
 
 abbrev pub memory_with_words : List ℕ → List ℕ → Memory
-memory_with_words file name = stored (stack_pointer name) (flat_map (to_le_bytes w32) (stack_words file name)) (bare_memory file)
+memory_with_words file name =
+    stored (stack_pointer name) (flat_map (to_le_bytes w32) (stack_words file name)) (bare_memory file)
 
 abbrev pub memory_with_name : List ℕ → List ℕ → Memory
 memory_with_name file name = stored (name_at name) (name ++ 0 ∷ []) (memory_with_words file name)
@@ -103,11 +121,17 @@ opening_state file name random = record {
 
 -- a guest's name
 abbrev pub IsName : List ℕ → Type 0
-IsName name = (1 ≤ length name) × (length name ≤ 32) × All (λ b. (0x21 ≤ b) × (b ≤ 0x7E)) name
+IsName name = (1 ≤ length name) × (length name ≤ MAX_NAME) × All (λ b. (0x21 ≤ b) × (b ≤ 0x7E)) name
 
 -- the state from which the guest starts; there is none where the file is refused or the name breaks its limit
 pub record Opens (file name random : List ℕ) (s : State) : Type 0 where
   pub accepted : refusal file ≡ None
+  pub file_bytes : All (λ b. b < 256) file
   pub is_name : IsName name
   pub sixteen : length random ≡ 16
+  pub random_bytes : All (λ b. b < 256) random
   pub state_is : s ≡ opening_state file name random
+
+-- a guest starts in a state
+abbrev pub OpeningsAreStates : Type 0
+OpeningsAreStates = (file name random : List ℕ) (s : State) → Opens file name random s → IsState s

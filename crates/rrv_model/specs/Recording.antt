@@ -17,10 +17,10 @@ abbrev pub IsNumbered : ℕ → ℕ → List Record → Type 0
 IsNumbered guest index [] = Unit {0}
 IsNumbered guest index (r ∷ records) = (r.guest ≡ guest) × (r.index ≡ index) × IsNumbered guest (index + 1) records
 
--- what a part says of the state, which hasn't ended, with the parts in a row before it: an unflagged one says nothing yet
+-- what a part says of the state, with the parts in a row before it: an unflagged one says nothing yet
 abbrev pub PartFits : Option CheckpointRest → State → List Part → State → Type 0
 PartFits None base parts s = Unit {0}
-PartFits (Some rest) base parts s = Describes base parts s × (s.ended ≡ None)
+PartFits (Some rest) base parts s = Describes base parts s
 
 -- the base and the parts in a row behind a part: behind a flagged one the base is the state there
 abbrev pub base_after : Option CheckpointRest → State → State → State
@@ -31,8 +31,8 @@ abbrev pub row_after : Option CheckpointRest → List Part → List Part
 row_after None parts = parts
 row_after (Some rest) parts = []
 
--- The items go on from a state: base is that of the last complete checkpoint, or the opening state; parts are those in a row
--- since the last item that is no part or is flagged.
+-- The items go on from a state: base is that of the last complete checkpoint, or the opening state; parts are those in
+-- a row since the last item that is no part or is flagged.
 abbrev pub ItemsFollow : State → List Part → State → List Item → Type 0
 ItemsFollow base parts s [] = Unit {0}
 ItemsFollow base parts s (items.Opening o ∷ rest) = ⊥
@@ -85,6 +85,7 @@ OneEnd = (items : List Item) (s s' : State) → EndsIn items s → EndsIn items 
 -- a frame from the state behind a recording makes it a longer one, which ends in the frame's new state
 abbrev pub FramesAppend : Type 0
 FramesAppend =
-    (records : List Record) (guest : ℕ) (old new : State) (f : Frame) → IsRecording records → IsNumbered guest 0 records →
-    EndsIn (items_of records) old → FrameStep old f new →
-    IsRecording (records ++ frame_record guest (length records) f ∷ []) × EndsIn (items_of (records ++ frame_record guest (length records) f ∷ [])) new
+    (records : List Record) (guest : ℕ) (old new : State) (f : Frame) →
+    IsRecording records → IsNumbered guest 0 records → EndsIn (items_of records) old → FrameStep old f new →
+    IsRecording (records ++ frame_record guest (length records) f ∷ [])
+    × EndsIn (items_of (records ++ frame_record guest (length records) f ∷ [])) new

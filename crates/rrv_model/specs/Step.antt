@@ -93,7 +93,8 @@ shifted_right_signed x amount = word_of (int_shr (signed x) (amount % 32))
 abbrev pub upper_word : ℤ → ℕ
 upper_word product = cast_unsigned w64 product / 2 ^ 32
 
--- division rounds toward zero, and the remainder has the dividend's sign; -2 ^ 31 / -1 wraps to -2 ^ 31, with remainder 0
+-- division rounds toward zero, and the remainder has the dividend's sign; -2 ^ 31 / -1 wraps to -2 ^ 31, with
+-- remainder 0
 abbrev pub quotient : ℕ → ℕ → ℕ
 quotient x y = if y == 0 then 2 ^ 32 - 1 else word_of (int_div (signed x) (signed y))
 
@@ -187,7 +188,9 @@ executed (Some (Jal rd offset)) h = jumps rd (plus h.regs.pc offset) h
 executed (Some (Jalr rd rs1 immediate)) h =
     let target = plus (register h.regs rs1) immediate in jumps rd (target - target % 2) h
 executed (Some (Branch test rs1 rs2 offset)) h =
-    if branches test (register h.regs rs1) (register h.regs rs2) then jumps 0 (plus h.regs.pc offset) h else Next (goes_on h.regs h)
+    if branches test (register h.regs rs1) (register h.regs rs2)
+    then jumps 0 (plus h.regs.pc offset) h
+    else Next (goes_on h.regs h)
 executed (Some (Load kind rd rs1 immediate)) h =
     let a = plus (register h.regs rs1) immediate in
     if readable h.memory a (load_len kind) then sets rd (loaded kind h.memory a) h else Faulted faults.Load
@@ -243,7 +246,8 @@ hart_of s t = record { regs = t.regs; memory = s.memory; reservation = s.reserva
 
 -- the state with what the thread's hart has become
 abbrev pub with_hart : ℕ → Thread → Hart → State → State
-with_hart tid t h s = record (with_thread tid (record t { regs = h.regs }) s) { memory = h.memory; reservation = h.reservation }
+with_hart tid t h s =
+    record (with_thread tid (record t { regs = h.regs }) s) { memory = h.memory; reservation = h.reservation }
 
 -- the thread runs, and its one instruction has this outcome
 pub record Step (s : State) (tid : ℕ) (t : Thread) (outcome : Outcome) : Type 0 where
@@ -272,73 +276,43 @@ pub record FaultsFrom (s : State) (tid : ℕ) (kind : FaultKind) : Type 0 where
 -- ---- which instructions may take memory
 
 abbrev pub may_take_memory : Instr → Bool
-may_take_memory (Lui rd immediate) = Bool.false
-may_take_memory (Auipc rd immediate) = Bool.false
-may_take_memory (Jal rd offset) = Bool.false
-may_take_memory (Jalr rd rs1 immediate) = Bool.false
-may_take_memory (Branch test rs1 rs2 offset) = Bool.false
-may_take_memory (Load kind rd rs1 immediate) = Bool.false
 may_take_memory (Store kind rs1 rs2 immediate) = Bool.true
-may_take_memory (OpImm op rd rs1 immediate) = Bool.false
-may_take_memory (Shift op rd rs1 amount) = Bool.false
-may_take_memory (Op op rd rs1 rs2) = Bool.false
-may_take_memory Fence = Bool.false
-may_take_memory FenceI = Bool.false
-may_take_memory Ecall = Bool.true
-may_take_memory Ebreak = Bool.false
-may_take_memory (Lr ordering rd rs1) = Bool.false
 may_take_memory (Sc ordering rd rs1 rs2) = Bool.true
 may_take_memory (Amo op ordering rd rs1 rs2) = Bool.true
+may_take_memory Ecall = Bool.true
+may_take_memory _ = Bool.false
 
 -- the instruction stores where it doesn't fault; an SC only where its address is reserved (section 8.2)
 abbrev pub may_store : Instr → Hart → Bool
-may_store (Lui rd immediate) h = Bool.false
-may_store (Auipc rd immediate) h = Bool.false
-may_store (Jal rd offset) h = Bool.false
-may_store (Jalr rd rs1 immediate) h = Bool.false
-may_store (Branch test rs1 rs2 offset) h = Bool.false
-may_store (Load kind rd rs1 immediate) h = Bool.false
 may_store (Store kind rs1 rs2 immediate) h = Bool.true
-may_store (OpImm op rd rs1 immediate) h = Bool.false
-may_store (Shift op rd rs1 amount) h = Bool.false
-may_store (Op op rd rs1 rs2) h = Bool.false
-may_store Fence h = Bool.false
-may_store FenceI h = Bool.false
-may_store Ecall h = Bool.false
-may_store Ebreak h = Bool.false
-may_store (Lr ordering rd rs1) h = Bool.false
 may_store (Sc ordering rd rs1 rs2) h = is_reserved h.reservation (register h.regs rs1)
 may_store (Amo op ordering rd rs1 rs2) h = Bool.true
+may_store _ h = Bool.false
 
--- the hart's next instruction is a STORE, SC, AMO or ECALL
-pub record MayTakeMemory (h : Hart) : Type 0 where
+-- the hart's next instruction passes the test, and does not fault
+pub record NextIs (test : Instr → Hart → Bool) (h : Hart) : Type 0 where
   pub word : ℕ
   pub instr : Instr
   pub fetches : fetched h.memory h.regs.pc ≡ Ok word
   pub stands : Stands word instr
-  pub takes : may_take_memory instr ≡ Bool.true
-  -- and does not fault
+  pub passes : test instr h ≡ Bool.true
   pub goes : (kind : FaultKind) → executed (Some instr) h ≡ Faulted kind → ⊥
 
--- the hart's next instruction stores
-pub record MayStore (h : Hart) : Type 0 where
-  pub word : ℕ
-  pub instr : Instr
-  pub fetches : fetched h.memory h.regs.pc ≡ Ok word
-  pub stands : Stands word instr
-  pub stores : may_store instr h ≡ Bool.true
-  -- and does not fault
-  pub goes : (kind : FaultKind) → executed (Some instr) h ≡ Faulted kind → ⊥
+abbrev pub MayTakeMemory : Hart → Type 0
+MayTakeMemory h = NextIs (λ i _. may_take_memory i) h
 
--- so is the next instruction of a thread
-pub record ThreadMayTakeMemory (s : State) (tid : ℕ) : Type 0 where
+abbrev pub MayStore : Hart → Type 0
+MayStore h = NextIs may_store h
+
+-- the thread runs, and its next instruction passes the test
+pub record ThreadNextIs (test : Instr → Hart → Bool) (s : State) (tid : ℕ) : Type 0 where
   pub thread : Thread
   pub there : thread_at s tid ≡ Some thread
   pub running : thread.waits_at ≡ None
-  pub next : MayTakeMemory (hart_of s thread)
+  pub next : NextIs test (hart_of s thread)
 
-pub record ThreadMayStore (s : State) (tid : ℕ) : Type 0 where
-  pub thread : Thread
-  pub there : thread_at s tid ≡ Some thread
-  pub running : thread.waits_at ≡ None
-  pub next : MayStore (hart_of s thread)
+abbrev pub ThreadMayTakeMemory : State → ℕ → Type 0
+ThreadMayTakeMemory s tid = ThreadNextIs (λ i _. may_take_memory i) s tid
+
+abbrev pub ThreadMayStore : State → ℕ → Type 0
+ThreadMayStore s tid = ThreadNextIs may_store s tid

@@ -1,10 +1,14 @@
-//! Laws of the definitions, each as the contract of a function that does nothing.
+//! Laws of the definitions, each as the contract of a function that does nothing. One stands elsewhere: that bytes hold one
+//! list of bodies at most is `one_list_of_bodies` of `trace_log`, where the reader of those bytes is.
 
 ghost use Rattle.rrv_model.specs.Instructions.{OneRow};
 ghost use Rattle.rrv_model.specs.Memory.{HighestFreeIsFound};
-ghost use Rattle.rrv_model.specs.FrameStep.{OneStateAfterFrame};
+ghost use Rattle.rrv_model.specs.Limits.{HasLimits};
+ghost use Rattle.rrv_model.specs.FrameStep.{FramesKeepStates, OneStateAfterFrame};
 ghost use Rattle.rrv_model.specs.Calls.{OneStateAfterCall};
-ghost use Rattle.rrv_model.specs.RecordText.{OneReading, OneSpelling};
+ghost use Rattle.rrv_model.specs.Opening.{OpeningsAreStates};
+ghost use Rattle.rrv_model.specs.StateAt.{RecordedStatesAreStates};
+ghost use Rattle.rrv_model.specs.RecordText.{CheckpointsExist, OneReading, OneSpelling};
 ghost use Rattle.rrv_model.specs.Recording.{BeginningsAreRecordings, FramesAppend, OneEnd};
 ghost use Rattle.rrv_model.specs.Recovered.{BeginningsAreRecovered, OneBatch, OneRecovery};
 
@@ -66,4 +70,29 @@ pub fn beginnings_are_recovered()
 /// The search for a free place finds the highest, and none only where there is none.
 pub fn highest_free_is_found()
     ensures { HighestFreeIsFound }
+{}
+
+/// Each limit is the number that the definitions are meant for.
+pub fn limits_are_these()
+    ensures { HasLimits }
+{}
+
+/// A frame from a state leads to a state: all rules that hold of every state hold after it.
+pub fn frames_keep_states()
+    ensures { FramesKeepStates }
+{}
+
+/// A state that runs and has no reservation has a checkpoint, against any state with its opening break.
+pub fn checkpoints_exist()
+    ensures { CheckpointsExist }
+{}
+
+/// A guest starts in a state.
+pub fn openings_are_states()
+    ensures { OpeningsAreStates }
+{}
+
+/// At each count of its instructions a recorded guest was in a state.
+pub fn recorded_states_are_states()
+    ensures { RecordedStatesAreStates }
 {}

@@ -54,7 +54,7 @@ takes_of_word (Ok w) h after fetches p = record {
   instr = Ecall;
   fetches = fetches;
   stands = subst (λ (i : Option Instr). Decodes w i) (ecall p.0 h after p.2) p.1;
-  takes = refl;
+  passes = refl;
   goes = goes h;
 }
 
@@ -69,26 +69,14 @@ call_may_take s tid after p = record {
 
 -- what stores may find no memory
 stores_take : (i : Instr) (h : Hart) → may_store i h ≡ true → may_take_memory i ≡ true
-stores_take (Lui rd immediate) h e = absurd (false≢true e)
-stores_take (Auipc rd immediate) h e = absurd (false≢true e)
-stores_take (Jal rd offset) h e = absurd (false≢true e)
-stores_take (Jalr rd rs1 immediate) h e = absurd (false≢true e)
-stores_take (Branch test rs1 rs2 offset) h e = absurd (false≢true e)
-stores_take (Load kind rd rs1 immediate) h e = absurd (false≢true e)
 stores_take (Store kind rs1 rs2 immediate) h e = refl
-stores_take (OpImm op rd rs1 immediate) h e = absurd (false≢true e)
-stores_take (Shift op rd rs1 amount) h e = absurd (false≢true e)
-stores_take (Op op rd rs1 rs2) h e = absurd (false≢true e)
-stores_take Fence h e = absurd (false≢true e)
-stores_take FenceI h e = absurd (false≢true e)
-stores_take Ecall h e = absurd (false≢true e)
-stores_take Ebreak h e = absurd (false≢true e)
-stores_take (Lr ordering rd rs1) h e = absurd (false≢true e)
 stores_take (Sc ordering rd rs1 rs2) h e = refl
 stores_take (Amo op ordering rd rs1 rs2) h e = refl
+stores_take Ecall h e = refl
+stores_take _ h e = absurd (false≢true e)
 
 store_takes : (h : Hart) → MayStore h → MayTakeMemory h
-store_takes h p = record { word = p.word; instr = p.instr; fetches = p.fetches; stands = p.stands; takes = stores_take p.instr h p.stores; goes = p.goes }
+store_takes h p = record { word = p.word; instr = p.instr; fetches = p.fetches; stands = p.stands; passes = stores_take p.instr h p.passes; goes = p.goes }
 
 pub store_may_take : (s : State) (tid : ℕ) → ThreadMayStore s tid → ThreadMayTakeMemory s tid
 store_may_take s tid p = record { thread = p.thread; there = p.there; running = p.running; next = store_takes (hart_of s p.thread) p.next }

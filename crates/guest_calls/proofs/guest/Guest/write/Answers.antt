@@ -1,7 +1,7 @@
 use Rattle.std.proofs.Common.{◌≡◌, ◌∙◌, ◌≤◌, List, ℕ, length, sym, ap, arith, rules}
 use Rattle.rrv_model.specs.Memory.{bytes_at}
 use Rattle.rrv_model.specs.CallRows.{argument}
-use Rattle.guest_pages.proofs.Cells.{length_bytes_at}
+use Rattle.rrv_model.proofs.MemoryRules.{length_bytes_at}
 use Rattle.guest_calls.specs.Guest.{state_of, chunks_of}
 use Rattle.guest_calls.proofs.CallParts.{bytes_moved}
 use Rattle.guest_calls.proofs.guest.Guest.write.Goals as goal
