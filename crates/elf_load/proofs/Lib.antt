@@ -1,5 +1,5 @@
 mod Headers
 mod Pages
 mod Refusal
-pub mod Accepted
-mod Shares
+pub mod AcceptedLoads
+mod SharedBytes

@@ -1,11 +1,12 @@
 -- The opening memory keeps the rules of every guest's memory.
-use Rattle.std.proofs.Common.{◌≡◌, ℕ, zero, suc, ◌+◌, ◌-◌, ◌*◌, ◌/◌, ◌<◌, ◌≤◌, Bool, true, false, ◌||◌, if◌then◌else◌, List, [], ◌∷◌, ◌++◌, length, Option, Some, None, slice_index, IsTrue, arith, refl, ap, sym, ◌∙◌, subst}
+use Rattle.std.proofs.Common.{◌≡◌, ℕ, zero, suc, ◌+◌, ◌-◌, ◌*◌, ◌/◌, ◌<◌, ◌≤◌, Bool, true, false, if◌then◌else◌, List, [], ◌∷◌, ◌++◌, length, Option, Some, None, slice_index, arith, refl, ap, sym, ◌∙◌, subst}
 use Rattle.std.specs.Prelude.{flat_map, All, nat_lt}
 use Rattle.std.specs.List.{list_any}
 use Rattle.std.specs.Int.{w32, to_le_bytes, byte_at, bytes_low_first}
 use Rattle.std.proofs.lemmas.Bool.Decides.{nat_tests}
 use Rattle.std.proofs.lemmas.List.{get_or_past}
 use Rattle.std.proofs.lemmas.List.Elements.{All-nil, All-cons, All-append}
+use Rattle.std.proofs.lemmas.Bool.{or_right}
 use Rattle.rrv_model.specs.declared.machine.Permissions.{Permissions}
 use Rattle.rrv_model.specs.Memory.{Memory, Cell, stored, mapped, is_within, with_byte, is_mapped, pages_below, page_count, page_bytes, AlikeCells, FitsCell, IsMemory}
 use Rattle.rrv_model.specs.Elf.{Header, loads, touches, touched_below, refusal}
@@ -174,16 +175,12 @@ unfolding loaded_byte
 small-loaded file [] x small = omega arith
 small-loaded file (h ∷ hs) x small = small_if (is_within h.address h.file_len x) _ _ (small (h.offset + (x - h.address))) (small-loaded file hs x small)
 
-reads_too : (r w : Bool) → IsTrue w → IsTrue (r || w)
-reads_too true w h = refl
-reads_too false w h = h
-
 fits-image : (file : List ℕ) → AreBytes file → Fits (image_memory file)
 fits-image file small x =
     let page = x / page_bytes in
     let hs = loads file in
     fits_if (list_any (touches page) hs) (record { byte = loaded_byte file hs x; permissions = page_permissions page hs }) None
-    (small-loaded file hs x small, reads_too (page_has 4 page hs) (page_has 2 page hs)) tt
+    (small-loaded file hs x small, or_right (page_has 4 page hs) (page_has 2 page hs)) tt
 
 fits-bare : (file : List ℕ) → AreBytes file → Fits (bare_memory file)
 fits-bare file small x =

@@ -1,7 +1,7 @@
 -- The opening state is a state.
 use Rattle.std.proofs.Common.{◌≡◌, ℕ, ◌+◌, ◌*◌, ◌^◌, ◌<◌, ◌≤◌, max, Bool, true, false, not, ◌||◌, cond, ◌==◌, if◌then◌else◌, List, [], ◌∷◌, drop, Option, Some, None, slice_index, arith, refl, sym, ◌∙◌, subst, get_or}
 use Rattle.std.specs.Prelude.{All, fold, replicate, slice_set, IfSome, IsSome}
-use Rattle.std.specs.FinMap.{FinMap, get, insert, empty, len, get-insert, get-empty, len-insert, len-empty}
+use Rattle.std.specs.FinMap.{get, insert, empty, len, get-insert, get-empty, len-insert, len-empty}
 use Rattle.std.specs.Ordering.{nat_cmp, eq_by_cmp}
 use Rattle.std.specs.Cmp.{unsigned_tied}
 use Rattle.std.specs.List.{list_any}

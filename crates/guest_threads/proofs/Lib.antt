@@ -3,4 +3,4 @@ pub mod RunningTids
 pub mod SameThreads
 pub mod Rules
 pub mod Waking
-pub mod ToldThreads
+pub mod ThreadsOfParts

@@ -12,7 +12,8 @@ use Rattle.std.specs.Ordering.{nat_cmp, eq_by_cmp}
 use Rattle.rrv_model.specs.declared.machine.Thread.{Thread}
 use Rattle.rrv_model.specs.State.{IsThread, IsRunning, IsWaiting}
 use Rattle.guest_threads.specs.Threads.{AreThreads, changed}
-use Rattle.guest_threads.proofs.ByTid.{same_tid, tied}
+use Rattle.rrv_model.proofs.Threads.{tied}
+use Rattle.guest_threads.proofs.ByTid.{same_tid}
 
 -- ---- numbers that are apart
 

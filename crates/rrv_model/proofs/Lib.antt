@@ -14,3 +14,4 @@ pub mod SettledLaws
 pub mod StoreCallLaws
 pub mod RecoveredLaws
 pub mod StoreLaws
+pub mod Threads
