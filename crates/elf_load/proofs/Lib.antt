@@ -1,5 +1,5 @@
 mod Headers
 mod Pages
 mod Refusal
-pub mod AcceptedLoads
+pub mod Accepted
 mod SharedBytes
