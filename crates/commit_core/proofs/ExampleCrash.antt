@@ -11,8 +11,8 @@ use Rattle.commit_core.specs.Events.{run, IsSchedule}
 use Rattle.commit_core.specs.Example.{example_start, all_three, up_to_gate, torn_at_gate, GateMayTear}
 use Rattle.commit_core.proofs.ExampleGuest.{Ended, guest_ends}
 use Rattle.commit_core.proofs.ExampleWorld.{starts, gate_schedule, nothing_recovered}
-use Rattle.commit_core.proofs.Holds.{Holds}
-use Rattle.commit_core.proofs.Always.{start_holds, run_holds}
+use Rattle.commit_core.proofs.Invariant.{Invariant}
+use Rattle.commit_core.proofs.Schedules.{invariant_at_start, invariant_of_run}
 use Rattle.commit_core.proofs.Recovery.{hand_recovered}
 use Rattle.commit_core.proofs.Stages.{DiskAt, staged, tail, sound_by, store_text-push}
 
@@ -39,11 +39,11 @@ module _ (guest : Ended) where
   abbrev world : World
   world = run example_start (up_to_gate guest.written guest.ended)
 
-  holds : Holds world []
-  holds = run_holds example_start [] (up_to_gate guest.written guest.ended) (start_holds example_start [] starts) (gate_schedule guest)
+  invariant : Invariant world []
+  invariant = invariant_of_run example_start [] (up_to_gate guest.written guest.ended) (invariant_at_start example_start [] starts) (gate_schedule guest)
 
   at : DiskAt Opened world.disk [] all_three
-  at = holds.disk
+  at = invariant.disk
 
   may_leave : (gate : ℕ) → IsCrash world.disk.pending (torn_at_gate gate)
   may_leave gate = subst (λ (p : Pending). IsCrash p (torn_at_gate gate)) (sym at.1) (any_byte [] (body_text all_three) gate)
@@ -62,7 +62,7 @@ module _ (guest : Ended) where
   is_body = at.2.0
 
   pub finds_all : IsRecovered (body_text all_three ∷ []) all_three
-  finds_all = hand_recovered world [] holds is_body
+  finds_all = hand_recovered world [] invariant is_body
 
   pub may_leave_all : IsCrash world.disk.pending (closed_store (body_text all_three ∷ []))
   may_leave_all = subst (λ (l : List ℕ). IsCrash world.disk.pending l) open_text (may_leave 0xA5)

@@ -1,61 +1,34 @@
 -- Two guests at once.
-use Rattle.std.proofs.Common.{◌≡◌, ℕ, ◌+◌, ◌≤◌, [], ◌∷◌, length, refl, sym, subst, arith}
+use Rattle.std.proofs.Common.{◌≡◌, ℕ, ◌+◌, [], ◌∷◌, length, refl, subst, arith}
 use Rattle.rrv_model.specs.State.{State}
 use Rattle.rrv_model.specs.RecordText.{record_text, payload, opening_text, call_text}
-use Rattle.rrv_model.specs.Recording.{IsRecording}
 use Rattle.rrv_model.specs.Recovered.{body_text}
 use Rattle.commit_core.specs.World.{World, IsStart, IsReady}
 use Rattle.commit_core.specs.Events.{CanSlice, CanWrite, after, run, IsSchedule}
 use Rattle.commit_core.specs.Events.Event.{Slice, Push, Pop}
-use Rattle.commit_core.specs.Example.{example_state, example_recorder}
+use Rattle.commit_core.specs.Example.{example_recorder}
 use Rattle.commit_core.specs.ExampleGroup.{pair_start, opened_by, wrote_by, of_both, pair_events, BothLeave}
-use Rattle.commit_core.proofs.ExampleGuest.{Ended, opens, guest_ends}
-use Rattle.commit_core.proofs.ExampleWorld.{wrote_has_text, gate_len, is_ready, nothing_recovered, ends_low, first_put}
+use Rattle.commit_core.proofs.ExampleGuest.{Ended, guest_ends}
+use Rattle.commit_core.proofs.ExampleWorld.{gate_len, is_ready, starts_with, writes_short, writes_frame, nothing_recovered, first_put}
 
 pub pair_starts : IsStart pair_start []
-pair_starts = record {
-  some = omega arith;
-  few = omega arith;
-  recovered = nothing_recovered;
-  next = refl;
-  room = omega arith;
-  are_bodies = tt;
-  count = omega arith;
-  disk = record { read = refl; synced = refl };
-  ready = λ g two. let same : g ≡ 0 + g = omega arith in subst (λ (n : ℕ). IsReady n (example_recorder g)) same (is_ready g (omega (arith, two)));
-  queue = refl;
-  words = λ k. refl;
-  flusher = refl;
-}
+pair_starts = starts_with [] 0 2 example_recorder pair_start.disk [] (omega arith) (omega arith) (omega arith) nothing_recovered refl tt (omega arith)
+    (record { read = refl; synced = refl })
+    (λ g two. let same : g ≡ 0 + g = omega arith in subst (λ (n : ℕ). IsReady n (example_recorder g)) same (is_ready g (omega (arith, two))))
 
 both_len : length (body_text of_both) ≡ 352
 unfolding record_text payload opening_text call_text
 both_len = refl
 
 module _ (guest : Ended) where
-  makes : (number : ℕ) → IsRecording (opened_by number ∷ wrote_by number ∷ [])
-  makes number = record { guest = number; numbered = (refl, refl, (refl, refl, tt)); starts = (example_state, opens, (guest.written, guest.writes, tt)) }
-
   first_writes : CanSlice pair_start 0 (wrote_by 0) guest.written
-  first_writes = record {
-    guest = omega arith;
-    has_text = wrote_has_text 0 (omega arith);
-    recording = makes 0;
-    numbered = (refl, refl, (refl, refl, tt));
-    ends = (example_state, opens, (guest.written, guest.writes, (refl, refl)));
-  }
+  first_writes = writes_frame guest pair_start 0 (omega arith) (omega arith) refl
 
   abbrev one_wrote : World
   one_wrote = after pair_start (Slice 0 (wrote_by 0) guest.written)
 
   second_writes : CanSlice one_wrote 1 (wrote_by 1) guest.written
-  second_writes = record {
-    guest = omega arith;
-    has_text = wrote_has_text 1 (omega arith);
-    recording = makes 1;
-    numbered = (refl, refl, (refl, refl, tt));
-    ends = (example_state, opens, (guest.written, guest.writes, (refl, refl)));
-  }
+  second_writes = writes_frame guest one_wrote 1 (omega arith) (omega arith) refl
 
   abbrev both_received : World
   both_received = run one_wrote (
@@ -65,15 +38,7 @@ module _ (guest : Ended) where
       ∷ Pop (wrote_by 1) (wrote_by 0 ∷ []) ∷ Pop (wrote_by 0) [] ∷ [])
 
   can_commit : CanWrite both_received 4
-  can_commit = record {
-    idle = refl;
-    some = omega arith;
-    few = omega arith;
-    there = omega arith;
-    body = subst (λ (n : ℕ). n ≤ 8388608) (sym both_len) (omega arith);
-    number = omega arith;
-    store = ends_low _ _ (omega (arith, gate_len)) (omega (arith, both_len));
-  }
+  can_commit = writes_short both_received 4 refl (omega arith) (omega arith) (omega arith) (omega (arith, both_len)) (omega arith) (omega (arith, gate_len))
 
   pair_schedule : IsSchedule pair_start (pair_events guest.written)
   pair_schedule = (
@@ -97,4 +62,4 @@ module _ (guest : Ended) where
   )
 
 pub both_leave : (written : State) × IsSchedule pair_start (pair_events written) × BothLeave (run pair_start (pair_events written))
-both_leave = (guest_ends.written, pair_schedule guest_ends, record { body = refl; first = refl; second = refl })
+both_leave = (guest_ends.written, pair_schedule guest_ends, record { body = refl; first_out = refl; second_out = refl })

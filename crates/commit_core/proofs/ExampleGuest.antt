@@ -1,12 +1,12 @@
 -- The guest of the example: its file is accepted, and its frames lead on and put its byte out.
 use Rattle.std.proofs.Common.{◌≡◌, ⊎_elim, ℕ, zero, suc, ◌+◌, ◌<◌, ◌≤◌, Bool, true, false, not, cond, if◌then◌else◌, List, [], ◌∷◌, Option, Some, None, Ok, Result, refl, sym, ◌∙◌, ap, subst, arith, ◌-◌, ◌==◌}
-use Rattle.std.specs.Prelude.{is_some}
-use Rattle.std.specs.List.{list_any}
+use Rattle.std.specs.Prelude.{is_some, nat_lt, All}
+use Rattle.std.specs.List.{list_any, list_all}
 use Rattle.std.specs.Ordering.{nat_cmp}
 use Rattle.std.specs.Cmp.{nat_cmp_total, eq_by_cmp_equiv}
 use Rattle.std.specs.FinMap.{FinMap, get, insert, remove, empty, len, get-insert, get-empty, len-insert, len-remove, len-empty}
 use Rattle.std.proofs.lemmas.Bool.{cases_lt}
-use Rattle.std.proofs.lemmas.Bool.Decides.{nat_tests}
+use Rattle.std.proofs.lemmas.Bool.Decides.{nat_tests, Decides-by_and, Decides-ltb}
 use Rattle.std.proofs.lemmas.List.Elements.{All-from_recursion}
 use Rattle.rrv_model.specs.declared.instr.ImmediateOp.TheVariants.{Addi}
 use Rattle.rrv_model.specs.declared.instr.Instr.{Instr}
@@ -70,11 +70,17 @@ accepted : refusal example_elf ≡ None
 unfolding refusal headers_from any_share
 accepted = rw few_pages refl
 
+are_bytes : (bytes : List ℕ) → list_all (λ (b : ℕ). nat_lt b 256) bytes ≡ true → All (λ (b : ℕ). b < 256) bytes
+are_bytes bytes pass =
+    (Decides-by_and (λ (b : ℕ). nat_lt b 256) (λ (b : ℕ). b < 256) (list_all (λ (b : ℕ). nat_lt b 256)) (λ b. Decides-ltb b 256) refl (λ _ _. refl) bytes).0 pass
+
 pub opens : Opens example_elf example_opening.name example_opening.random example_state
 opens = record {
   accepted = accepted;
+  file_bytes = are_bytes example_elf refl;
   is_name = (omega arith, omega arith, All-from_recursion (λ (b : ℕ). (0x21 ≤ b) × (b ≤ 0x7E)) example_opening.name ((omega arith, omega arith), tt));
   sixteen = refl;
+  random_bytes = are_bytes example_opening.random refl;
   state_is = refl;
 }
 
@@ -83,33 +89,18 @@ opens = record {
 abbrev memory : Memory
 memory = opening_memory example_elf example_opening.name example_opening.random
 
-word_1 : fetched memory 0x10054 ≡ Ok 0x00100513
-unfolding all_cells bytes_at loaded_byte headers_address headers_from
-word_1 = refl
+record Program : Type 0 where
+  pub word_1 : fetched memory 0x10054 ≡ Ok 0x00100513
+  pub word_2 : fetched memory 0x10058 ≡ Ok 0x000105B7
+  pub word_3 : fetched memory 0x1005C ≡ Ok 0x00100613
+  pub word_4 : fetched memory 0x10060 ≡ Ok 0x04000893
+  pub word_5 : fetched memory 0x10064 ≡ Ok 0x00000073
+  pub word_6 : fetched memory 0x10068 ≡ Ok 0x05D00893
+  pub word_7 : fetched memory 0x1006C ≡ Ok 0x00000073
 
-word_2 : fetched memory 0x10058 ≡ Ok 0x000105B7
+program : Program
 unfolding all_cells bytes_at loaded_byte headers_address headers_from
-word_2 = refl
-
-word_3 : fetched memory 0x1005C ≡ Ok 0x00100613
-unfolding all_cells bytes_at loaded_byte headers_address headers_from
-word_3 = refl
-
-word_4 : fetched memory 0x10060 ≡ Ok 0x04000893
-unfolding all_cells bytes_at loaded_byte headers_address headers_from
-word_4 = refl
-
-word_5 : fetched memory 0x10064 ≡ Ok 0x00000073
-unfolding all_cells bytes_at loaded_byte headers_address headers_from
-word_5 = refl
-
-word_6 : fetched memory 0x10068 ≡ Ok 0x05D00893
-unfolding all_cells bytes_at loaded_byte headers_address headers_from
-word_6 = refl
-
-word_7 : fetched memory 0x1006C ≡ Ok 0x00000073
-unfolding all_cells bytes_at loaded_byte headers_address headers_from
-word_7 = refl
+program = record { word_1 = refl; word_2 = refl; word_3 = refl; word_4 = refl; word_5 = refl; word_6 = refl; word_7 = refl }
 
 li_a0 : Stands 0x00100513 (OpImm Addi 10 0 1)
 li_a0 = record { code_is = refl; f3_is = refl; rd_is = refl; rs1_is = refl; immediate_is = refl }
@@ -208,23 +199,23 @@ t8 = called_by t7
 
 step_1 : (s : State) → At s t0 → (mid : State) × StepsTo s 1 mid × At mid t1
 unfolding executed t0 t1
-step_1 s at = sets_one s t0 0x00100513 (OpImm Addi 10 0 1) 10 1 at word_1 li_a0 refl
+step_1 s at = sets_one s t0 0x00100513 (OpImm Addi 10 0 1) 10 1 at program.word_1 li_a0 refl
 
 step_2 : (s : State) → At s t1 → (mid : State) × StepsTo s 1 mid × At mid t2
 unfolding executed t0 t1 t2
-step_2 s at = sets_one s t1 0x000105B7 (Lui 11 0x10000) 11 0x10000 at word_2 lui_a1 refl
+step_2 s at = sets_one s t1 0x000105B7 (Lui 11 0x10000) 11 0x10000 at program.word_2 lui_a1 refl
 
 step_3 : (s : State) → At s t2 → (mid : State) × StepsTo s 1 mid × At mid t3
 unfolding executed t0 t1 t2 t3
-step_3 s at = sets_one s t2 0x00100613 (OpImm Addi 12 0 1) 12 1 at word_3 li_a2 refl
+step_3 s at = sets_one s t2 0x00100613 (OpImm Addi 12 0 1) 12 1 at program.word_3 li_a2 refl
 
 step_4 : (s : State) → At s t3 → (mid : State) × StepsTo s 1 mid × At mid t4
 unfolding executed t0 t1 t2 t3 t4
-step_4 s at = sets_one s t3 0x04000893 (OpImm Addi 17 0 64) 17 64 at word_4 li_a7 refl
+step_4 s at = sets_one s t3 0x04000893 (OpImm Addi 17 0 64) 17 64 at program.word_4 li_a7 refl
 
 step_6 : (s : State) → At s t6 → (mid : State) × StepsTo s 1 mid × At mid t7
 unfolding executed t0 t1 t2 t3 t4 t5 t6 t7
-step_6 s at = sets_one s t6 0x05D00893 (OpImm Addi 17 0 93) 17 93 at word_6 li_a7_again refl
+step_6 s at = sets_one s t6 0x05D00893 (OpImm Addi 17 0 93) 17 93 at program.word_6 li_a7_again refl
 
 call_one : (s : State) (t : Thread) → At s t → fetched memory t.regs.pc ≡ Ok 0x00000073 → (called : State) × CallsFrom s 1 called × At called (called_by t)
 unfolding executed
@@ -248,11 +239,11 @@ call_one s t at fetches =
 
 step_5 : (s : State) → At s t4 → (called : State) × CallsFrom s 1 called × At called t5
 unfolding t0 t1 t2 t3 t4 t5
-step_5 s at = call_one s t4 at word_5
+step_5 s at = call_one s t4 at program.word_5
 
 step_7 : (s : State) → At s t7 → (called : State) × CallsFrom s 1 called × At called t8
 unfolding t0 t1 t2 t3 t4 t5 t6 t7 t8
-step_7 s at = call_one s t7 at word_7
+step_7 s at = call_one s t7 at program.word_7
 
 -- ---- its calls
 

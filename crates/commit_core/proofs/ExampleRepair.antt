@@ -14,16 +14,16 @@ use Rattle.commit_core.specs.World.{World, IsStart, IsAtRest, store_text, closed
 use Rattle.commit_core.specs.World.Stage.{Opened}
 use Rattle.commit_core.specs.Events.{CanWrite, run, IsSchedule}
 use Rattle.commit_core.specs.Events.Event.{Look, Release, WriteBody, Sync1, OpenGate, Sync2, Publish}
-use Rattle.commit_core.specs.Sessions.{Goes, AreSessions, fresh_disk, opened_disk}
+use Rattle.commit_core.specs.Sessions.{IsSession, AreSessions, fresh_disk, opened_disk}
 use Rattle.commit_core.specs.Sessions.Session.{StoppedOpening}
 use Rattle.commit_core.specs.Example.{example_start, exited}
 use Rattle.commit_core.specs.ExampleRepair.{first_two, first_body, up_to_second_gate, torn_store, repaired_disk, repaired_start, repair_sessions, IsRepaired}
 use Rattle.commit_core.proofs.ExampleGuest.{Ended, guest_ends}
-use Rattle.commit_core.proofs.ExampleWorld.{gate_len, starts, starts_on, ends_low, all_received, then_schedule, first_put}
+use Rattle.commit_core.proofs.ExampleWorld.{gate_len, starts, starts_at, writes_short, all_received, then_schedule, first_put}
 use Rattle.commit_core.proofs.ExampleCrash.{any_byte}
-use Rattle.commit_core.proofs.ExampleSessions.{goes_on}
-use Rattle.commit_core.proofs.Holds.{Holds}
-use Rattle.commit_core.proofs.Always.{start_holds, run_holds}
+use Rattle.commit_core.proofs.ExampleSessions.{session_on}
+use Rattle.commit_core.proofs.Invariant.{Invariant}
+use Rattle.commit_core.proofs.Schedules.{invariant_at_start, invariant_of_run}
 use Rattle.commit_core.proofs.Recovery.{stored_recovered}
 use Rattle.commit_core.proofs.Stages.{DiskAt, store_text-push}
 use Rattle.commit_core.proofs.Opening.{open_end}
@@ -52,29 +52,13 @@ store_len =
 
 module _ (guest : Ended) where
   can_first : CanWrite (all_received guest) 2
-  can_first = record {
-    idle = refl;
-    some = omega arith;
-    few = omega arith;
-    there = omega arith;
-    body = subst (λ (n : ℕ). n ≤ 8388608) (sym two_len) (omega arith);
-    number = omega arith;
-    store = ends_low _ _ (omega (arith, gate_len)) (omega (arith, two_len));
-  }
+  can_first = writes_short (all_received guest) 2 refl (omega arith) (omega arith) (omega arith) (omega (arith, two_len)) (omega arith) (omega (arith, gate_len))
 
   abbrev one_committed : World
   one_committed = run (all_received guest) (WriteBody 2 ∷ Sync1 ∷ OpenGate ∷ Sync2 ∷ Publish 0 ∷ Look 0 ∷ Release 0 ((1, 0x7F) ∷ []) ∷ [])
 
   can_second : CanWrite one_committed 1
-  can_second = record {
-    idle = refl;
-    some = omega arith;
-    few = omega arith;
-    there = omega arith;
-    body = subst (λ (n : ℕ). n ≤ 8388608) (sym one_len) (omega arith);
-    number = omega arith;
-    store = ends_low _ _ (omega (arith, store_len)) (omega (arith, one_len));
-  }
+  can_second = writes_short one_committed 1 refl (omega arith) (omega arith) (omega arith) (omega (arith, one_len)) (omega arith) (omega (arith, store_len))
 
   schedule : IsSchedule example_start (up_to_second_gate guest.written guest.ended)
   schedule = then_schedule guest
@@ -84,20 +68,20 @@ module _ (guest : Ended) where
   abbrev world : World
   world = run example_start (up_to_second_gate guest.written guest.ended)
 
-  holds : Holds world []
-  holds = run_holds example_start [] (up_to_second_gate guest.written guest.ended) (start_holds example_start [] starts) schedule
+  invariant : Invariant world []
+  invariant = invariant_of_run example_start [] (up_to_second_gate guest.written guest.ended) (invariant_at_start example_start [] starts) schedule
 
   at : DiskAt Opened world.disk first_body (exited ∷ [])
-  at = holds.disk
+  at = invariant.disk
 
   crash : IsCrash world.disk.pending torn_store
   crash = subst (λ (p : Pending). IsCrash p torn_store) (sym at.1) (any_byte first_body (body_text (exited ∷ [])) 0x21)
 
   sizes : AllByRecursion IsBody first_body
-  sizes = holds.sizes
+  sizes = invariant.store.sizes
 
   found : IsRecovered first_body first_two
-  found = stored_recovered world [] holds
+  found = stored_recovered world [] invariant
 
   -- ---- the second session
 
@@ -128,28 +112,13 @@ module _ (guest : Ended) where
   rests = subst (λ (disk : DiskState). IsAtRest disk (closed_store first_body)) (sym repaired_is) (open_end (fresh_disk torn_store) first_body store)
 
   again : IsStart repaired_start first_two
-  again =
-      let start = starts_on first_body 1 first_two (omega arith) found refl sizes (omega arith) in
-      record {
-        some = start.some;
-        few = start.few;
-        recovered = start.recovered;
-        next = start.next;
-        room = start.room;
-        are_bodies = start.are_bodies;
-        count = start.count;
-        disk = rests;
-        ready = start.ready;
-        queue = start.queue;
-        words = start.words;
-        flusher = start.flusher;
-      }
+  again = starts_at first_body 1 repaired_disk first_two (omega arith) found refl sizes (omega arith) rests
 
   -- the write that closes the gate is stopped, and the gate is torn as it was
   abbrev closing : DiskState
   closing = after_write (after_sync (fresh_disk torn_store)) (length (store_text first_body)) (0 ∷ [])
 
-  stops : Goes (fresh_disk torn_store) StoppedOpening closing
+  stops : IsSession (fresh_disk torn_store) StoppedOpening closing
   unfolding store_text store
   stops = (first_body, store, inr (inr (inr (inr (inl refl)))))
 
@@ -160,7 +129,7 @@ module _ (guest : Ended) where
   sessions = (
     world.disk,
     fresh_disk torn_store,
-    goes_on [] tt (omega arith) 0 [] (up_to_second_gate guest.written guest.ended) starts schedule,
+    session_on [] tt (omega arith) 0 [] (up_to_second_gate guest.written guest.ended) starts schedule,
     inr (torn_store, crash, refl),
     (
       closing,

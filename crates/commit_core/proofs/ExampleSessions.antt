@@ -8,7 +8,7 @@ use Rattle.rrv_model.specs.StoreText.{header, segments, IsBody, IsStore}
 use Rattle.rrv_model.specs.Recovered.{body_text}
 use Rattle.commit_core.specs.World.{IsStart, store_text, closed_store}
 use Rattle.commit_core.specs.Events.{Event, run, IsSchedule}
-use Rattle.commit_core.specs.Sessions.{Goes, AreSessions, CanOpen, fresh_disk}
+use Rattle.commit_core.specs.Sessions.{IsSession, AreSessions, CanOpen, fresh_disk}
 use Rattle.commit_core.specs.Sessions.Session.{Ran}
 use Rattle.commit_core.specs.Example.{start_on, example_start, all_three, up_to_gate, two_sessions}
 use Rattle.commit_core.proofs.ExampleGuest.{guest_ends}
@@ -24,9 +24,9 @@ module _ (bodies : List (List ℕ)) (sizes : AllByRecursion IsBody bodies) (few 
   abbrev closed_at_end : IsStore (closed_store bodies) bodies
   closed_at_end = record { gate = 0; behind = []; text = closed_text bodies; not_open = λ e. absurd (omega (arith, e)); each = sizes; count = omega (arith, few) }
 
-  pub goes_on : (number : ℕ) (old : List Record) (events : List Event) → IsStart (start_on bodies number) old → IsSchedule (start_on bodies number) events →
-      Goes (fresh_disk (closed_store bodies)) (Ran (start_on bodies number) old events) (run (start_on bodies number) events).disk
-  goes_on number old events is schedule = (closed_at_end, refl, is, schedule, refl)
+  pub session_on : (number : ℕ) (old : List Record) (events : List Event) → IsStart (start_on bodies number) old → IsSchedule (start_on bodies number) events →
+      IsSession (fresh_disk (closed_store bodies)) (Ran (start_on bodies number) old events) (run (start_on bodies number) events).disk
+  session_on number old events is schedule = (closed_at_end, refl, is, schedule, refl)
 
 pub first_opens : CanOpen (closed_store [])
 first_opens = record { bodies = []; store = closed_at_end [] tt (omega arith); are = ([], nothing_recovered); next = inl refl }
@@ -46,8 +46,8 @@ sessions_follow =
       (
         stop,
         next,
-        goes_on [] tt (omega arith) 0 [] (up_to_gate guest.written guest.ended) starts schedule,
+        session_on [] tt (omega arith) 0 [] (up_to_gate guest.written guest.ended) starts schedule,
         inr (closed_store bodies, may_leave_all guest, refl),
-        (end, end, goes_on bodies (is_body guest, tt) (omega arith) 1 all_three [] again tt, inl refl, refl),
+        (end, end, session_on bodies (is_body guest, tt) (omega arith) 1 all_three [] again tt, inl refl, refl),
       ),
     )

@@ -1,5 +1,5 @@
 -- The example's start and its events.
-use Rattle.std.proofs.Common.{◌≡◌, ℕ, zero, suc, ◌+◌, ◌^◌, ◌<◌, ◌≤◌, true, List, [], ◌∷◌, ◌++◌, length, refl, sym, subst, arith, add-zero, Some}
+use Rattle.std.proofs.Common.{◌≡◌, ℕ, zero, suc, ◌+◌, ◌^◌, ◌<◌, ◌≤◌, true, List, [], ◌∷◌, ◌++◌, length, refl, sym, ap, subst, arith, add-zero, Some}
 use Rattle.std.specs.Prelude.{nat_lt, All}
 use Rattle.std.specs.List.{list_all, AllByRecursion}
 use Rattle.std.proofs.lemmas.Bool.Decides.{Decides-by_and, Decides-ltb}
@@ -8,27 +8,21 @@ use Rattle.rrv_model.specs.declared.record.End.TheVariants as ends
 use Rattle.rrv_model.specs.declared.record.Frame.{Frame}
 use Rattle.rrv_model.specs.declared.record.Item.TheVariants as items
 use Rattle.rrv_model.specs.declared.record.Record.{Record}
+use Rattle.rrv_model.specs.CrashModel.{DiskState}
 use Rattle.rrv_model.specs.State.{State}
 use Rattle.rrv_model.specs.RecordText.{HasText, record_text, payload, opening_text, call_text}
-use Rattle.rrv_model.specs.Recording.{frame_record}
+use Rattle.rrv_model.specs.Recording.{IsRecording, IsNumbered, EndsIn, frame_record, items_of}
 use Rattle.rrv_model.specs.StoreText.{IsBody}
 use Rattle.rrv_model.specs.Recovered.{body_text, next_guest, IsRecovered}
 use Rattle.commit_core.specs.Runs.{IsOutput}
-use Rattle.commit_core.specs.World.{World, IsStart, IsReady, opening_record, store_text}
-use Rattle.commit_core.specs.Events.{Event, CanSlice, CanWrite, after, run, IsSchedule}
+use Rattle.commit_core.specs.World.{World, Recorder, IsStart, IsReady, IsAtRest, made, opening_record, stored_bodies, store_text, closed_store}
+use Rattle.commit_core.specs.World.Stage.{Idle}
+use Rattle.commit_core.specs.Events.{Event, CanSlice, CanWrite, after, run, gate_place, next_body, IsSchedule}
 use Rattle.commit_core.specs.Events.Event.{Slice, WriteBody, Sync1, OpenGate}
 use Rattle.commit_core.specs.Example.{example_opening, example_state, example_recorder, start_on, example_start, opened, wrote, exited, write_frame, all_three, up_to_received, up_to_gate, from_gate_on, up_to_release}
 use Rattle.commit_core.proofs.ExampleGuest.{Ended, the_byte, opens, guest_ends}
 
 -- ---- texts
-
-are_bytes : (bytes : List ℕ) → list_all (λ (b : ℕ). nat_lt b 256) bytes ≡ true → All (λ (b : ℕ). b < 256) bytes
-are_bytes bytes pass =
-    (Decides-by_and (λ (b : ℕ). nat_lt b 256) (λ (b : ℕ). b < 256) (list_all (λ (b : ℕ). nat_lt b 256)) (λ b. Decides-ltb b 256) refl (λ _ _. refl) bytes).0 pass
-
-payload_len : length (payload opened.item) ≡ 134
-unfolding payload opening_text
-payload_len = refl
 
 opened_has_text : (number : ℕ) → number ≤ 1 → HasText (opening_record number example_opening)
 opened_has_text number low = record {
@@ -36,20 +30,15 @@ opened_has_text number low = record {
   index = omega arith;
   item = record {
     elf = omega arith;
-    elf_bytes = are_bytes example_opening.elf refl;
+    elf_bytes = opens.file_bytes;
     name = opens.is_name;
     random = refl;
-    random_bytes = are_bytes example_opening.random refl;
+    random_bytes = opens.random_bytes;
   };
-  payload_len = subst (λ (n : ℕ). n < 2 ^ 32) (sym payload_len) (omega arith);
 }
 
 abbrev call_frame : ℕ → ℕ → Frame
 call_frame count result = record { tid = 1; count = count; end = ends.Call (record { result = result; written = [] }) }
-
-call_payload_len : (count result : ℕ) → length (payload (items.Frame (call_frame count result))) ≡ 16
-unfolding payload call_text
-call_payload_len count result = refl
 
 call_has_text : (number index count result : ℕ) → number ≤ 1 → index ≤ 2 → 1 ≤ count → count ≤ 5 → result ≤ 1 → HasText (frame_record number index (call_frame count result))
 call_has_text number index count result one low some few small = record {
@@ -59,11 +48,7 @@ call_has_text number index count result one low some few small = record {
     record { tid_low = omega arith; tid_high = omega arith; count_low = some; count_high = omega (arith, few) },
     record { result = omega (arith, small); two = omega arith; written = tt },
   );
-  payload_len = subst (λ (n : ℕ). n < 2 ^ 32) (sym (call_payload_len count result)) (omega arith);
 }
-
-pub wrote_has_text : (number : ℕ) → number ≤ 1 → HasText (frame_record number 1 write_frame)
-wrote_has_text number low = call_has_text number 1 5 1 low (omega arith) (omega arith) (omega arith) (omega arith)
 
 exited_has_text : HasText exited
 exited_has_text = call_has_text 0 2 2 0 (omega arith) (omega arith) (omega arith) (omega arith) (omega arith)
@@ -86,22 +71,35 @@ ready number zero low one = subst (λ (n : ℕ). IsReady n (example_recorder num
 ready number (suc g) low one = absurd (omega (arith, one))
 
 -- a store with these bodies, from which these records are recovered, can be recorded into
-pub starts_on : (bodies : List (List ℕ)) (number : ℕ) (old : List Record) → number ≤ 1 → IsRecovered bodies old → number ≡ next_guest old →
-    AllByRecursion IsBody bodies → length bodies ≤ 1 → IsStart (start_on bodies number) old
-starts_on bodies number old low recovered next sizes few = record {
-  some = omega arith;
-  few = omega arith;
+pub starts_with : (bodies : List (List ℕ)) (number guests : ℕ) (recorders : ℕ → Recorder) (disk : DiskState) (old : List Record)
+    → number ≤ 1 → 1 ≤ guests → guests ≤ 2 → IsRecovered bodies old → number ≡ next_guest old → AllByRecursion IsBody bodies → length bodies ≤ 1
+    → IsAtRest disk (closed_store bodies) → ((g : ℕ) → g < guests → IsReady (number + g) (recorders g))
+    → IsStart (record (start_on bodies number) { guests = guests; recorders = recorders; disk = disk }) old
+starts_with bodies number guests recorders disk old low some two recovered next sizes few rests ready = record {
+  some = some;
+  few = omega (arith, two);
   recovered = recovered;
   next = next;
-  room = omega (arith, low);
+  room = omega (arith, low, two);
   are_bodies = sizes;
   count = omega (arith, few);
-  disk = record { read = refl; synced = refl };
-  ready = λ g one. ready number g low one;
+  disk = rests;
+  ready = ready;
   queue = refl;
   words = λ k. refl;
   flusher = refl;
 }
+
+-- one guest
+pub starts_at : (bodies : List (List ℕ)) (number : ℕ) (disk : DiskState) (old : List Record) → number ≤ 1 → IsRecovered bodies old → number ≡ next_guest old
+    → AllByRecursion IsBody bodies → length bodies ≤ 1 → IsAtRest disk (closed_store bodies) → IsStart (record (start_on bodies number) { disk = disk }) old
+starts_at bodies number disk old low recovered next sizes few rests =
+    starts_with bodies number 1 (λ g. example_recorder number) disk old low (omega arith) (omega arith) recovered next sizes few rests (λ g one. ready number g low one)
+
+pub starts_on : (bodies : List (List ℕ)) (number : ℕ) (old : List Record) → number ≤ 1 → IsRecovered bodies old → number ≡ next_guest old →
+    AllByRecursion IsBody bodies → length bodies ≤ 1 → IsStart (start_on bodies number) old
+starts_on bodies number old low recovered next sizes few =
+    starts_at bodies number (start_on bodies number).disk old low recovered next sizes few (record { read = refl; synced = refl })
 
 pub nothing_recovered : IsRecovered [] []
 nothing_recovered = record { batches = []; texts = tt; joined = refl; in_order = record { numbered = λ guest. tt; opened = tt } }
@@ -111,9 +109,18 @@ starts = starts_on [] 0 [] (omega arith) nothing_recovered refl tt (omega arith)
 
 -- ---- the events
 
--- what is written ends far below the greatest length of a store
-pub ends_low : (place len : ℕ) → place ≤ 1000 → len ≤ 1000 → place + len + 42 ≤ 2 ^ 40
-ends_low place len p l = omega (arith, p, l)
+-- a short body may be written behind a short store
+pub writes_short : (w : World) (count : ℕ) → w.flusher.stage ≡ Idle → 1 ≤ count → count ≤ 64 → count ≤ length w.flusher.waiting
+    → length (next_body w count) ≤ 1000 → length (stored_bodies w) ≤ 1 → gate_place w ≤ 1000 → CanWrite w count
+writes_short w count idle some few there short bodies low = record {
+  idle = idle;
+  some = some;
+  few = few;
+  there = there;
+  body = omega (arith, short);
+  number = omega (arith, bodies);
+  store = omega (arith, low, short);
+}
 
 schedule_both : (w : World) (xs ys : List Event) → IsSchedule w xs → IsSchedule (run w xs) ys → IsSchedule w (xs ++ ys)
 schedule_both w [] ys a b = b
@@ -123,14 +130,27 @@ module _ (guest : Ended) where
   abbrev one_more : World
   one_more = after example_start (Slice 0 wrote guest.written)
 
+  -- a recorder that has its Opening alone makes the frame that writes
+  pub writes_frame : (w : World) (g : ℕ) → g < w.guests → w.first_guest + g ≤ 1 → made (w.recorders g) ≡ opening_record (w.first_guest + g) example_opening ∷ []
+      → CanSlice w g (frame_record (w.first_guest + g) 1 write_frame) guest.written
+  writes_frame w g there low is =
+      let number = w.first_guest + g in
+      let frame = frame_record number 1 write_frame in
+      let both = opening_record number example_opening ∷ frame ∷ [] in
+      let same : made (w.recorders g) ++ frame ∷ [] ≡ both = ap (λ (l : List Record). l ++ frame ∷ []) is in
+      let recording : IsRecording both = record { guest = number; numbered = (refl, refl, (refl, refl, tt)); starts = (example_state, opens, (guest.written, guest.writes, tt)) } in
+      let numbered : IsNumbered number 0 both = (refl, refl, (refl, refl, tt)) in
+      let ends : EndsIn (items_of both) guest.written = (example_state, opens, (guest.written, guest.writes, (refl, refl))) in
+      record {
+        guest = there;
+        has_text = call_has_text number 1 5 1 low (omega arith) (omega arith) (omega arith) (omega arith);
+        recording = subst IsRecording (sym same) recording;
+        numbered = subst (IsNumbered number 0) (sym same) numbered;
+        ends = subst (λ (l : List Record). EndsIn (items_of l) guest.written) (sym same) ends;
+      }
+
   can_write : CanSlice example_start 0 wrote guest.written
-  can_write = record {
-    guest = omega arith;
-    has_text = wrote_has_text 0 (omega arith);
-    recording = record { guest = 0; numbered = (refl, refl, (refl, refl, tt)); starts = (example_state, opens, (guest.written, guest.writes, tt)) };
-    numbered = (refl, refl, (refl, refl, tt));
-    ends = (example_state, opens, (guest.written, guest.writes, (refl, refl)));
-  }
+  can_write = writes_frame example_start 0 (omega arith) (omega arith) refl
 
   can_exit : CanSlice one_more 0 exited guest.ended
   can_exit = record {
@@ -149,15 +169,7 @@ module _ (guest : Ended) where
   all_received = run example_start (up_to_received guest.written guest.ended)
 
   pub can_commit : CanWrite all_received 3
-  can_commit = record {
-    idle = refl;
-    some = omega arith;
-    few = omega arith;
-    there = omega arith;
-    body = subst (λ (n : ℕ). n ≤ 8388608) (sym body_len) (omega arith);
-    number = omega arith;
-    store = ends_low _ _ (omega (arith, gate_len)) (omega (arith, body_len));
-  }
+  can_commit = writes_short all_received 3 refl (omega arith) (omega arith) (omega arith) (omega (arith, body_len)) (omega arith) (omega (arith, gate_len))
 
   pub received_schedule : IsSchedule example_start (up_to_received guest.written guest.ended)
   received_schedule = (

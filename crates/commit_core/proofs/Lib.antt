@@ -1,13 +1,13 @@
 mod Lists
 mod Runs
 mod Stages
-mod Holds
+mod Invariant
 mod Rows
-mod Always
+mod Schedules
 mod Recovery
 mod Opening
 mod Sessions
-mod EachSession
+mod SessionSafety
 mod FailedCalls
 mod ExampleGuest
 mod ExampleWorld

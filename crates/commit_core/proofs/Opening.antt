@@ -11,8 +11,8 @@ use Rattle.rrv_model.specs.StoreCalls.DiskCall.{Write, Sync}
 use Rattle.rrv_model.proofs.CrashLaws.{crash_synced, crash_torn, crash_cut}
 use Rattle.rrv_model.proofs.StoreLaws.{store_parts}
 use Rattle.commit_core.specs.World.{IsAtRest, store_text, closed_store}
-use Rattle.commit_core.specs.Sessions.{IsStoreOf}
-use Rattle.commit_core.proofs.Stages.{Gives, crash_failed, crash_failed_cut, closed_store_of, ajar_store_of, text_of_store}
+use Rattle.commit_core.specs.Sessions.{Gives, IsStoreOf}
+use Rattle.commit_core.proofs.Stages.{crash_failed, crash_failed_cut, closed_store_of, ajar_store_of, text_of_store}
 
 -- where the last gate stands
 place_is : (bodies : List (List ℕ)) → length (header ++ segments 0 bodies) ≡ length (store_text bodies)

@@ -12,13 +12,13 @@ use Rattle.rrv_model.specs.StoreText.{IsBody, IsSound}
 use Rattle.rrv_model.specs.Recovered.{body_text, of_guest, next_guest, IsRecovered, AreBodyTexts, OpensAtZero}
 use Rattle.rrv_model.proofs.RunLaws.{one_end_state}
 use Rattle.commit_core.specs.Runs.{IsOutput, IsAt, total_of}
-use Rattle.commit_core.specs.World.{World, made, committed, stored_bodies, joined}
-use Rattle.commit_core.specs.Facts.{Replays, Recovers, IsRun}
-use Rattle.commit_core.specs.Sessions.{IsStoreOf}
+use Rattle.commit_core.specs.World.{World, made, committed_count, stored_bodies, joined}
+use Rattle.commit_core.specs.Facts.{Replays, RecoversFrom, Recovers, IsRun}
+use Rattle.commit_core.specs.Sessions.{Gives, GrowsTo, IsStoreOf}
 use Rattle.commit_core.proofs.Lists.{all_both, all_front, all_back, all_weaker, of_guest-append, none_of_guest, joined-append, joined-push}
 use Rattle.commit_core.proofs.Runs.{output_further, recording_front, there_is, below_total, at_total_is_end, items_of-append}
-use Rattle.commit_core.proofs.Holds.{total, IsOwn, Holds}
-use Rattle.commit_core.proofs.Stages.{Outcome, Gives, some_records, outcome_at, sound_outcome, closed_sound, outcome_store_of}
+use Rattle.commit_core.proofs.Invariant.{total, IsOwn, Invariant}
+use Rattle.commit_core.proofs.Stages.{Outcome, some_records, outcome_at, sound_outcome, closed_sound, outcome_store_of}
 
 -- ---- numbers of guests
 
@@ -92,80 +92,85 @@ replays_front (x ∷ front) rest whole number states is some run =
 
 -- ---- the bodies of before, and batches that the group finished, or had in hand
 
-module _ (w : World) (old : List Record) (holds : Holds w old) (batches : List (List Record)) (rest : List Record)
+-- the bodies are those of before and then more with records of the group, and from them it is recovered
+pub record LeftBehind (w : World) (old : List Record) (bodies : List (List ℕ)) : Type 0 where
+  pub from : RecoversFrom w old bodies
+  pub grows : GrowsTo (record { bodies = w.bodies; first_guest = w.first_guest }) bodies
+
+module _ (w : World) (old : List Record) (invariant : Invariant w old) (batches : List (List Record)) (rest : List Record)
     (front : joined batches ++ rest ≡ total w) (bodies : List (List ℕ)) (text : bodies ≡ w.bodies ++ map body_text batches)
     (sizes : AllByRecursion IsBody (map body_text batches))
-    (enough : (g : ℕ) → g < w.guests → committed (w.first + g) w.flusher ≤ length (of_guest (w.first + g) (joined batches))) where
+    (enough : (g : ℕ) → g < w.guests → committed_count (w.first_guest + g) w.flusher ≤ length (of_guest (w.first_guest + g) (joined batches))) where
   gained : List Record
   gained = joined batches
 
   all : List Record
   all = old ++ gained
 
-  own : AllByRecursion (IsOwn w.first w.guests) (joined batches)
-  own = all_front (IsOwn w.first w.guests) (joined batches) rest (subst (AllByRecursion (IsOwn w.first w.guests)) (sym front) holds.own)
+  own : AllByRecursion (IsOwn w.first_guest w.guests) (joined batches)
+  own = all_front (IsOwn w.first_guest w.guests) (joined batches) rest (subst (AllByRecursion (IsOwn w.first_guest w.guests)) (sym front) invariant.own)
 
-  old_below : AllByRecursion (λ (r : Record). r.guest < w.first) old
-  old_below = subst (λ (n : ℕ). AllByRecursion (λ (r : Record). r.guest < n) old) (sym holds.next) (all_below old)
+  old_below : AllByRecursion (λ (r : Record). r.guest < w.first_guest) old
+  old_below = subst (λ (n : ℕ). AllByRecursion (λ (r : Record). r.guest < n) old) (sym invariant.store.next) (all_below old)
 
   split : (h : ℕ) → of_guest h (old ++ joined batches) ≡ of_guest h old ++ of_guest h (joined batches)
   split h = of_guest-append h old (joined batches)
 
   -- of a lower number there are the records of before
-  lower : (h : ℕ) → h < w.first → of_guest h (old ++ joined batches) ≡ of_guest h old
+  lower : (h : ℕ) → h < w.first_guest → of_guest h (old ++ joined batches) ≡ of_guest h old
   lower h l = split h
-      ∙ ap (λ (r : List Record). of_guest h old ++ r) (none_of_guest h (joined batches) (all_weaker (IsOwn w.first w.guests) (λ r. r.guest ≢ h) (joined batches) (λ r o e. omega (arith, o.low, e, l)) own))
+      ∙ ap (λ (r : List Record). of_guest h old ++ r) (none_of_guest h (joined batches) (all_weaker (IsOwn w.first_guest w.guests) (λ r. r.guest ≢ h) (joined batches) (λ r o e. omega (arith, o.low, e, l)) own))
       ∙ append-nil (of_guest h old)
 
   -- of a number of the group or above those of the group alone
-  upper : (h : ℕ) → w.first ≤ h → of_guest h (old ++ joined batches) ≡ of_guest h (joined batches)
+  upper : (h : ℕ) → w.first_guest ≤ h → of_guest h (old ++ joined batches) ≡ of_guest h (joined batches)
   upper h l = split h
-      ∙ ap (λ (r : List Record). r ++ of_guest h (joined batches)) (none_of_guest h old (all_weaker (λ r. r.guest < w.first) (λ r. r.guest ≢ h) old (λ r b e. omega (arith, b, e, l)) old_below))
+      ∙ ap (λ (r : List Record). r ++ of_guest h (joined batches)) (none_of_guest h old (all_weaker (λ r. r.guest < w.first_guest) (λ r. r.guest ≢ h) old (λ r b e. omega (arith, b, e, l)) old_below))
 
   -- which are a beginning of what its recorder sent
-  sent_is : (g : ℕ) → g < w.guests → of_guest (w.first + g) (joined batches) ++ of_guest (w.first + g) rest ≡ (w.recorders g).sent
-  sent_is g l = sym (of_guest-append (w.first + g) (joined batches) rest) ∙ ap (of_guest (w.first + g)) front ∙ (holds.each g l).sent
+  sent_is : (g : ℕ) → g < w.guests → of_guest (w.first_guest + g) (joined batches) ++ of_guest (w.first_guest + g) rest ≡ (w.recorders g).sent
+  sent_is g l = sym (of_guest-append (w.first_guest + g) (joined batches) rest) ∙ ap (of_guest (w.first_guest + g)) front ∙ (invariant.each g l).sent
 
-  made_is : (g : ℕ) → g < w.guests → of_guest (w.first + g) (joined batches) ++ (of_guest (w.first + g) rest ++ (w.recorders g).backlog) ≡ made (w.recorders g)
-  made_is g l = sym (append_assoc (of_guest (w.first + g) (joined batches)) (of_guest (w.first + g) rest) (w.recorders g).backlog)
+  made_is : (g : ℕ) → g < w.guests → of_guest (w.first_guest + g) (joined batches) ++ (of_guest (w.first_guest + g) rest ++ (w.recorders g).backlog) ≡ made (w.recorders g)
+  made_is g l = sym (append_assoc (of_guest (w.first_guest + g) (joined batches)) (of_guest (w.first_guest + g) rest) (w.recorders g).backlog)
       ∙ ap (λ (k : List Record). k ++ (w.recorders g).backlog) (sent_is g l)
 
   numbered : (h : ℕ) → IsNumbered h 0 (of_guest h (old ++ joined batches))
   numbered h = ⊎_elim
-      (λ low. subst (IsNumbered h 0) (sym (lower h low)) (holds.recovered.in_order.numbered h))
-      (λ high. subst (IsNumbered h 0) (sym (upper h high)) (⊎_elim (ours high) above (less_or_more h (w.first + w.guests))))
-      (less_or_more h w.first)
+      (λ low. subst (IsNumbered h 0) (sym (lower h low)) (invariant.store.recovered.in_order.numbered h))
+      (λ high. subst (IsNumbered h 0) (sym (upper h high)) (⊎_elim (ours high) above (less_or_more h (w.first_guest + w.guests))))
+      (less_or_more h w.first_guest)
     where
-      ours : w.first ≤ h → h < w.first + w.guests → IsNumbered h 0 (of_guest h (joined batches))
+      ours : w.first_guest ≤ h → h < w.first_guest + w.guests → IsNumbered h 0 (of_guest h (joined batches))
       ours high l =
-          let g = h - w.first in
-          let is : w.first + g ≡ h = omega (arith, high) in
+          let g = h - w.first_guest in
+          let is : w.first_guest + g ≡ h = omega (arith, high) in
           subst (λ (k : ℕ). IsNumbered k 0 (of_guest k (joined batches))) is
-          (numbered_front (w.first + g) 0 (of_guest (w.first + g) (joined batches)) (of_guest (w.first + g) rest ++ (w.recorders g).backlog)
-          (subst (IsNumbered (w.first + g) 0) (sym (made_is g (omega (arith, l, high)))) (holds.each g (omega (arith, l, high))).recorder.numbered))
+          (numbered_front (w.first_guest + g) 0 (of_guest (w.first_guest + g) (joined batches)) (of_guest (w.first_guest + g) rest ++ (w.recorders g).backlog)
+          (subst (IsNumbered (w.first_guest + g) 0) (sym (made_is g (omega (arith, l, high)))) (invariant.each g (omega (arith, l, high))).recording.run.numbered))
 
-      above : w.first + w.guests ≤ h → IsNumbered h 0 (of_guest h (joined batches))
-      above l = subst (IsNumbered h 0) (sym (none_of_guest h (joined batches) (all_weaker (IsOwn w.first w.guests) (λ r. r.guest ≢ h) (joined batches) (λ r o e. omega (arith, o.high, e, l)) own))) tt
+      above : w.first_guest + w.guests ≤ h → IsNumbered h 0 (of_guest h (joined batches))
+      above l = subst (IsNumbered h 0) (sym (none_of_guest h (joined batches) (all_weaker (IsOwn w.first_guest w.guests) (λ r. r.guest ≢ h) (joined batches) (λ r o e. omega (arith, o.high, e, l)) own))) tt
 
   pub is_recovered : IsRecovered bodies (old ++ joined batches)
   is_recovered = record {
-    batches = holds.recovered.batches ++ batches;
-    texts = subst (λ (b : List (List ℕ)). AreBodyTexts b (holds.recovered.batches ++ batches)) (sym text)
-        (texts_both w.bodies (map body_text batches) holds.recovered.batches batches holds.recovered.texts
-        (batch_texts batches (all_weaker (IsOwn w.first w.guests) HasText (joined batches) (λ r o. o.has_text) own) sizes));
-    joined = ap (λ (l : List Record). l ++ joined batches) holds.recovered.joined ∙ sym (joined-append holds.recovered.batches batches);
+    batches = invariant.store.recovered.batches ++ batches;
+    texts = subst (λ (b : List (List ℕ)). AreBodyTexts b (invariant.store.recovered.batches ++ batches)) (sym text)
+        (texts_both w.bodies (map body_text batches) invariant.store.recovered.batches batches invariant.store.recovered.texts
+        (batch_texts batches (all_weaker (IsOwn w.first_guest w.guests) HasText (joined batches) (λ r o. o.has_text) own) sizes));
+    joined = ap (λ (l : List Record). l ++ joined batches) invariant.store.recovered.joined ∙ sym (joined-append invariant.store.recovered.batches batches);
     in_order = record {
       numbered = numbered;
-      opened = all_both OpensAtZero old (joined batches) holds.recovered.in_order.opened (all_weaker (IsOwn w.first w.guests) OpensAtZero (joined batches) (λ r o. o.opens) own);
+      opened = all_both OpensAtZero old (joined batches) invariant.store.recovered.in_order.opened (all_weaker (IsOwn w.first_guest w.guests) OpensAtZero (joined batches) (λ r o. o.opens) own);
     };
   }
 
-  seen_in : (g : ℕ) → g < w.guests → (w.recorders g).seen ≤ length (of_guest (w.first + g) (joined batches))
-  seen_in g l = let o = holds.each g l in omega (arith, o.seen, holds.counts g l, holds.told g l, enough g l)
+  seen_in : (g : ℕ) → g < w.guests → (w.recorders g).seen ≤ length (of_guest (w.first_guest + g) (joined batches))
+  seen_in g l = let o = invariant.each g l in omega (arith, o.seen.in_word, invariant.words.counts g l, invariant.told g l, enough g l)
 
-  put_out : (g : ℕ) → g < w.guests → IsOutput (w.recorders g).out (of_guest (w.first + g) (joined batches))
+  put_out : (g : ℕ) → g < w.guests → IsOutput (w.recorders g).out (of_guest (w.first_guest + g) (joined batches))
   put_out g l =
-      let n = w.first + g in
+      let n = w.first_guest + g in
       let seen = (w.recorders g).seen in
       let ours = of_guest n (joined batches) in
       let behind = of_guest n rest ++ (w.recorders g).backlog in
@@ -173,30 +178,40 @@ module _ (w : World) (old : List Record) (holds : Holds w old) (batches : List (
       let whole = take-append-drop seen ours in
       subst (IsOutput (w.recorders g).out) whole
       (output_further (w.recorders g).out (take seen ours) (drop seen ours) behind
-      (subst IsRecording (sym (ap (λ (k : List Record). k ++ behind) whole ∙ made_is g l)) (holds.each g l).recorder.recording)
-      (subst (IsOutput (w.recorders g).out) same (holds.each g l).output))
+      (subst IsRecording (sym (ap (λ (k : List Record). k ++ behind) whole ∙ made_is g l)) (invariant.each g l).recording.run.recording)
+      (subst (IsOutput (w.recorders g).out) same (invariant.each g l).output))
 
-  pub own_from : AllByRecursion (λ (r : Record). w.first ≤ r.guest) (joined batches)
-  own_from = all_weaker (IsOwn w.first w.guests) (λ r. w.first ≤ r.guest) (joined batches) (λ r o. o.low) own
-
-  pub recovers : (content : List ℕ) → IsSound content bodies → Recovers w old content
-  recovers content sound = record {
-    bodies = bodies;
+  pub recovers_from : RecoversFrom w old bodies
+  recovers_from = record {
     records = old ++ joined batches;
-    sound = sound;
     recovered = is_recovered;
     beginning = λ g l. (
-      of_guest (w.first + g) rest ++ (w.recorders g).backlog,
-      ap (λ (k : List Record). k ++ (of_guest (w.first + g) rest ++ (w.recorders g).backlog)) (upper (w.first + g) (omega arith)) ∙ made_is g l,
+      of_guest (w.first_guest + g) rest ++ (w.recorders g).backlog,
+      ap (λ (k : List Record). k ++ (of_guest (w.first_guest + g) rest ++ (w.recorders g).backlog)) (upper (w.first_guest + g) (omega arith)) ∙ made_is g l,
     );
-    holds = λ g l. omega (arith, seen_in g l, ap length (upper (w.first + g) (omega arith)));
-    output = λ g l. subst (IsOutput (w.recorders g).out) (sym (upper (w.first + g) (omega arith))) (put_out g l);
-    none_above = λ h l. upper h (omega (arith, l)) ∙ none_of_guest h (joined batches) (all_weaker (IsOwn w.first w.guests) (λ r. r.guest ≢ h) (joined batches) (λ r o e. omega (arith, o.high, e, l)) own);
+    seen = λ g l. omega (arith, seen_in g l, ap length (upper (w.first_guest + g) (omega arith)));
+    output = λ g l. subst (IsOutput (w.recorders g).out) (sym (upper (w.first_guest + g) (omega arith))) (put_out g l);
+    none_above = λ h l. upper h (omega (arith, l)) ∙ none_of_guest h (joined batches) (all_weaker (IsOwn w.first_guest w.guests) (λ r. r.guest ≢ h) (joined batches) (λ r o e. omega (arith, o.high, e, l)) own);
     kept = lower;
     replays = λ g l some.
-        subst (λ (k : List Record). Replays k (made (w.recorders g)) (w.recorders g).states) (sym (upper (w.first + g) (omega arith)))
-        (replays_front (of_guest (w.first + g) (joined batches)) (of_guest (w.first + g) rest ++ (w.recorders g).backlog) (made (w.recorders g)) (w.first + g) (w.recorders g).states
-        (made_is g l) (λ e. some (upper (w.first + g) (omega arith) ∙ e)) (holds.each g l).recorder);
+        subst (λ (k : List Record). Replays k (made (w.recorders g)) (w.recorders g).states) (sym (upper (w.first_guest + g) (omega arith)))
+        (replays_front (of_guest (w.first_guest + g) (joined batches)) (of_guest (w.first_guest + g) rest ++ (w.recorders g).backlog) (made (w.recorders g)) (w.first_guest + g) (w.recorders g).states
+        (made_is g l) (λ e. some (upper (w.first_guest + g) (omega arith) ∙ e)) (invariant.each g l).recording.run);
+  }
+
+  -- and these bodies are the ones of before, and then bodies of the group
+  pub left : LeftBehind w old bodies
+  left = record {
+    from = recovers_from;
+    grows = record {
+      more = map body_text batches;
+      bodies_are = text;
+      before = old;
+      gained = joined batches;
+      reported = invariant.store.recovered;
+      recovered = is_recovered;
+      later = all_weaker (IsOwn w.first_guest w.guests) (λ r. w.first_guest ≤ r.guest) (joined batches) (λ r o. o.low) own;
+    };
   }
 
 -- ---- with the finished bodies, and with the one in hand
@@ -204,7 +219,7 @@ module _ (w : World) (old : List Record) (holds : Holds w old) (batches : List (
 sizes_behind : (bodies : List (List ℕ)) (batches : List (List Record)) → AllByRecursion IsBody (bodies ++ map body_text batches) → AllByRecursion IsBody (map body_text batches)
 sizes_behind bodies batches all = all_back IsBody bodies (map body_text batches) all
 
-module _ (w : World) (old : List Record) (holds : Holds w old) where
+module _ (w : World) (old : List Record) (invariant : Invariant w old) where
   front_finished : joined w.flusher.finished ++ ((w.flusher.hand ++ w.flusher.waiting) ++ w.queue) ≡ total w
   front_finished =
       sym (append_assoc (joined w.flusher.finished) (w.flusher.hand ++ w.flusher.waiting) w.queue)
@@ -221,53 +236,48 @@ module _ (w : World) (old : List Record) (holds : Holds w old) where
 
   sizes_hand : IsBody (body_text w.flusher.hand) → AllByRecursion IsBody (map body_text (w.flusher.finished ++ w.flusher.hand ∷ []))
   sizes_hand is = subst (AllByRecursion IsBody) (sym (map-append body_text w.flusher.finished (w.flusher.hand ∷ [])))
-      (all_both IsBody (map body_text w.flusher.finished) (body_text w.flusher.hand ∷ []) (sizes_behind w.bodies w.flusher.finished holds.sizes) (is, tt))
+      (all_both IsBody (map body_text w.flusher.finished) (body_text w.flusher.hand ∷ []) (sizes_behind w.bodies w.flusher.finished invariant.store.sizes) (is, tt))
 
-  enough_hand : (g : ℕ) → committed (w.first + g) w.flusher ≤ length (of_guest (w.first + g) (joined (w.flusher.finished ++ w.flusher.hand ∷ [])))
+  enough_hand : (g : ℕ) → committed_count (w.first_guest + g) w.flusher ≤ length (of_guest (w.first_guest + g) (joined (w.flusher.finished ++ w.flusher.hand ∷ [])))
   enough_hand g = omega (
     arith,
-    ap length (ap (of_guest (w.first + g)) (joined-push w.flusher.finished w.flusher.hand) ∙ of_guest-append (w.first + g) (joined w.flusher.finished) w.flusher.hand),
-    length-append (of_guest (w.first + g) (joined w.flusher.finished)) (of_guest (w.first + g) w.flusher.hand),
+    ap length (ap (of_guest (w.first_guest + g)) (joined-push w.flusher.finished w.flusher.hand) ∙ of_guest-append (w.first_guest + g) (joined w.flusher.finished) w.flusher.hand),
+    length-append (of_guest (w.first_guest + g) (joined w.flusher.finished)) (of_guest (w.first_guest + g) w.flusher.hand),
   )
 
   pub stored_recovered : IsRecovered (stored_bodies w) (old ++ joined w.flusher.finished)
-  stored_recovered = is_recovered w old holds w.flusher.finished ((w.flusher.hand ++ w.flusher.waiting) ++ w.queue) front_finished (stored_bodies w) refl
-      (sizes_behind w.bodies w.flusher.finished holds.sizes) (λ g l. omega arith)
+  stored_recovered = is_recovered w old invariant w.flusher.finished ((w.flusher.hand ++ w.flusher.waiting) ++ w.queue) front_finished (stored_bodies w) refl
+      (sizes_behind w.bodies w.flusher.finished invariant.store.sizes) (λ g l. omega arith)
 
   pub hand_recovered : IsBody (body_text w.flusher.hand) → IsRecovered (stored_bodies w ++ body_text w.flusher.hand ∷ []) (old ++ joined (w.flusher.finished ++ w.flusher.hand ∷ []))
-  hand_recovered is = is_recovered w old holds (w.flusher.finished ++ w.flusher.hand ∷ []) (w.flusher.waiting ++ w.queue) front_hand
+  hand_recovered is = is_recovered w old invariant (w.flusher.finished ++ w.flusher.hand ∷ []) (w.flusher.waiting ++ w.queue) front_hand
       (stored_bodies w ++ body_text w.flusher.hand ∷ []) (sym with_hand) (sizes_hand is) (λ g l. enough_hand g)
 
-  pub finished_from : AllByRecursion (λ (r : Record). w.first ≤ r.guest) (joined w.flusher.finished)
-  finished_from = own_from w old holds w.flusher.finished ((w.flusher.hand ++ w.flusher.waiting) ++ w.queue) front_finished (stored_bodies w) refl
-      (sizes_behind w.bodies w.flusher.finished holds.sizes) (λ g l. omega arith)
+  pub left_finished : LeftBehind w old (stored_bodies w)
+  left_finished = left w old invariant w.flusher.finished ((w.flusher.hand ++ w.flusher.waiting) ++ w.queue) front_finished (stored_bodies w) refl
+      (sizes_behind w.bodies w.flusher.finished invariant.store.sizes) (λ g l. omega arith)
 
-  pub hand_from : IsBody (body_text w.flusher.hand) → AllByRecursion (λ (r : Record). w.first ≤ r.guest) (joined (w.flusher.finished ++ w.flusher.hand ∷ []))
-  hand_from is = own_from w old holds (w.flusher.finished ++ w.flusher.hand ∷ []) (w.flusher.waiting ++ w.queue) front_hand
+  pub left_hand : IsBody (body_text w.flusher.hand) → LeftBehind w old (stored_bodies w ++ body_text w.flusher.hand ∷ [])
+  left_hand is = left w old invariant (w.flusher.finished ++ w.flusher.hand ∷ []) (w.flusher.waiting ++ w.queue) front_hand
       (stored_bodies w ++ body_text w.flusher.hand ∷ []) (sym with_hand) (sizes_hand is) (λ g l. enough_hand g)
 
-  pub recovers_finished : (content : List ℕ) → IsSound content (stored_bodies w) → Recovers w old content
-  recovers_finished content sound = recovers w old holds w.flusher.finished ((w.flusher.hand ++ w.flusher.waiting) ++ w.queue) front_finished (stored_bodies w) refl
-      (sizes_behind w.bodies w.flusher.finished holds.sizes) (λ g l. omega arith) content sound
+  recovers_finished : (content : List ℕ) → IsSound content (stored_bodies w) → Recovers w old content
+  recovers_finished content sound = record { bodies = stored_bodies w; sound = sound; from = left_finished.from }
 
-  pub recovers_hand : (content : List ℕ) → IsBody (body_text w.flusher.hand) → IsSound content (stored_bodies w ++ body_text w.flusher.hand ∷ []) → Recovers w old content
-  recovers_hand content is sound = recovers w old holds (w.flusher.finished ++ w.flusher.hand ∷ []) (w.flusher.waiting ++ w.queue) front_hand
-      (stored_bodies w ++ body_text w.flusher.hand ∷ []) (sym with_hand) (sizes_hand is) (λ g l. enough_hand g) content sound
+  recovers_hand : (content : List ℕ) → IsBody (body_text w.flusher.hand) → IsSound content (stored_bodies w ++ body_text w.flusher.hand ∷ []) → Recovers w old content
+  recovers_hand content is sound = record { bodies = stored_bodies w ++ body_text w.flusher.hand ∷ []; sound = sound; from = (left_hand is).from }
 
--- what every crash leaves
-pub recovers_crash : (w : World) (old : List Record) → Holds w old → (content : List ℕ) → Gives w.disk content → Recovers w old content
-recovers_crash w old holds content gives = by_outcome (outcome_at w.flusher.stage w.disk (stored_bodies w) w.flusher.hand holds.disk content gives)
-  where
-    sound : (o : Outcome (stored_bodies w) (body_text w.flusher.hand) content) → IsSound content (stored_bodies w) ⊎ IsSound content (stored_bodies w ++ body_text w.flusher.hand ∷ [])
-    sound o = sound_outcome (stored_bodies w) (body_text w.flusher.hand) holds.sizes holds.few content o
+  -- what a read gives or a crash leaves
+  pub recovers : (content : List ℕ) → Gives w.disk content → Recovers w old content
+  recovers content gives = by_outcome (outcome_at w.flusher.stage w.disk (stored_bodies w) w.flusher.hand invariant.disk content gives)
+    where
+      by_outcome : Outcome (stored_bodies w) (body_text w.flusher.hand) content → Recovers w old content
+      by_outcome (inl closed) = recovers_finished content (closed_sound (stored_bodies w) (body_text w.flusher.hand) invariant.store.sizes invariant.store.few content closed)
+      by_outcome (inr ajar) = ⊎_elim (recovers_finished content) (recovers_hand content ajar.0.0)
+          (sound_outcome (stored_bodies w) (body_text w.flusher.hand) invariant.store.sizes invariant.store.few content (inr ajar))
 
-    by_outcome : Outcome (stored_bodies w) (body_text w.flusher.hand) content → Recovers w old content
-    by_outcome (inl closed) = recovers_finished w old holds content (closed_sound (stored_bodies w) (body_text w.flusher.hand) holds.sizes holds.few content closed)
-    by_outcome (inr ajar) = ⊎_elim (recovers_finished w old holds content) (recovers_hand w old holds content ajar.0.0) (sound (inr ajar))
-
--- and it is a store whose bodies are as `fine` says, where those are that the group can leave
-pub crash_store_of : (w : World) (old : List Record) → Holds w old → (fine : List (List ℕ) → Type 0) → fine (stored_bodies w)
-    → (IsBody (body_text w.flusher.hand) → fine (stored_bodies w ++ body_text w.flusher.hand ∷ [])) → (content : List ℕ) → Gives w.disk content → IsStoreOf fine content
-crash_store_of w old holds fine are more content gives =
-    outcome_store_of (stored_bodies w) (body_text w.flusher.hand) holds.sizes holds.few fine are (λ can. more can.0)
-    content (outcome_at w.flusher.stage w.disk (stored_bodies w) w.flusher.hand holds.disk content gives)
+  -- it is a store whose bodies the group left
+  pub store_left : (content : List ℕ) → Gives w.disk content → IsStoreOf (LeftBehind w old) content
+  store_left content gives =
+      outcome_store_of (stored_bodies w) (body_text w.flusher.hand) invariant.store.sizes invariant.store.few (LeftBehind w old) left_finished (λ can. left_hand can.0)
+      content (outcome_at w.flusher.stage w.disk (stored_bodies w) w.flusher.hand invariant.disk content gives)

@@ -13,39 +13,35 @@ use Rattle.rrv_model.specs.Recording.{IsRecording, IsNumbered, EndsIn, items_of}
 use Rattle.rrv_model.specs.StoreText.{IsBody}
 use Rattle.rrv_model.specs.Recovered.{body_text, of_guest, OpensAtZero}
 use Rattle.commit_core.specs.Runs.{IsOutput}
-use Rattle.commit_core.specs.World.{World, Recorder, Stage, made, received, committed, stored_bodies, joined, flag, left_word}
+use Rattle.commit_core.specs.World.{World, Recorder, Stage, made, received, committed_count, stored_bodies, joined, flag, left_word}
 use Rattle.commit_core.specs.World.Stage.{Idle, Written, Synced, Opened, Broken}
 use Rattle.commit_core.specs.Events.{Event, after, May, CanSlice, CanPush, CanWrite, put, with_recorder, with_flusher, gate_place, next_body, behind_gate, left_place, sliced, pushed, looked, released, looked_at_halt, gone, took, at_stage}
 use Rattle.commit_core.specs.Events.Event.{Slice, Push, Look, Release, LookHalt, Leave, Pop, WriteBody, WriteBodyFails, Sync1, Sync1Fails, OpenGate, OpenGateFails, Sync2, Sync2Fails, Publish, Halt, LookLeft}
-use Rattle.commit_core.specs.Facts.{IsRun, HadStates}
+use Rattle.commit_core.specs.Facts.{HadStates}
 use Rattle.commit_core.proofs.Lists.{all_both, all_back, of_guest-append, of_guest_one, of_guest_other, joined-push, put_cases, put_each, put_other, put_same}
 use Rattle.commit_core.proofs.Runs.{output_further, recording_opens}
-use Rattle.commit_core.proofs.Holds.{total, IsOwn, Of, Holds}
+use Rattle.commit_core.proofs.Invariant.{total, IsOwn, RecordingInvariant, RecorderInvariant, Invariant}
 use Rattle.commit_core.proofs.Stages.{IsCommittable, DiskAt, outcome_at, to_written, to_written_fails, to_synced, to_opened, to_opened_fails, to_idle, all_push, some_body}
 
 -- ---- changes of one part
 
 -- a row of one recorder, which keeps what it sent and its word
-recorder_keeps : (w : World) (old : List Record) (g : ℕ) (r : Recorder) → Holds w old
-    → (g < w.guests → Of w.first w.guests (total w) w.words w.flusher.halted w.flusher.totals g r) → Holds (with_recorder w g r) old
+recorder_keeps : (w : World) (old : List Record) (g : ℕ) (r : Recorder) → Invariant w old
+    → (g < w.guests → RecorderInvariant w.first_guest w.guests (total w) w.words w.flusher.halted w.flusher.totals g r) → Invariant (with_recorder w g r) old
 recorder_keeps w old g r h one = record {
-  recovered = h.recovered;
-  next = h.next;
-  sizes = h.sizes;
-  few = h.few;
-  own = h.own;
-  counts = h.counts;
-  halt = h.halt;
+  store = h.store;
+  words = h.words;
   told = h.told;
+  own = h.own;
   disk = h.disk;
-  each = put_each (λ k x. k < w.guests → Of w.first w.guests (total w) w.words w.flusher.halted w.flusher.totals k x) w.recorders g r h.each one;
+  each = put_each (λ k x. k < w.guests → RecorderInvariant w.first_guest w.guests (total w) w.words w.flusher.halted w.flusher.totals k x) w.recorders g r h.each one;
 }
 
 -- where the same is sent by all, the recorders are as they were
-same_total : (w : World) (old sent : List Record) → Holds w old → sent ≡ total w → (k : ℕ) → k < w.guests
-    → Of w.first w.guests sent w.words w.flusher.halted w.flusher.totals k (w.recorders k)
+same_total : (w : World) (old sent : List Record) → Invariant w old → sent ≡ total w → (k : ℕ) → k < w.guests
+    → RecorderInvariant w.first_guest w.guests sent w.words w.flusher.halted w.flusher.totals k (w.recorders k)
 same_total w old sent h same k l =
-    subst (λ (t : List Record). Of w.first w.guests t w.words w.flusher.halted w.flusher.totals k (w.recorders k)) (sym same) (h.each k l)
+    subst (λ (t : List Record). RecorderInvariant w.first_guest w.guests t w.words w.flusher.halted w.flusher.totals k (w.recorders k)) (sym same) (h.each k l)
 
 -- ---- the recorder makes a record
 
@@ -76,26 +72,26 @@ states_grow records states entry s same had ends k l = elim (cases_eq k (length 
       (subst (λ (m : List Record). IsSomeAnd (slice_get states k) (EndsIn (items_of m))) (sym (take-append-le (suc k) records (entry ∷ []) (omega (arith, before)))) (had k before))
 ]
 
-slice_keeps : (w : World) (old : List Record) (g : ℕ) (entry : Record) (s : State) → Holds w old → CanSlice w g entry s → Holds (after w (Slice g entry s)) old
+slice_keeps : (w : World) (old : List Record) (g : ℕ) (entry : Record) (s : State) → Invariant w old → CanSlice w g entry s → Invariant (after w (Slice g entry s)) old
 slice_keeps w old g entry s h may =
     let r = w.recorders g in
     let one = h.each g may.guest in
     let more : r.sent ++ (r.backlog ++ entry ∷ []) ≡ made r ++ entry ∷ [] = sym (append_assoc r.sent r.backlog (entry ∷ [])) in
-    let seen_made : r.seen ≤ length (made r) = omega (arith, one.seen_sent, length-append r.sent r.backlog) in
+    let seen_made : r.seen ≤ length (made r) = omega (arith, one.seen.in_sent, length-append r.sent r.backlog) in
     recorder_keeps w old g (sliced entry s r) h (λ l. record {
       sent = one.sent;
       seen = one.seen;
-      seen_sent = one.seen_sent;
       halt_known = one.halt_known;
       left = one.left;
-      known_total = one.known_total;
-      texts = subst (AllByRecursion HasText) (sym more) (all_both HasText (made r) (entry ∷ []) one.texts (may.has_text, tt));
       output = subst (IsOutput r.out) (sym (ap (take r.seen) more ∙ take-append-le r.seen (made r) (entry ∷ []) seen_made)) one.output;
-      recorder = subst (λ (m : List Record). IsRun (w.first + g) m (r.states ++ s ∷ [])) (sym more) (record {
-        recording = may.recording;
-        numbered = may.numbered;
-        length_is = omega (arith, length-append r.states (s ∷ []), length-append (made r) (entry ∷ []), one.recorder.length_is);
-        had = states_grow (made r) r.states entry s one.recorder.length_is one.recorder.had may.ends;
+      recording = subst (λ (m : List Record). RecordingInvariant (w.first_guest + g) m (r.states ++ s ∷ [])) (sym more) (record {
+        texts = all_both HasText (made r) (entry ∷ []) one.recording.texts (may.has_text, tt);
+        run = record {
+          recording = may.recording;
+          numbered = may.numbered;
+          length_is = omega (arith, length-append r.states (s ∷ []), length-append (made r) (entry ∷ []), one.recording.run.length_is);
+          had = states_grow (made r) r.states entry s one.recording.run.length_is one.recording.run.had may.ends;
+        };
       });
     })
 
@@ -105,53 +101,46 @@ numbered_at : (guest index : ℕ) (xs ys : List Record) (y : Record) → IsNumbe
 numbered_at guest index [] ys y h = h.0
 numbered_at guest index (x ∷ xs) ys y h = numbered_at guest (index + 1) xs ys y h.2
 
-push_keeps : (w : World) (old : List Record) (g : ℕ) (entry : Record) (rest : List Record) → Holds w old → CanPush w g entry rest → Holds (after w (Push g entry rest)) old
+push_keeps : (w : World) (old : List Record) (g : ℕ) (entry : Record) (rest : List Record) → Invariant w old → CanPush w g entry rest → Invariant (after w (Push g entry rest)) old
 push_keeps w old g entry rest h may =
     let r = w.recorders g in
     let one = h.each g may.guest in
     let made_is : made r ≡ r.sent ++ entry ∷ rest = ap (λ (l : List Record). r.sent ++ l) may.next in
     let same : (r.sent ++ entry ∷ []) ++ rest ≡ made r = append_assoc r.sent (entry ∷ []) rest ∙ sym made_is in
-    let guest_is : entry.guest ≡ w.first + g = numbered_at (w.first + g) 0 r.sent rest entry (subst (IsNumbered (w.first + g) 0) made_is one.recorder.numbered) in
-    let opens = all_back OpensAtZero r.sent (entry ∷ rest) (subst (AllByRecursion OpensAtZero) made_is (recording_opens (w.first + g) (made r) one.recorder.recording one.recorder.numbered)) in
-    let texts = all_back HasText r.sent (entry ∷ rest) (subst (AllByRecursion HasText) made_is one.texts) in
+    let guest_is : entry.guest ≡ w.first_guest + g = numbered_at (w.first_guest + g) 0 r.sent rest entry (subst (IsNumbered (w.first_guest + g) 0) made_is one.recording.run.numbered) in
+    let opens = all_back OpensAtZero r.sent (entry ∷ rest) (subst (AllByRecursion OpensAtZero) made_is (recording_opens (w.first_guest + g) (made r) one.recording.run.recording one.recording.run.numbered)) in
+    let texts = all_back HasText r.sent (entry ∷ rest) (subst (AllByRecursion HasText) made_is one.recording.texts) in
     let grown : total (after w (Push g entry rest)) ≡ total w ++ entry ∷ [] = sym (append_assoc (received w.flusher) w.queue (entry ∷ [])) in
     record {
-      recovered = h.recovered;
-      next = h.next;
-      sizes = h.sizes;
-      few = h.few;
-      counts = h.counts;
-      halt = h.halt;
+      store = h.store;
+      words = h.words;
       told = h.told;
       disk = h.disk;
-      own = subst (AllByRecursion (IsOwn w.first w.guests)) (sym grown)
-          (all_both (IsOwn w.first w.guests) (total w) (entry ∷ []) h.own (record { low = omega (arith, guest_is); high = omega (arith, guest_is, may.guest); has_text = texts.0; opens = opens.0 }, tt));
-      each = put_cases (λ k x. k < w.guests → Of w.first w.guests (total (after w (Push g entry rest))) w.words w.flusher.halted w.flusher.totals k x) w.recorders g (pushed entry rest r)
+      own = subst (AllByRecursion (IsOwn w.first_guest w.guests)) (sym grown)
+          (all_both (IsOwn w.first_guest w.guests) (total w) (entry ∷ []) h.own (record { low = omega (arith, guest_is); high = omega (arith, guest_is, may.guest); has_text = texts.0; opens = opens.0 }, tt));
+      each = put_cases (λ k x. k < w.guests → RecorderInvariant w.first_guest w.guests (total (after w (Push g entry rest))) w.words w.flusher.halted w.flusher.totals k x) w.recorders g (pushed entry rest r)
           (λ k differs l. let o = h.each k l in record {
-            texts = o.texts;
+            recording = o.recording;
             seen = o.seen;
-            seen_sent = o.seen_sent;
             halt_known = o.halt_known;
             left = o.left;
-            known_total = o.known_total;
             output = o.output;
-            recorder = o.recorder;
-            sent = ap (of_guest (w.first + k)) grown ∙ of_guest-append (w.first + k) (total w) (entry ∷ [])
-                ∙ ap (λ (l : List Record). of_guest (w.first + k) (total w) ++ l) (of_guest_other (w.first + k) entry (λ e. differs (omega (arith, e, guest_is))))
-                ∙ append-nil (of_guest (w.first + k) (total w)) ∙ o.sent;
+            sent = ap (of_guest (w.first_guest + k)) grown ∙ of_guest-append (w.first_guest + k) (total w) (entry ∷ [])
+                ∙ ap (λ (l : List Record). of_guest (w.first_guest + k) (total w) ++ l) (of_guest_other (w.first_guest + k) entry (λ e. differs (omega (arith, e, guest_is))))
+                ∙ append-nil (of_guest (w.first_guest + k) (total w)) ∙ o.sent;
           })
           (λ l. record {
-            seen = one.seen;
             halt_known = one.halt_known;
-            seen_sent = omega (arith, one.seen_sent, length-append r.sent (entry ∷ []));
-            sent = ap (of_guest (w.first + g)) grown ∙ of_guest-append (w.first + g) (total w) (entry ∷ [])
-                ∙ ap (λ (l : List Record). of_guest (w.first + g) (total w) ++ l) (of_guest_one (w.first + g) entry guest_is)
+            seen = record { in_word = one.seen.in_word; in_sent = omega (arith, one.seen.in_sent, length-append r.sent (entry ∷ [])) };
+            sent = ap (of_guest (w.first_guest + g)) grown ∙ of_guest-append (w.first_guest + g) (total w) (entry ∷ [])
+                ∙ ap (λ (l : List Record). of_guest (w.first_guest + g) (total w) ++ l) (of_guest_one (w.first_guest + g) entry guest_is)
                 ∙ ap (λ (l : List Record). l ++ entry ∷ []) one.sent;
-            left = one.left ∙ here_still r entry rest may.here;
-            known_total = ⊎_elim (λ z. inl z) (λ is. inr (is ∙ here_still r entry rest may.here)) one.known_total;
-            texts = subst (AllByRecursion HasText) (sym same) one.texts;
+            left = record {
+              told = one.left.told ∙ here_still r entry rest may.here;
+              known = ⊎_elim (λ z. inl z) (λ is. inr (is ∙ here_still r entry rest may.here)) one.left.known;
+            };
             output = subst (IsOutput r.out) (sym (ap (take r.seen) same)) one.output;
-            recorder = subst (λ (m : List Record). IsRun (w.first + g) m r.states) (sym same) one.recorder;
+            recording = subst (λ (m : List Record). RecordingInvariant (w.first_guest + g) m r.states) (sym same) one.recording;
           });
     }
   where
@@ -164,7 +153,7 @@ push_keeps w old g entry rest h may =
 
 -- ---- the flusher receives one
 
-pop_keeps : (w : World) (old : List Record) (r : Record) (rest : List Record) → Holds w old → w.queue ≡ r ∷ rest → Holds (after w (Pop r rest)) old
+pop_keeps : (w : World) (old : List Record) (r : Record) (rest : List Record) → Invariant w old → w.queue ≡ r ∷ rest → Invariant (after w (Pop r rest)) old
 pop_keeps w old r rest h may =
     let f = w.flusher in
     let front = joined f.finished ++ f.hand in
@@ -173,22 +162,18 @@ pop_keeps w old r rest h may =
     ∙ append_assoc (front ++ f.waiting) (r ∷ []) rest
     ∙ ap (λ (l : List Record). (front ++ f.waiting) ++ l) (sym may) in
     record {
-      recovered = h.recovered;
-      next = h.next;
-      sizes = h.sizes;
-      few = h.few;
-      counts = h.counts;
-      halt = h.halt;
+      store = h.store;
+      words = h.words;
       told = h.told;
       disk = h.disk;
-      own = subst (AllByRecursion (IsOwn w.first w.guests)) (sym same) h.own;
+      own = subst (AllByRecursion (IsOwn w.first_guest w.guests)) (sym same) h.own;
       each = same_total w old (total (after w (Pop r rest))) h same;
     }
 
 -- ---- it commits those that wait
 
-into_hand_keeps : (w : World) (old : List Record) (count : ℕ) (stage : Stage) (disk : DiskState) → Holds w old → w.flusher.hand ≡ []
-    → DiskAt stage disk (stored_bodies w) (take count w.flusher.waiting) → Holds (with_flusher w (took count stage w.flusher) disk) old
+into_hand_keeps : (w : World) (old : List Record) (count : ℕ) (stage : Stage) (disk : DiskState) → Invariant w old → w.flusher.hand ≡ []
+    → DiskAt stage disk (stored_bodies w) (take count w.flusher.waiting) → Invariant (with_flusher w (took count stage w.flusher) disk) old
 into_hand_keeps w old count stage disk h none at =
     let f = w.flusher in
     let same : total (with_flusher w (took count stage f) disk) ≡ total w =
@@ -198,57 +183,49 @@ into_hand_keeps w old count stage disk h none at =
     ∙ ap (λ (l : List Record). l ++ f.waiting) (sym (append-nil (joined f.finished)))
     ∙ ap (λ (l : List Record). (joined f.finished ++ l) ++ f.waiting) (sym none)) in
     record {
-      recovered = h.recovered;
-      next = h.next;
-      sizes = h.sizes;
-      few = h.few;
-      counts = h.counts;
-      halt = h.halt;
+      store = h.store;
+      words = h.words;
       told = h.told;
-      own = subst (AllByRecursion (IsOwn w.first w.guests)) (sym same) h.own;
+      own = subst (AllByRecursion (IsOwn w.first_guest w.guests)) (sym same) h.own;
       each = same_total w old (total (with_flusher w (took count stage f) disk)) h same;
       disk = at;
     }
 
-disk_at : (w : World) (old : List Record) (stage : Stage) → Holds w old → w.flusher.stage ≡ stage → DiskAt stage w.disk (stored_bodies w) w.flusher.hand
+disk_at : (w : World) (old : List Record) (stage : Stage) → Invariant w old → w.flusher.stage ≡ stage → DiskAt stage w.disk (stored_bodies w) w.flusher.hand
 disk_at w old stage h is = subst (λ (s : Stage). DiskAt s w.disk (stored_bodies w) w.flusher.hand) is h.disk
 
 committable : (w : World) (count : ℕ) → CanWrite w count → IsCommittable (stored_bodies w) (next_body w count)
 committable w count may =
     ((some_body (take count w.flusher.waiting) (omega (arith, length-take-le count w.flusher.waiting may.there, may.some)), may.body), may.number)
 
-write_keeps : (w : World) (old : List Record) (count : ℕ) → Holds w old → CanWrite w count → Holds (after w (WriteBody count)) old
+write_keeps : (w : World) (old : List Record) (count : ℕ) → Invariant w old → CanWrite w count → Invariant (after w (WriteBody count)) old
 write_keeps w old count h may =
     let at = disk_at w old Idle h may.idle in
     into_hand_keeps w old count Written _ h at.1 (to_written w.disk (stored_bodies w) w.flusher.hand (take count w.flusher.waiting) at (committable w count may))
 
-write_fails_keeps : (w : World) (old : List Record) (count : ℕ) (disk : DiskState) → Holds w old → CanWrite w count
-    → FailsToWrite (gate_place w + 1) (length (behind_gate w count)) w.disk disk → Holds (after w (WriteBodyFails count disk)) old
+write_fails_keeps : (w : World) (old : List Record) (count : ℕ) (disk : DiskState) → Invariant w old → CanWrite w count
+    → FailsToWrite (gate_place w + 1) (length (behind_gate w count)) w.disk disk → Invariant (after w (WriteBodyFails count disk)) old
 write_fails_keeps w old count disk h may failed =
     let at = disk_at w old Idle h may.idle in
     into_hand_keeps w old count Broken disk h at.1 (to_written_fails w.disk disk (stored_bodies w) w.flusher.hand (take count w.flusher.waiting) at failed)
 
 -- a row that moves the disk and the stage alone
-stage_keeps : (w : World) (old : List Record) (stage : Stage) (disk : DiskState) → Holds w old → DiskAt stage disk (stored_bodies w) w.flusher.hand
-    → Holds (with_flusher w (at_stage stage w.flusher) disk) old
+stage_keeps : (w : World) (old : List Record) (stage : Stage) (disk : DiskState) → Invariant w old → DiskAt stage disk (stored_bodies w) w.flusher.hand
+    → Invariant (with_flusher w (at_stage stage w.flusher) disk) old
 stage_keeps w old stage disk h at = record {
-  recovered = h.recovered;
-  next = h.next;
-  sizes = h.sizes;
-  few = h.few;
-  own = h.own;
-  counts = h.counts;
-  halt = h.halt;
+  store = h.store;
+  words = h.words;
   told = h.told;
+  own = h.own;
   each = h.each;
   disk = at;
 }
 
 -- after a sync that failed a crash leaves what it left before
-broken_keeps : (w : World) (old : List Record) → Holds w old → Holds (with_flusher w (at_stage Broken w.flusher) w.disk) old
+broken_keeps : (w : World) (old : List Record) → Invariant w old → Invariant (with_flusher w (at_stage Broken w.flusher) w.disk) old
 broken_keeps w old h = stage_keeps w old Broken w.disk h (outcome_at w.flusher.stage w.disk (stored_bodies w) w.flusher.hand h.disk)
 
-sync2_keeps : (w : World) (old : List Record) → Holds w old → w.flusher.stage ≡ Opened → Holds (after w Sync2) old
+sync2_keeps : (w : World) (old : List Record) → Invariant w old → w.flusher.stage ≡ Opened → Invariant (after w Sync2) old
 sync2_keeps w old h may =
     let f = w.flusher in
     let at = disk_at w old Opened h may in
@@ -257,52 +234,57 @@ sync2_keeps w old h may =
     let bodies : stored_bodies (after w Sync2) ≡ stored_bodies w ++ body_text f.hand ∷ [] =
     ap (λ (l : List (List ℕ)). w.bodies ++ l) (map-append body_text f.finished (f.hand ∷ [])) ∙ sym (append_assoc w.bodies (map body_text f.finished) (body_text f.hand ∷ [])) in
     record {
-      recovered = h.recovered;
-      next = h.next;
-      counts = h.counts;
-      halt = h.halt;
-      sizes = subst (AllByRecursion IsBody) (sym bodies) (all_push (stored_bodies w) (body_text f.hand) h.sizes at.2.0);
-      few = omega (arith, ap length bodies, length-append (stored_bodies w) (body_text f.hand ∷ []), at.2.1);
-      own = subst (AllByRecursion (IsOwn w.first w.guests)) (sym same) h.own;
-      told = λ k l. let more = ap length (ap (of_guest (w.first + k)) pushed_hand ∙ of_guest-append (w.first + k) (joined f.finished) f.hand) in
-          omega (arith, more, h.told k l, length-append (of_guest (w.first + k) (joined f.finished)) (of_guest (w.first + k) f.hand));
+      words = h.words;
+      store = record {
+        recovered = h.store.recovered;
+        next = h.store.next;
+        sizes = subst (AllByRecursion IsBody) (sym bodies) (all_push (stored_bodies w) (body_text f.hand) h.store.sizes at.2.0);
+        few = omega (arith, ap length bodies, length-append (stored_bodies w) (body_text f.hand ∷ []), at.2.1);
+      };
+      own = subst (AllByRecursion (IsOwn w.first_guest w.guests)) (sym same) h.own;
+      told = λ k l. let more = ap length (ap (of_guest (w.first_guest + k)) pushed_hand ∙ of_guest-append (w.first_guest + k) (joined f.finished) f.hand) in
+          omega (arith, more, h.told k l, length-append (of_guest (w.first_guest + k) (joined f.finished)) (of_guest (w.first_guest + k) f.hand));
       disk = to_idle w.disk (stored_bodies w) (stored_bodies (after w Sync2)) f.hand at bodies;
       each = same_total w old (total (after w Sync2)) h same;
     }
 
 -- ---- the words
 
-publish_keeps : (w : World) (old : List Record) (g : ℕ) → Holds w old → g < w.guests → Holds (after w (Publish g)) old
+-- a recorder whose word of having left stays, and whose count is no less than it has seen
+with_words : (w : World) (words : ℕ → ℕ) (halted : Bool) (k : ℕ) → RecorderInvariant w.first_guest w.guests (total w) w.words w.flusher.halted w.flusher.totals k (w.recorders k)
+    → ((w.recorders k).knows_halt ≡ true → halted ≡ true) → (w.recorders k).seen ≤ words k → words (w.guests + 1 + k) ≡ w.words (w.guests + 1 + k)
+    → RecorderInvariant w.first_guest w.guests (total w) words halted w.flusher.totals k (w.recorders k)
+with_words w words halted k o halt_known seen same = record {
+  sent = o.sent;
+  recording = o.recording;
+  halt_known = halt_known;
+  output = o.output;
+  seen = record { in_word = seen; in_sent = o.seen.in_sent };
+  left = record { told = same ∙ o.left.told; known = o.left.known };
+}
+
+publish_keeps : (w : World) (old : List Record) (g : ℕ) → Invariant w old → g < w.guests → Invariant (after w (Publish g)) old
 publish_keeps w old g h may =
-    let n = committed (w.first + g) w.flusher in
+    let n = committed_count (w.first_guest + g) w.flusher in
     let words = put w.words g n in
     record {
-      recovered = h.recovered;
-      next = h.next;
-      sizes = h.sizes;
-      few = h.few;
+      store = h.store;
       own = h.own;
       disk = h.disk;
-      counts = λ k l. put_cases (λ j x. j < w.guests → x ≡ put w.flusher.told g n j) w.words g n
-          (λ j differs lj. h.counts j lj ∙ sym (put_other w.flusher.told g n j differs)) (λ lj. sym (put_same w.flusher.told g n)) k l;
-      halt = put_other w.words g n w.guests (λ e. omega (arith, e, may)) ∙ h.halt;
-      told = put_each (λ k x. k < w.guests → x ≤ committed (w.first + k) w.flusher) w.flusher.told g n h.told (λ l. omega arith);
-      each = λ k l. let o = h.each k l in record {
-        sent = o.sent;
-        texts = o.texts;
-        seen_sent = o.seen_sent;
-        halt_known = o.halt_known;
-        known_total = o.known_total;
-        output = o.output;
-        recorder = o.recorder;
-        seen = put_cases (λ j x. j < w.guests → (w.recorders j).seen ≤ x) w.words g n
-            (λ j differs lj. (h.each j lj).seen) (λ lj. omega (arith, told_seen g lj, h.told g lj)) k l;
-        left = put_other w.words g n (w.guests + 1 + k) (λ e. omega (arith, e, may)) ∙ o.left;
+      words = record {
+        counts = λ k l. put_cases (λ j x. j < w.guests → x ≡ put w.flusher.told g n j) w.words g n
+            (λ j differs lj. h.words.counts j lj ∙ sym (put_other w.flusher.told g n j differs)) (λ lj. sym (put_same w.flusher.told g n)) k l;
+        halt = put_other w.words g n w.guests (λ e. omega (arith, e, may)) ∙ h.words.halt;
       };
+      told = put_each (λ k x. k < w.guests → x ≤ committed_count (w.first_guest + k) w.flusher) w.flusher.told g n h.told (λ l. omega arith);
+      each = λ k l. with_words w words w.flusher.halted k (h.each k l) (λ knows. (h.each k l).halt_known knows)
+          (put_cases (λ j x. j < w.guests → (w.recorders j).seen ≤ x) w.words g n
+          (λ j differs lj. (h.each j lj).seen.in_word) (λ lj. omega (arith, told_seen g lj, h.told g lj)) k l)
+          (put_other w.words g n (w.guests + 1 + k) (λ e. omega (arith, e, may)));
     }
   where
     told_seen : (j : ℕ) → j < w.guests → (w.recorders j).seen ≤ w.flusher.told j
-    told_seen j l = subst (λ (x : ℕ). (w.recorders j).seen ≤ x) (h.counts j l) (h.each j l).seen
+    told_seen j l = subst (λ (x : ℕ). (w.recorders j).seen ≤ x) (h.words.counts j l) (h.each j l).seen.in_word
 
 take_less : (m n : ℕ) (xs : List Record) → m ≤ n → (more : List Record) × (take n xs ≡ take m xs ++ more)
 take_less zero n xs l = (take n xs, refl)
@@ -317,83 +299,62 @@ more_seen out m n records is l put =
     let whole : (take m records ++ more.0) ++ drop n records ≡ records = ap (λ (k : List Record). k ++ drop n records) (sym more.1) ∙ take-append-drop n records in
     subst (IsOutput out) (sym more.1) (output_further out (take m records) more.0 (drop n records) (subst IsRecording (sym whole) is) put)
 
-look_keeps : (w : World) (old : List Record) (g : ℕ) → Holds w old → g < w.guests → Holds (after w (Look g)) old
+look_keeps : (w : World) (old : List Record) (g : ℕ) → Invariant w old → g < w.guests → Invariant (after w (Look g)) old
 look_keeps w old g h may =
     let r = w.recorders g in
     let one = h.each g may in
     let seen = min (w.words g) (length r.sent) in
     recorder_keeps w old g (looked (w.words g) r) h (λ l. record {
       sent = one.sent;
-      texts = one.texts;
+      recording = one.recording;
       halt_known = one.halt_known;
       left = one.left;
-      known_total = one.known_total;
-      recorder = one.recorder;
-      seen = omega arith;
-      seen_sent = omega arith;
-      output = more_seen r.out r.seen seen (made r) one.recorder.recording (omega (arith, one.seen, one.seen_sent)) one.output;
+      seen = record { in_word = omega arith; in_sent = omega arith };
+      output = more_seen r.out r.seen seen (made r) one.recording.run.recording (omega (arith, one.seen.in_word, one.seen.in_sent)) one.output;
     })
 
-release_keeps : (w : World) (old : List Record) (g : ℕ) (more : List (ℕ × ℕ)) → Holds w old → g < w.guests
-    → IsOutput ((w.recorders g).out ++ more) (take (w.recorders g).seen (made (w.recorders g))) → Holds (after w (Release g more)) old
+release_keeps : (w : World) (old : List Record) (g : ℕ) (more : List (ℕ × ℕ)) → Invariant w old → g < w.guests
+    → IsOutput ((w.recorders g).out ++ more) (take (w.recorders g).seen (made (w.recorders g))) → Invariant (after w (Release g more)) old
 release_keeps w old g more h l may =
     let one = h.each g l in
     recorder_keeps w old g (released more (w.recorders g)) h (λ l. record {
       sent = one.sent;
-      texts = one.texts;
+      recording = one.recording;
       halt_known = one.halt_known;
       left = one.left;
-      known_total = one.known_total;
-      recorder = one.recorder;
       seen = one.seen;
-      seen_sent = one.seen_sent;
       output = may;
     })
 
-halt_keeps : (w : World) (old : List Record) → Holds w old → Holds (after w Halt) old
+halt_keeps : (w : World) (old : List Record) → Invariant w old → Invariant (after w Halt) old
 halt_keeps w old h =
     let words = put w.words w.guests 1 in
     let other = λ (k : ℕ) (differs : k ≢ w.guests). put_other w.words w.guests 1 k differs in
     record {
-      recovered = h.recovered;
-      next = h.next;
-      sizes = h.sizes;
-      few = h.few;
+      store = h.store;
       own = h.own;
       disk = h.disk;
       told = h.told;
-      counts = λ k l. other k (λ e. omega (arith, e, l)) ∙ h.counts k l;
-      halt = put_same w.words w.guests 1;
-      each = λ k l. let o = h.each k l in record {
-        sent = o.sent;
-        texts = o.texts;
-        seen_sent = o.seen_sent;
-        known_total = o.known_total;
-        output = o.output;
-        recorder = o.recorder;
-        seen = subst (λ (x : ℕ). (w.recorders k).seen ≤ x) (sym (other k (λ e. omega (arith, e, l)))) o.seen;
-        halt_known = λ knows. refl;
-        left = other (w.guests + 1 + k) (λ e. omega (arith, e)) ∙ o.left;
-      };
+      words = record { counts = λ k l. other k (λ e. omega (arith, e, l)) ∙ h.words.counts k l; halt = put_same w.words w.guests 1 };
+      each = λ k l. with_words w words true k (h.each k l) (λ knows. refl)
+          (subst (λ (x : ℕ). (w.recorders k).seen ≤ x) (sym (other k (λ e. omega (arith, e, l)))) (h.each k l).seen.in_word)
+          (other (w.guests + 1 + k) (λ e. omega (arith, e)));
     }
 
 flag_true : (b : Bool) → flag b ≡ 1 → b ≡ true
 flag_true true e = refl
 flag_true false e = absurd (omega (arith, e))
 
-look_halt_keeps : (w : World) (old : List Record) (g : ℕ) → Holds w old → g < w.guests → Holds (after w (LookHalt g)) old
+look_halt_keeps : (w : World) (old : List Record) (g : ℕ) → Invariant w old → g < w.guests → Invariant (after w (LookHalt g)) old
 look_halt_keeps w old g h may =
     let one = h.each g may in
     recorder_keeps w old g (looked_at_halt (w.words w.guests) (w.recorders g)) h (λ l. record {
       sent = one.sent;
-      texts = one.texts;
+      recording = one.recording;
       left = one.left;
-      known_total = one.known_total;
-      recorder = one.recorder;
       seen = one.seen;
-      seen_sent = one.seen_sent;
       output = one.output;
-      halt_known = λ knows. flag_true w.flusher.halted (sym h.halt ∙ eqb-true (w.words w.guests) 1 knows);
+      halt_known = λ knows. flag_true w.flusher.halted (sym h.words.halt ∙ eqb-true (w.words w.guests) 1 knows);
     })
 
 known_still : (b : Bool) (n t : ℕ) → (t ≡ 0) ⊎ (t ≡ (if b then n else 0)) → (t ≡ 0) ⊎ (t ≡ n)
@@ -401,7 +362,7 @@ known_still b n t (inl z) = inl z
 known_still true n t (inr e) = inr e
 known_still false n t (inr e) = inl e
 
-leave_keeps : (w : World) (old : List Record) (g : ℕ) → Holds w old → g < w.guests → Holds (after w (Leave g)) old
+leave_keeps : (w : World) (old : List Record) (g : ℕ) → Invariant w old → g < w.guests → Invariant (after w (Leave g)) old
 leave_keeps w old g h may =
     let r = w.recorders g in
     let place = left_place w g in
@@ -410,68 +371,52 @@ leave_keeps w old g h may =
     let other = λ (k : ℕ) (differs : k ≢ place). put_other w.words place n k differs in
     let one = h.each g may in
     record {
-      recovered = h.recovered;
-      next = h.next;
-      sizes = h.sizes;
-      few = h.few;
+      store = h.store;
       own = h.own;
       disk = h.disk;
       told = h.told;
-      counts = λ k l. other k (λ e. omega (arith, e, l)) ∙ h.counts k l;
-      halt = other w.guests (λ e. omega (arith, e)) ∙ h.halt;
-      each = put_cases (λ k x. k < w.guests → Of w.first w.guests (total w) words w.flusher.halted w.flusher.totals k x) w.recorders g (gone r)
-          (λ k differs l. let o = h.each k l in record {
-            sent = o.sent;
-            texts = o.texts;
-            seen_sent = o.seen_sent;
-            known_total = o.known_total;
-            output = o.output;
-            recorder = o.recorder;
-            halt_known = o.halt_known;
-            seen = subst (λ (x : ℕ). (w.recorders k).seen ≤ x) (sym (other k (λ e. omega (arith, e, l)))) o.seen;
-            left = other (w.guests + 1 + k) (λ e. differs (omega (arith, e))) ∙ o.left;
-          })
+      words = record {
+        counts = λ k l. other k (λ e. omega (arith, e, l)) ∙ h.words.counts k l;
+        halt = other w.guests (λ e. omega (arith, e)) ∙ h.words.halt;
+      };
+      each = put_cases (λ k x. k < w.guests → RecorderInvariant w.first_guest w.guests (total w) words w.flusher.halted w.flusher.totals k x) w.recorders g (gone r)
+          (λ k differs l. with_words w words w.flusher.halted k (h.each k l) (h.each k l).halt_known
+          (subst (λ (x : ℕ). (w.recorders k).seen ≤ x) (sym (other k (λ e. omega (arith, e, l)))) (h.each k l).seen.in_word)
+          (other (w.guests + 1 + k) (λ e. differs (omega (arith, e)))))
           (λ l. record {
             sent = one.sent;
-            texts = one.texts;
-            seen_sent = one.seen_sent;
+            recording = one.recording;
             output = one.output;
-            recorder = one.recorder;
             halt_known = one.halt_known;
-            seen = subst (λ (x : ℕ). r.seen ≤ x) (sym (other g (λ e. omega (arith, e, l)))) one.seen;
-            left = put_same w.words place n;
-            known_total = known_still r.left n (w.flusher.totals g) one.known_total;
+            seen = record { in_word = subst (λ (x : ℕ). r.seen ≤ x) (sym (other g (λ e. omega (arith, e, l)))) one.seen.in_word; in_sent = one.seen.in_sent };
+            left = record { told = put_same w.words place n; known = known_still r.left n (w.flusher.totals g) one.left.known };
           });
     }
 
-look_left_keeps : (w : World) (old : List Record) (g : ℕ) → Holds w old → g < w.guests → Holds (after w (LookLeft g)) old
+look_left_keeps : (w : World) (old : List Record) (g : ℕ) → Invariant w old → g < w.guests → Invariant (after w (LookLeft g)) old
 look_left_keeps w old g h may = record {
-  recovered = h.recovered;
-  next = h.next;
-  sizes = h.sizes;
-  few = h.few;
+  store = h.store;
+  words = h.words;
+  told = h.told;
   own = h.own;
   disk = h.disk;
-  told = h.told;
-  counts = h.counts;
-  halt = h.halt;
   each = λ k l. let o = h.each k l in record {
     sent = o.sent;
-    texts = o.texts;
+    recording = o.recording;
     seen = o.seen;
-    seen_sent = o.seen_sent;
-    left = o.left;
     output = o.output;
-    recorder = o.recorder;
     halt_known = o.halt_known;
-    known_total = put_each (λ j x. j < w.guests → (x ≡ 0) ⊎ (x ≡ left_word (w.recorders j))) w.flusher.totals g (w.words (left_place w g))
-        (λ j lj. (h.each j lj).known_total) (λ lj. inr (h.each g lj).left) k l;
+    left = record {
+      told = o.left.told;
+      known = put_each (λ j x. j < w.guests → (x ≡ 0) ⊎ (x ≡ left_word (w.recorders j))) w.flusher.totals g (w.words (left_place w g))
+          (λ j lj. (h.each j lj).left.known) (λ lj. inr (h.each g lj).left.told) k l;
+    };
   };
 }
 
 -- ---- each event
 
-pub keeps : (w : World) (old : List Record) (e : Event) → Holds w old → May w e → Holds (after w e) old
+pub keeps : (w : World) (old : List Record) (e : Event) → Invariant w old → May w e → Invariant (after w e) old
 keeps w old (Slice g r s) h may = slice_keeps w old g r s h may
 keeps w old (Push g r rest) h may = push_keeps w old g r rest h may
 keeps w old (Look g) h may = look_keeps w old g h may

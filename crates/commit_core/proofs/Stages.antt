@@ -13,7 +13,7 @@ use Rattle.rrv_model.proofs.StoreLaws.{segments_push}
 use Rattle.rrv_model.proofs.CrashLaws.{crash_synced, crash_torn, torn_same}
 use Rattle.commit_core.specs.World.{Stage, IsAtRest, store_text, closed_store}
 use Rattle.commit_core.specs.World.Stage.{Idle, Written, Synced, Opened, Broken}
-use Rattle.commit_core.specs.Sessions.{IsStoreOf}
+use Rattle.commit_core.specs.Sessions.{Gives, IsStoreOf}
 use Rattle.commit_core.proofs.Lists.{all_both}
 
 -- ---- one body more
@@ -186,10 +186,6 @@ crash_failed_cut size old new failed c crash = at_end failed.passes.later failed
     at_end (p ∷ later) is each = inr (each.0 c (subst (λ (q : Pending). IsCrash q c) (head_is _ _ _ _ is) crash))
 
 -- ---- the stages
-
--- what a read gives or a crash leaves
-abbrev pub Gives : DiskState → List ℕ → Type 0
-Gives disk c = (c ≡ disk.content) ⊎ IsCrash disk.pending c
 
 -- the disk at each stage, with these bodies and this one in hand
 abbrev pub DiskAt : Stage → DiskState → List (List ℕ) → List Record → Type 0

@@ -1,6 +1,8 @@
--- The events of the world: when each may happen, and what it does. Each effect is a function of its holder's part. A crash is no
--- event: it may come between two events, or within a call of the disk, which counts as after it.
-use Rattle.std.specs.Prelude.{◌≡◌, ℕ, ◌+◌, ◌<◌, ◌≤◌, ◌^◌, ◌==◌, min, true, false, if◌then◌else◌, List, [], ◌∷◌, ◌++◌, length, take, drop}
+-- The events of the world: when each may happen, and what it does. Each effect is a function of its holder's part.
+-- A crash is no event: it may come between two events, or within a call of the disk. Within a write it counts as after it,
+-- and within a sync as before it.
+use Rattle.std.specs.Prelude.{◌≡◌, ℕ, ◌+◌, ◌<◌, ◌≤◌, ◌==◌, min, true, false, if◌then◌else◌, List, [], ◌∷◌, ◌++◌, length, take, drop}
+use Rattle.rrv_model.specs.declared.limits.TheConstants.{QUEUE_ITEMS, BATCH_ITEMS, MAX_BODY, MAX_SEGMENTS, MAX_STORE}
 use Rattle.rrv_model.specs.declared.record.Record.{Record}
 use Rattle.rrv_model.specs.CrashModel.{DiskState}
 use Rattle.rrv_model.specs.DiskCalls.{after_write, after_sync, FailsToWrite}
@@ -10,18 +12,20 @@ use Rattle.rrv_model.specs.Recording.{IsRecording, IsNumbered, EndsIn, items_of}
 use Rattle.rrv_model.specs.StoreText.{segment}
 use Rattle.rrv_model.specs.Recovered.{body_text}
 use Rattle.commit_core.specs.Runs.{IsOutput}
-use Rattle.commit_core.specs.World.{World, Recorder, Flusher, Stage, made, committed, stored_bodies, store_text}
+use Rattle.commit_core.specs.World.{World, Recorder, Flusher, Stage, made, committed_count, stored_bodies, store_text}
 use Rattle.commit_core.specs.World.Stage.{Idle, Written, Synced, Opened, Broken}
 
 pub data Event : Type 0 where
-  -- of the recorder at a place: it makes a record, sends its next one, looks at its count, puts bytes out, looks at the halt, leaves
+  -- of the recorder at a place: it makes a record, sends its next one, looks at its count, puts bytes out, looks at the
+  -- halt, leaves
   Slice : (g : ℕ) (r : Record) (s : State) → Event
   Push : (g : ℕ) (r : Record) (rest : List Record) → Event
   Look : (g : ℕ) → Event
   Release : (g : ℕ) (more : List (ℕ × ℕ)) → Event
   LookHalt : (g : ℕ) → Event
   Leave : (g : ℕ) → Event
-  -- of the flusher: it receives a record, and commits those that wait; a call of the disk that fails tells the disk that it leaves
+  -- of the flusher: it receives a record, and commits those that wait; a call of the disk that fails tells which disk it
+  -- leaves
   Pop : (r : Record) (rest : List Record) → Event
   WriteBody : (count : ℕ) → Event
   WriteBodyFails : (count : ℕ) (disk : DiskState) → Event
@@ -114,7 +118,8 @@ after w (Look g) = with_recorder w g (looked (w.words g) (w.recorders g))
 after w (Release g more) = with_recorder w g (released more (w.recorders g))
 after w (LookHalt g) = with_recorder w g (looked_at_halt (w.words w.guests) (w.recorders g))
 after w (Leave g) =
-    record (with_recorder w g (gone (w.recorders g))) { words = put w.words (left_place w g) (length (w.recorders g).sent + 1) }
+    let one = w.recorders g in
+    record (with_recorder w g (gone one)) { words = put w.words (left_place w g) (length one.sent + 1) }
 after w (Pop r rest) = record w { flusher = popped r w.flusher; queue = rest }
 after w (WriteBody count) =
     with_flusher w (took count Written w.flusher) (after_write w.disk (gate_place w + 1) (behind_gate w count))
@@ -126,7 +131,7 @@ after w (OpenGateFails disk) = with_flusher w (at_stage Broken w.flusher) disk
 after w Sync2 = with_flusher w (finished_hand w.flusher) (after_sync w.disk)
 after w Sync2Fails = with_flusher w (at_stage Broken w.flusher) w.disk
 after w (Publish g) =
-    let count = committed (w.first + g) w.flusher in
+    let count = committed_count (w.first_guest + g) w.flusher in
     record w { flusher = published g count w.flusher; words = put w.words g count }
 after w Halt = record w { flusher = halting w.flusher; words = put w.words w.guests 1 }
 after w (LookLeft g) = record w { flusher = looked_at_left g (w.words (left_place w g)) w.flusher }
@@ -138,30 +143,32 @@ pub record CanSlice (w : World) (g : ℕ) (r : Record) (s : State) : Type 0 wher
   pub guest : g < w.guests
   pub has_text : HasText r
   pub recording : IsRecording (made (w.recorders g) ++ r ∷ [])
-  pub numbered : IsNumbered (w.first + g) 0 (made (w.recorders g) ++ r ∷ [])
+  pub numbered : IsNumbered (w.first_guest + g) 0 (made (w.recorders g) ++ r ∷ [])
   pub ends : EndsIn (items_of (made (w.recorders g) ++ r ∷ [])) s
 
 pub record CanPush (w : World) (g : ℕ) (r : Record) (rest : List Record) : Type 0 where
   pub guest : g < w.guests
   pub next : (w.recorders g).backlog ≡ r ∷ rest
-  pub room : length w.queue < 256
+  pub room : length w.queue < QUEUE_ITEMS
   pub here : (w.recorders g).left ≡ false
 
--- 1 to 64 records that wait, within the limits of a body and of the store
+-- a batch of records that wait, within the limits of a body and of the store
 pub record CanWrite (w : World) (count : ℕ) : Type 0 where
   pub idle : w.flusher.stage ≡ Idle
   pub some : 1 ≤ count
-  pub few : count ≤ 64
+  pub few : count ≤ BATCH_ITEMS
   pub there : count ≤ length w.flusher.waiting
-  pub body : length (next_body w count) ≤ 8388608
-  pub number : length (stored_bodies w) < 4294967295
-  pub store : gate_place w + length (next_body w count) + 42 ≤ 2 ^ 40
+  pub body : length (next_body w count) ≤ MAX_BODY
+  pub number : length (stored_bodies w) < MAX_SEGMENTS
+  pub store : gate_place w + length (next_body w count) + 42 ≤ MAX_STORE
 
 abbrev pub May : World → Event → Type 0
 May w (Slice g r s) = CanSlice w g r s
 May w (Push g r rest) = CanPush w g r rest
 May w (Look g) = g < w.guests
-May w (Release g more) = (g < w.guests) × IsOutput ((w.recorders g).out ++ more) (take (w.recorders g).seen (made (w.recorders g)))
+May w (Release g more) =
+    let one = w.recorders g in
+    (g < w.guests) × IsOutput (one.out ++ more) (take one.seen (made one))
 May w (LookHalt g) = g < w.guests
 May w (Leave g) = g < w.guests
 May w (Pop r rest) = w.queue ≡ r ∷ rest

@@ -71,7 +71,7 @@ example_recorder number = record {
 abbrev pub start_on : List (List ℕ) → ℕ → World
 start_on bodies number = record {
   guests = 1;
-  first = number;
+  first_guest = number;
   bodies = bodies;
   recorders = λ g. example_recorder number;
   queue = [];
@@ -96,7 +96,8 @@ up_to_received written ended =
 abbrev pub up_to_gate : State → State → List Event
 up_to_gate written ended = up_to_received written ended ++ WriteBody 3 ∷ Sync1 ∷ OpenGate ∷ []
 
--- the commit is finished and published, the recorder looks, and puts the byte out; at a halt it leaves, and the flusher sees it
+-- the commit is finished and published, the recorder looks, and puts the byte out; at a halt it leaves, and the flusher
+-- sees it
 abbrev pub from_gate_on : List Event
 from_gate_on =
     Sync2 ∷ Publish 0 ∷ Look 0 ∷ Release 0 ((1, 0x7F) ∷ []) ∷ Halt ∷ LookHalt 0 ∷ Leave 0 ∷ LookLeft 0 ∷ []
@@ -124,7 +125,8 @@ pub record GateMayTear (w : World) : Type 0 where
 
 -- ---- two sessions
 
--- one that is stopped in the write of the gate, and one that finds its records there, and is stopped before it does anything
+-- one that is stopped in the write of the gate, and one that finds its records there, and is stopped before it does
+-- anything
 abbrev pub two_sessions : State → State → List Session
 two_sessions written ended =
     Ran example_start [] (up_to_gate written ended) ∷ Ran (start_on (body_text all_three ∷ []) 1) all_three [] ∷ []

@@ -18,7 +18,8 @@ torn_disk disk place count content = record {
 
 -- the write behind the closed gate fails, and leaves these bytes there
 abbrev pub write_fails : World → List ℕ → Event
-write_fails w behind = WriteBodyFails 3 (torn_disk w.disk (gate_place w + 1) (length (behind_gate w 3)) (closed_store [] ++ behind))
+write_fails w behind =
+    WriteBodyFails 3 (torn_disk w.disk (gate_place w + 1) (length (behind_gate w 3)) (closed_store [] ++ behind))
 
 -- the write of the gate fails, and leaves this byte there
 abbrev pub gate_fails : World → ℕ → Event
@@ -35,5 +36,7 @@ pub record EachCallFails (written ended : State) : Type 0 where
   pub write : (behind : List ℕ) → length behind ≤ length (behind_gate (all_received written ended) 3) →
       IsSchedule example_start (up_to_received written ended ++ write_fails (all_received written ended) behind ∷ [])
   pub sync1 : IsSchedule example_start (up_to_received written ended ++ WriteBody 3 ∷ Sync1Fails ∷ [])
-  pub gate : (gate : ℕ) → IsSchedule example_start (up_to_synced written ended ++ gate_fails (run example_start (up_to_synced written ended)) gate ∷ [])
+  pub gate : (gate : ℕ) →
+      let events = up_to_synced written ended in
+      IsSchedule example_start (events ++ gate_fails (run example_start events) gate ∷ [])
   pub sync2 : IsSchedule example_start (up_to_gate written ended ++ Sync2Fails ∷ [])

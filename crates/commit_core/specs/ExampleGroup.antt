@@ -1,4 +1,5 @@
--- Two guests at once: each runs the example's file up to its write, one body has records of both, and a byte of each leaves.
+-- Two guests at once: each runs the example's file up to its write, one body has records of both, and a byte of each
+-- leaves.
 use Rattle.std.specs.Prelude.{◌≡◌, ℕ, List, [], ◌∷◌}
 use Rattle.rrv_model.specs.declared.record.Record.{Record}
 use Rattle.rrv_model.specs.State.{State}
@@ -25,7 +26,8 @@ of_both = opened_by 0 ∷ opened_by 1 ∷ wrote_by 1 ∷ wrote_by 0 ∷ []
 abbrev pub pair_events : State → List Event
 pair_events written =
     Slice 0 (wrote_by 0) written ∷ Slice 1 (wrote_by 1) written
-    ∷ Push 0 (opened_by 0) (wrote_by 0 ∷ []) ∷ Push 1 (opened_by 1) (wrote_by 1 ∷ []) ∷ Push 1 (wrote_by 1) [] ∷ Push 0 (wrote_by 0) []
+    ∷ Push 0 (opened_by 0) (wrote_by 0 ∷ []) ∷ Push 1 (opened_by 1) (wrote_by 1 ∷ [])
+    ∷ Push 1 (wrote_by 1) [] ∷ Push 0 (wrote_by 0) []
     ∷ Pop (opened_by 0) (opened_by 1 ∷ wrote_by 1 ∷ wrote_by 0 ∷ []) ∷ Pop (opened_by 1) (wrote_by 1 ∷ wrote_by 0 ∷ [])
     ∷ Pop (wrote_by 1) (wrote_by 0 ∷ []) ∷ Pop (wrote_by 0) []
     ∷ WriteBody 4 ∷ Sync1 ∷ OpenGate ∷ Sync2 ∷ Publish 0 ∷ Publish 1
@@ -34,5 +36,5 @@ pair_events written =
 -- one body is finished, with the records of both, and of each guest a byte has left
 pub record BothLeave (w : World) : Type 0 where
   pub body : w.flusher.finished ≡ of_both ∷ []
-  pub first : (w.recorders 0).out ≡ (1, 0x7F) ∷ []
-  pub second : (w.recorders 1).out ≡ (1, 0x7F) ∷ []
+  pub first_out : (w.recorders 0).out ≡ (1, 0x7F) ∷ []
+  pub second_out : (w.recorders 1).out ≡ (1, 0x7F) ∷ []

@@ -1,5 +1,5 @@
--- A session that begins with a repair: the first one's byte has left, and it is stopped in the write of its second gate; the next one is
--- stopped within its opening.
+-- A session that begins with a repair: the first one's byte has left, and it is stopped in the write of its second gate;
+-- the next one is stopped within its opening.
 use Rattle.std.specs.Prelude.{◌≡◌, ℕ, ◌+◌, List, [], ◌∷◌, ◌++◌, length}
 use Rattle.rrv_model.specs.declared.record.Record.{Record}
 use Rattle.rrv_model.specs.CrashModel.{DiskState, IsCrash}
@@ -28,7 +28,8 @@ up_to_second_gate written ended =
     ++ WriteBody 2 ∷ Sync1 ∷ OpenGate ∷ Sync2 ∷ Publish 0 ∷ Look 0 ∷ Release 0 ((1, 0x7F) ∷ [])
     ∷ WriteBody 1 ∷ Sync1 ∷ OpenGate ∷ []
 
--- the store with its first body, a gate that is neither closed nor open, and behind it the second segment and a closed gate
+-- the store with its first body, a gate that is neither closed nor open, and behind it the second segment and a closed
+-- gate
 abbrev pub torn_store : List ℕ
 torn_store = store_text first_body ++ 0x21 ∷ (segment 1 (body_text (exited ∷ [])) ++ 0 ∷ [])
 

@@ -1,35 +1,45 @@
--- Sessions: each opens the store, records, and is stopped anywhere.
+-- Sessions: each opens the store, records or records nothing, and is stopped anywhere.
 use Rattle.std.specs.Prelude.{◌≡◌, ◌⊎◌, ℕ, ◌≤◌, List, [], ◌∷◌, ◌++◌, length}
 use Rattle.std.specs.List.{AllByRecursion}
 use Rattle.rrv_model.specs.declared.record.Record.{Record}
 use Rattle.rrv_model.specs.CrashModel.{DiskState, IsCrash, all_synced}
 use Rattle.rrv_model.specs.StoreText.{IsStore, IsNextSegment}
 use Rattle.rrv_model.specs.StoreCalls.{after_disk_calls, open_calls, IsWithin}
-use Rattle.rrv_model.specs.Recovered.{IsRecovered}
+use Rattle.rrv_model.specs.Recovered.{next_guest, IsRecovered}
 use Rattle.commit_core.specs.World.{World, IsStart}
 use Rattle.commit_core.specs.Events.{Event, run, IsSchedule}
 
 -- ---- sessions
 
--- one that is stopped within `open`, and one whose `open` answered and that then ran a list of events
+-- one that is stopped within `open`; one whose `open` answered and that recorded nothing; and one that then ran a list of
+-- events
 pub data Session : Type 0 where
   StoppedOpening : Session
+  OnlyOpened : (bodies : List (List ℕ)) (old : List Record) → Session
   Ran : (start : World) (old : List Record) (events : List Event) → Session
 
 -- the disk once `open` has answered
 abbrev pub opened_disk : (disk : DiskState) (bodies : List (List ℕ)) → IsStore disk.content bodies → DiskState
 opened_disk disk bodies store = after_disk_calls disk (open_calls disk.content bodies store)
 
-abbrev pub Goes : DiskState → Session → DiskState → Type 0
-Goes disk StoppedOpening end =
-    (bodies : List (List ℕ)) × (store : IsStore disk.content bodies) × IsWithin disk (open_calls disk.content bodies store) end
-Goes disk (Ran start old events) end =
+-- a session that finds the one disk and leaves the other
+abbrev pub IsSession : DiskState → Session → DiskState → Type 0
+IsSession disk StoppedOpening end =
+    (bodies : List (List ℕ)) × (store : IsStore disk.content bodies)
+    × IsWithin disk (open_calls disk.content bodies store) end
+IsSession disk (OnlyOpened bodies old) end =
+    (store : IsStore disk.content bodies) × IsRecovered bodies old × (end ≡ opened_disk disk bodies store)
+IsSession disk (Ran start old events) end =
     (store : IsStore disk.content start.bodies) × (start.disk ≡ opened_disk disk start.bodies store)
     × IsStart start old × IsSchedule start events × (end ≡ (run start events).disk)
 
 -- a disk that holds these bytes and has done nothing yet
 abbrev pub fresh_disk : List ℕ → DiskState
 fresh_disk bytes = record { content = bytes; pending = all_synced bytes; past = [] }
+
+-- what a read of the disk gives, or a crash leaves on it
+abbrev pub Gives : DiskState → List ℕ → Type 0
+Gives disk content = (content ≡ disk.content) ⊎ IsCrash disk.pending content
 
 -- the machine stops, and the disk holds what a crash left; or the process alone, and the disk is as it was
 abbrev pub IsStopped : DiskState → DiskState → Type 0
@@ -38,21 +48,24 @@ IsStopped disk next = (next ≡ disk) ⊎ ((content : List ℕ) × IsCrash disk.
 abbrev pub AreSessions : DiskState → List Session → DiskState → Type 0
 AreSessions disk [] end = end ≡ disk
 AreSessions disk (session ∷ sessions) end =
-    (stop : DiskState) × (next : DiskState) × Goes disk session stop × IsStopped stop next × AreSessions next sessions end
+    (stop : DiskState) × (next : DiskState)
+    × IsSession disk session stop × IsStopped stop next × AreSessions next sessions end
 
 -- ---- what `open` reported
 
--- the bodies, and the number of that session's first guest
+-- the bodies, and the number that the next guest behind them has
 pub record Report : Type 0 where
   pub bodies : List (List ℕ)
-  pub first : ℕ
+  pub first_guest : ℕ
 
 abbrev pub reports : List Session → List Report
 reports [] = []
 reports (StoppedOpening ∷ sessions) = reports sessions
-reports (Ran start old events ∷ sessions) = record { bodies = start.bodies; first = start.first } ∷ reports sessions
+reports (OnlyOpened bodies old ∷ sessions) = record { bodies = bodies; first_guest = next_guest old } ∷ reports sessions
+reports (Ran start old events ∷ sessions) =
+    record { bodies = start.bodies; first_guest = start.first_guest } ∷ reports sessions
 
--- what is recovered from the bodies is that of the report, and then records of guests of that session or later ones
+-- what is recovered from the bodies is that of the report, and then records of guests of its number or later ones
 pub record GrowsTo (report : Report) (bodies : List (List ℕ)) : Type 0 where
   pub more : List (List ℕ)
   pub bodies_are : bodies ≡ report.bodies ++ more
@@ -60,26 +73,24 @@ pub record GrowsTo (report : Report) (bodies : List (List ℕ)) : Type 0 where
   pub gained : List Record
   pub reported : IsRecovered report.bodies before
   pub recovered : IsRecovered bodies (before ++ gained)
-  pub later : AllByRecursion (λ (r : Record). report.first ≤ r.guest) gained
-
-abbrev pub GrowsToEach : Report → List Report → Type 0
-GrowsToEach report [] = Unit {0}
-GrowsToEach report (later ∷ reports) = GrowsTo report later.bodies × GrowsToEach report reports
+  pub later : AllByRecursion (λ (r : Record). report.first_guest ≤ r.guest) gained
 
 -- each report grows to each later one
 abbrev pub AreGrowing : List Report → Type 0
 AreGrowing [] = Unit {0}
-AreGrowing (report ∷ reports) = GrowsToEach report reports × AreGrowing reports
+AreGrowing (report ∷ reports) =
+    AllByRecursion (λ (later : Report). GrowsTo report later.bodies) reports × AreGrowing reports
 
 -- ---- what can be opened
 
--- The bytes are a store whose bodies are as `fine` says; where the last gate isn't 00 a whole segment stands behind it, with which
--- they are, too.
+-- The bytes are a store whose bodies are as `fine` says; where the last gate isn't 00 a whole segment stands behind it,
+-- with which they are, too.
 pub record IsStoreOf (fine : List (List ℕ) → Type 0) (bytes : List ℕ) : Type 0 where
   pub bodies : List (List ℕ)
   pub store : IsStore bytes bodies
   pub are : fine bodies
-  pub next : (store.gate ≡ 0) ⊎ ((segment : IsNextSegment (length bodies) store.behind) × fine (bodies ++ segment.body ∷ []))
+  pub next : (store.gate ≡ 0)
+      ⊎ ((segment : IsNextSegment (length bodies) store.behind) × fine (bodies ++ segment.body ∷ []))
 
 abbrev pub HasRecords : List (List ℕ) → Type 0
 HasRecords bodies = (records : List Record) × IsRecovered bodies records

@@ -1,6 +1,7 @@
--- The world of a recording: the recorders, the queue, the words, the flusher and the disk. Each part is kept by its holder.
+-- The world of a recording: the recorders, the queue, the words, the flusher and the disk, each kept by its holder.
 use Rattle.std.specs.Prelude.{◌≡◌, ℕ, ◌+◌, ◌<◌, ◌≤◌, Bool, false, if◌then◌else◌, List, [], ◌∷◌, ◌++◌, length, map, flat_map}
 use Rattle.std.specs.List.{AllByRecursion}
+use Rattle.rrv_model.specs.declared.limits.TheConstants.{MAX_GUESTS, MAX_NUMBER, MAX_SEGMENTS}
 use Rattle.rrv_model.specs.declared.record.Opening.{Opening}
 use Rattle.rrv_model.specs.declared.record.Item.TheVariants as items
 use Rattle.rrv_model.specs.declared.record.Record.{Record}
@@ -53,18 +54,18 @@ received f = joined f.finished ++ f.hand ++ f.waiting
 pub record World : Type 0 where
   -- how many guests are recorded, the number of the first, and the bodies of the store before
   pub guests : ℕ
-  pub first : ℕ
+  pub first_guest : ℕ
   pub bodies : List (List ℕ)
   pub recorders : ℕ → Recorder
   pub queue : List Record
-  -- below guests: the counts of durable records; at guests: the halt; above: for each guest that left, one more than it sent
+  -- below guests: the counts of durable records; at guests: the halt; above: of each guest that left, one more than it sent
   pub words : ℕ → ℕ
   pub flusher : Flusher
   pub disk : DiskState
 
 -- how many records of the guest at this place stand in finished bodies
-abbrev pub committed : ℕ → Flusher → ℕ
-committed number f = length (of_guest number (joined f.finished))
+abbrev pub committed_count : ℕ → Flusher → ℕ
+committed_count number f = length (of_guest number (joined f.finished))
 
 -- the bodies that the store holds
 abbrev pub stored_bodies : World → List (List ℕ)
@@ -125,17 +126,17 @@ nothing_done = record {
   stage = Idle;
 }
 
--- The store holds bodies from which these records are recovered, and every crash leaves just that; 1 to 16 recorders are ready.
+-- The store holds bodies from which these records are recovered, and every crash leaves just that; some recorders are ready.
 pub record IsStart (w : World) (old : List Record) : Type 0 where
   pub some : 1 ≤ w.guests
-  pub few : w.guests ≤ 16
+  pub few : w.guests ≤ MAX_GUESTS
   pub recovered : IsRecovered w.bodies old
-  pub next : w.first ≡ next_guest old
-  pub room : w.first + w.guests ≤ 4294967295
+  pub next : w.first_guest ≡ next_guest old
+  pub room : w.first_guest + w.guests ≤ MAX_NUMBER + 1
   pub are_bodies : AllByRecursion IsBody w.bodies
-  pub count : length w.bodies ≤ 4294967295
+  pub count : length w.bodies ≤ MAX_SEGMENTS
   pub disk : IsAtRest w.disk (closed_store w.bodies)
-  pub ready : (g : ℕ) → g < w.guests → IsReady (w.first + g) (w.recorders g)
+  pub ready : (g : ℕ) → g < w.guests → IsReady (w.first_guest + g) (w.recorders g)
   pub queue : w.queue ≡ []
   pub words : (k : ℕ) → w.words k ≡ 0
   pub flusher : w.flusher ≡ nothing_done

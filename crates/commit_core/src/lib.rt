@@ -13,7 +13,7 @@ ghost use Rattle.commit_core.specs.World.{World, IsStart, IsAtRest, closed_store
 ghost use Rattle.commit_core.specs.Events.{Event, IsSchedule, run};
 ghost use Rattle.commit_core.specs.Facts.{Facts, Recovers};
 ghost use Rattle.commit_core.specs.Sessions.{Session, AreSessions, AreGrowing, CanOpen, fresh_disk, opened_disk, reports};
-ghost use Rattle.commit_core.specs.Headline.{IsSafeThroughout};
+ghost use Rattle.commit_core.specs.Headline.{AreKept, IsSafeThroughout};
 ghost use Rattle.commit_core.specs.FailedCalls.{IsFailedCall, IsLastCall};
 ghost use Rattle.commit_core.specs.Example.{GateMayTear, example_start, two_sessions, up_to_gate, up_to_release};
 ghost use Rattle.commit_core.specs.ExampleFailures.{EachCallFails};
@@ -24,16 +24,19 @@ ghost use Rattle.commit_core.specs.ExampleRepair.{IsRepaired};
 /// each guest a beginning of its records that holds every record of which an output byte has left, and whose replay gives, at
 /// every instruction count, the state that the recorded run had there.
 pub fn safe_always()
-    ensures facts { (start : World) (old : List Record) (events : List Event) → IsStart start old → IsSchedule start events
-        → Facts (run start events) }
+    ensures facts { (start : World) (old : List Record) (events : List Event) → IsStart start old
+        → IsSchedule start events → Facts (run start events) }
     ensures crash { (start : World) (old : List Record) (events : List Event) (content : List ℕ) → IsStart start old
-        → IsSchedule start events → IsCrash (run start events).disk.pending content → Recovers (run start events) old content }
+        → IsSchedule start events → IsCrash (run start events).disk.pending content
+        → Recovers (run start events) old content }
 {}
 
-/// Over any list of sessions, each of which opens the store, records, and is stopped anywhere: what one `open` reported is a
-/// beginning of what each later one reports, what follows belongs to guests of that session or later ones, and what every crash
-/// leaves can be opened again. Once `open` has made its calls the store is at rest with its bodies. Of each session that ran, from
-/// what its `open` reported, what `safe_always` says is true at each of its moments.
+/// Over any list of sessions, each of which opens the store, records or records nothing, and is stopped anywhere: what one `open`
+/// reported is a beginning of what each later one reports, and what follows belongs to guests of that session or later ones. What
+/// every crash leaves, and what a read gives, can be opened again. Once `open` has made its calls the store is at rest with its
+/// bodies. Of each session that ran, from what its `open` reported, what `safe_always` says is true at each of its moments. And what
+/// it recovered to when it was stopped is kept: each later report begins with it, and so does what the disk holds at the end, also
+/// where sessions between them were stopped before they reported.
 pub fn sessions_always()
     ensures grows { (content : List ℕ) (sessions : List Session) (end : DiskState) → CanOpen content
         → AreSessions (fresh_disk content) sessions end → AreGrowing (reports sessions) }
@@ -43,6 +46,8 @@ pub fn sessions_always()
         → AreSessions (fresh_disk content) sessions end → CanOpen end.content }
     ensures safe { (content : List ℕ) (sessions : List Session) (end : DiskState) → CanOpen content
         → AreSessions (fresh_disk content) sessions end → AllByRecursion IsSafeThroughout sessions }
+    ensures kept { (content : List ℕ) (sessions : List Session) (end : DiskState) → CanOpen content
+        → AreSessions (fresh_disk content) sessions end → AreKept sessions end }
     ensures opened { (disk : DiskState) (bodies : List (List ℕ)) (store : IsStore disk.content bodies)
         → IsAtRest (opened_disk disk bodies store) (closed_store bodies) }
 {}
@@ -58,7 +63,8 @@ pub fn failure_is_last()
 pub fn byte_leaves()
     ensures start { IsStart example_start [] }
     ensures leaves { (written ended : State) × IsSchedule example_start (up_to_release written ended)
-        × (((run example_start (up_to_release written ended)).recorders 0).out ≡ (1, 0x7F) ∷ []) × (ended.ended ≡ Some (Exited 1)) }
+        × (((run example_start (up_to_release written ended)).recorders 0).out ≡ (1, 0x7F) ∷ [])
+        × (ended.ended ≡ Some (Exited 1)) }
 {}
 
 /// The same run can be stopped within the write of the gate, and then any byte may stand there: nothing is recovered, or all its
@@ -71,8 +77,8 @@ pub fn crash_in_gate()
 /// The premises of `sessions_always` can be met: that run is stopped in the write of the gate, and a second session finds all its
 /// records.
 pub fn sessions_follow()
-    ensures first { CanOpen (closed_store []) }
-    ensures second { (written ended : State) × (end : DiskState)
+    ensures opens { CanOpen (closed_store []) }
+    ensures follow { (written ended : State) × (end : DiskState)
         × AreSessions (fresh_disk (closed_store [])) (two_sessions written ended) end }
 {}
 
@@ -86,7 +92,8 @@ pub fn calls_fail()
 /// Two guests at once: their records are sent in turn, one body holds those of both, and of each guest a byte leaves.
 pub fn two_guests()
     ensures start { IsStart pair_start [] }
-    ensures leave { (written : State) × IsSchedule pair_start (pair_events written) × BothLeave (run pair_start (pair_events written)) }
+    ensures leave { (written : State) × IsSchedule pair_start (pair_events written)
+        × BothLeave (run pair_start (pair_events written)) }
 {}
 
 /// A session can begin with a repair: one committed two records, put its byte out, and was stopped in the write of the next gate, which

@@ -9,7 +9,8 @@ use Rattle.rrv_model.specs.Opening.{bare_memory, opening_memory, stack_pointer, 
 use Rattle.guest_pages.specs.Space.{present}
 use Rattle.guest_opening.specs.Loading.{with_stack}
 use Rattle.guest_opening.proofs.StackStores.{stored-append, stored-nil, stored-word, present_part}
-use Rattle.guest_pages.proofs.Cells.{all_pass, is_some-stored}
+use Rattle.rrv_model.proofs.PageCounts.{is_some-stored}
+use Rattle.guest_pages.proofs.Cells.{all_pass}
 
 -- ---- words
 

@@ -8,7 +8,8 @@ use Rattle.std.proofs.lemmas.Grind.{flat_map-append}
 use Rattle.std.proofs.Math.Seq.{get_or-append_right}
 use Rattle.rrv_model.specs.Memory.{Memory, Cell, stored, is_within, with_byte}
 use Rattle.guest_pages.specs.Space.{present}
-use Rattle.guest_pages.proofs.Cells.{all_pass, one_of_all, is_some-stored}
+use Rattle.rrv_model.proofs.PageCounts.{is_some-stored}
+use Rattle.guest_pages.proofs.Cells.{all_pass, one_of_all}
 
 -- ---- stores
 

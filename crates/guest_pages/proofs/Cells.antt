@@ -1,10 +1,11 @@
 -- What the memory in pages has within one page.
-use Rattle.std.proofs.Common.{length, slice_index, ◌≡◌, ℕ, zero, suc, ◌+◌, ◌*◌, ◌/◌, ◌%◌, ◌<◌, ◌≤◌, List, [], Option, Some, None, is_some, Bool, true, false, refl, ap, ◌∙◌, sym, arith, inl, inr, subst, ◌-◌, max, if◌then◌else◌}
+use Rattle.std.proofs.Common.{length, slice_index, ◌≡◌, ℕ, zero, suc, ◌+◌, ◌*◌, ◌/◌, ◌%◌, ◌<◌, ◌≤◌, List, [], Option, Some, None, is_some, Bool, true, false, refl, ap, ◌∙◌, sym, arith, inl, inr, subst, ◌-◌, max}
 use Rattle.std.proofs.lemmas.Grind.{same_number_lists}
 use Rattle.std.proofs.Math.Bool.{and_self}
 use Rattle.std.proofs.lemmas.Bool.{false≢true, cases_lt, and_parts}
 use Rattle.std.specs.Option.{option_map}
-use Rattle.rrv_model.specs.Memory.{Cell, Memory, all_cells, bytes_at, can_read, can_write, can_execute, byte_or_zero, is_within, stored, with_byte}
+use Rattle.rrv_model.specs.Memory.{Cell, Memory, all_cells, bytes_at, can_read, can_write, can_execute, byte_or_zero}
+use Rattle.rrv_model.proofs.MemoryRules.{get_bytes_at, length_bytes_at}
 use Rattle.guest_pages.specs.declared.page.Page.{Page}
 use Rattle.guest_pages.specs.Pages.{run}
 use Rattle.guest_pages.specs.Space.{page_at, memory_in, cell_in, page_passes, test_of}
@@ -74,18 +75,6 @@ is_in_page pages a count some fits = passes_in_page is_some (λ k p. refl) pages
   by_page None = refl
   by_page (Some p) = refl
 
--- ---- a store keeps which bytes are there
-
-pub is_some-with_byte : (b : ℕ) (c : Option Cell) → is_some (with_byte b c) ≡ is_some c
-is_some-with_byte b None = refl
-is_some-with_byte b (Some c) = refl
-
-pub is_some-stored : (a : ℕ) (bytes : List ℕ) (m : Memory) (x : ℕ) → is_some (stored a bytes m x) ≡ is_some (m x)
-is_some-stored a bytes m x = by_place (is_within a (length bytes) x) where
-  by_place : (t : Bool) → is_some (if t then with_byte (slice_index bytes (x - a)) (m x) else m x) ≡ is_some (m x)
-  by_place true = is_some-with_byte (slice_index bytes (x - a)) (m x)
-  by_place false = refl
-
 -- ---- tests of a range
 
 -- what all of some cells pass, each does
@@ -135,19 +124,6 @@ absent_unreadable = absent_fails can_read is_there where
   is_there (Some c) w = refl
 
 -- ---- the bytes of a range
-
-pub length_bytes_at : (m : Memory) (a count : ℕ) → length (bytes_at m a count) ≡ count
-unfolding bytes_at
-length_bytes_at m a zero = refl
-length_bytes_at m a (suc count) = ap (λ n. suc n) (length_bytes_at m (a + 1) count)
-
-pub get_bytes_at : (m : Memory) (a count k : ℕ) → k < count → slice_index (bytes_at m a count) k ≡ byte_or_zero (m (a + k))
-unfolding bytes_at
-get_bytes_at m a zero k l = absurd (omega arith)
-get_bytes_at m a (suc count) zero l = let here : a + 0 ≡ a = omega arith in ap (λ x. byte_or_zero (m x)) (sym here)
-get_bytes_at m a (suc count) (suc k) l =
-    let place : a + 1 + k ≡ a + suc k = omega arith in
-    get_bytes_at m (a + 1) count k (omega arith) ∙ ap (λ x. byte_or_zero (m x)) place
 
 -- a list of as many bytes, each of them the memory's
 pub are_bytes_at : (m : Memory) (a count : ℕ) (bytes : List ℕ) → length bytes ≡ count → ((k : ℕ) → k < count → slice_index bytes k ≡ byte_or_zero (m (a + k))) → bytes ≡ bytes_at m a count

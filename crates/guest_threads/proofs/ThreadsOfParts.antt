@@ -18,8 +18,9 @@ use Rattle.rrv_model.specs.declared.record.ThreadPart.{ThreadPart}
 use Rattle.rrv_model.specs.State.{IsThread, IsWaiting}
 use Rattle.guest_threads.specs.Threads.{thread_map}
 use Rattle.guest_threads.specs.ThreadParts.{entries_of, tids_rise, waits_in, order_fits, Fits, MakeThreads}
-use Rattle.rrv_model.proofs.Threads.{is_at_nat, tied}
-use Rattle.guest_threads.proofs.ByTid.{entry_at, get_thread, same_tid, none_later, counted}
+use Rattle.rrv_model.proofs.Threads.{is_at_nat}
+use Rattle.rrv_model.proofs.ThreadRules.{same_tid, tied}
+use Rattle.guest_threads.proofs.ByTid.{entry_at, get_thread, none_later, counted}
 
 -- ---- rising tids
 

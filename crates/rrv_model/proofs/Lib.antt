@@ -3,6 +3,7 @@ pub mod RecordingLaws
 pub mod InstructionLaws
 pub mod FrameLaws
 pub mod Examples
+pub mod TextSizes
 pub mod TextLaws
 pub mod OpeningFacts
 pub mod Decoding
@@ -14,4 +15,19 @@ pub mod SettledLaws
 pub mod StoreCallLaws
 pub mod RecoveredLaws
 pub mod StoreLaws
+pub mod FreePlaces
+pub mod WordValues
+pub mod MemoryRules
+pub mod StepRules
+pub mod ThreadRules
+pub mod StateRules
+pub mod CallRules
+pub mod StateLaws
+pub mod PageTexts
+pub mod CheckpointLaws
+pub mod ImageParts
+pub mod PageCounts
+pub mod AcceptedFile
+pub mod OpeningMemory
+pub mod OpeningState
 pub mod Threads

@@ -8,14 +8,11 @@ use Rattle.std.specs.FinMap.{FinMap, get, insert, get-insert}
 use Rattle.rrv_model.specs.declared.machine.Thread.{Thread}
 use Rattle.rrv_model.specs.State.{State, thread_at, with_thread, IsRunning}
 use Rattle.rrv_model.specs.CallRows.{change_thread}
+use Rattle.rrv_model.proofs.ThreadRules.{tied}
 
 -- a query for a number finds that number alone
 pub is_at_nat : (q k : ℕ) → is_at (nat_cmp q) k ≡ (k == q)
 is_at_nat q k = grind (arith, common_steps)
-
--- a number ties with itself
-pub tied : (q : ℕ) → eq_by_cmp nat_cmp q q ≡ true
-tied q = (eq_by_cmp_equiv nat_cmp_total).refl q
 
 pub get-insert_same : (m : FinMap nat_cmp Thread) (k : ℕ) (v : Thread) → get (insert m k v) k ≡ Some v
 get-insert_same m k v = get-insert nat_cmp_total m k v k ∙ ap (λ b. cond b (Some v) (get m k)) (tied k)

@@ -1,8 +1,8 @@
 use Rattle.commit_core.proofs.ExampleSessions.{first_opens, sessions_follow}
 use Rattle.commit_core.proofs.sessions_follow.Goals as goal
 
-pub returns-clause-first : goal.returns-clause-first
-returns-clause-first c = first_opens
+pub returns-clause-opens : goal.returns-clause-opens
+returns-clause-opens c = first_opens
 
-pub returns-clause-second : goal.returns-clause-second
-returns-clause-second c = sessions_follow
+pub returns-clause-follow : goal.returns-clause-follow
+returns-clause-follow c = sessions_follow

@@ -1,11 +1,10 @@
 -- How many pages are mapped. No count is unfolded at a number that is written out.
-use Rattle.std.proofs.Common.{◌≡◌, ℕ, zero, suc, ◌+◌, ◌*◌, ◌/◌, ◌<◌, ◌≤◌, Bool, true, false, if◌then◌else◌, List, Option, Some, None, is_some, arith, refl, ap, ◌∙◌, add-suc, add-zero}
+use Rattle.std.proofs.Common.{◌≡◌, ℕ, zero, suc, ◌+◌, ◌-◌, ◌*◌, ◌/◌, ◌<◌, ◌≤◌, Bool, true, false, if◌then◌else◌, List, length, Option, Some, None, is_some, slice_index, arith, refl, ap, ◌∙◌, add-suc, add-zero}
 use Rattle.std.specs.List.{list_any}
 use Rattle.rrv_model.specs.declared.machine.Permissions.{Permissions}
-use Rattle.rrv_model.specs.Memory.{Memory, Cell, stored, mapped, is_within, is_mapped, pages_below, page_bytes}
+use Rattle.rrv_model.specs.Memory.{Memory, Cell, stored, mapped, is_within, with_byte, is_mapped, pages_below, page_bytes}
 use Rattle.rrv_model.specs.Elf.{Header, touches, touched_below}
-use Rattle.guest_opening.proofs.ImageParts.{image_of}
-use Rattle.guest_pages.proofs.Cells.{is_some-stored}
+use Rattle.rrv_model.proofs.ImageParts.{image_of}
 
 -- ---- counts of any memory
 
@@ -59,7 +58,20 @@ pages_none (suc k) n m h =
 
 -- ---- which pages are mapped
 
--- storing keeps which pages are mapped
+pub is_some-with_byte : (b : ℕ) (c : Option Cell) → is_some (with_byte b c) ≡ is_some c
+is_some-with_byte b None = refl
+is_some-with_byte b (Some c) = refl
+
+pub is_some-if : (t : Bool) (c d : Option Cell) → is_some c ≡ is_some d → is_some (if t then c else d) ≡ is_some d
+is_some-if true c d e = e
+is_some-if false c d e = refl
+
+-- storing keeps which bytes are there
+pub is_some-stored : (a : ℕ) (bytes : List ℕ) (m : Memory) (x : ℕ) → is_some (stored a bytes m x) ≡ is_some (m x)
+is_some-stored a bytes m x =
+    is_some-if (is_within a (length bytes) x) (with_byte (slice_index bytes (x - a)) (m x)) (m x) (is_some-with_byte (slice_index bytes (x - a)) (m x))
+
+-- and which pages are mapped
 pub is_mapped-stored : (a : ℕ) (bytes : List ℕ) (m : Memory) (p : ℕ) → is_mapped (stored a bytes m) p ≡ is_mapped m p
 is_mapped-stored a bytes m p = is_some-stored a bytes m (p * page_bytes)
 
