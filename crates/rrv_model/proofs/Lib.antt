@@ -30,3 +30,4 @@ pub mod PageCounts
 pub mod AcceptedFile
 pub mod OpeningMemory
 pub mod OpeningState
+pub mod Threads

@@ -2,7 +2,6 @@
 use Rattle.std.proofs.Common.{◌≡◌, ℕ, zero, suc, ◌+◌, ◌^◌, ◌<◌, ◌≤◌, ◌==◌, ◌&&◌, not, nat_lt, Bool, true, false, cond, List, [], ◌∷◌, length, map, find, slice_index, Option, Some, None, IfSome, All, Contains, refl, sym, ◌∙◌, ap, subst, arith}
 use Rattle.std.proofs.lemmas.Bool.{false≢true, ltb-true, lt-ltb, and_parts, and_from, or_parts}
 use Rattle.std.proofs.lemmas.Bool.Decides.{Decides-eqb}
-use Rattle.std.proofs.lemmas.Grind.{common_steps}
 use Rattle.std.proofs.lemmas.List.{length-map}
 use Rattle.std.proofs.lemmas.List.Elements.{All-contains, All-from_recursion, recursion_from_All, All-contains_itself}
 use Rattle.std.proofs.lemmas.Map.Keys.{sorted_from_strictly_increasing}
@@ -19,6 +18,7 @@ use Rattle.rrv_model.specs.declared.record.ThreadPart.{ThreadPart}
 use Rattle.rrv_model.specs.State.{IsThread, IsWaiting}
 use Rattle.guest_threads.specs.Threads.{thread_map}
 use Rattle.guest_threads.specs.ThreadParts.{entries_of, tids_rise, waits_in, order_fits, Fits, MakeThreads}
+use Rattle.rrv_model.proofs.Threads.{is_at_nat}
 use Rattle.rrv_model.proofs.ThreadRules.{same_tid, tied}
 use Rattle.guest_threads.proofs.ByTid.{entry_at, get_thread, none_later, counted}
 
@@ -75,9 +75,6 @@ each P (p ∷ parts) sorted h = (
       let none : entry_at (entries_of parts) q ≡ None = ap (entry_at (entries_of parts)) (same_tid q p.tid e) ∙ none_later (p.tid, p.thread) (entries_of parts) sorted in
       subst (λ (o : Option Thread). IfSome o (P q)) (sym none) tt
   by q false e = subst (λ (b : Bool). IfSome (cond b (Some p.thread) (entry_at (entries_of parts) q)) (P q)) e (h q)
-
-is_at_nat : (q k : ℕ) → is_at (nat_cmp q) k ≡ (k == q)
-is_at_nat q k = grind (arith, common_steps)
 
 first_of : (parts : List ThreadPart) (q : ℕ) → entry_at (entries_of parts) q ≡ option_map (λ p. p.thread) (find (λ p. p.tid == q) parts)
 first_of [] q = refl

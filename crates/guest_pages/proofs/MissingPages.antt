@@ -1,6 +1,7 @@
 -- Which pages a mapping adds.
 use Rattle.std.proofs.Common.{◌≡◌, ◌≢◌, ℕ, zero, suc, ◌+◌, ◌-◌, ◌*◌, ◌/◌, ◌%◌, ◌<◌, ◌≤◌, ◌==◌, List, [], ◌∷◌, ◌++◌, length, Option, Some, None, IfSome, IsSome, is_some, IsSomeAnd, Bool, true, false, not, cond, refl, ap, ◌∙◌, sym, subst, arith, slice_index, if◌then◌else◌, inl, inr, IsTrue, ◌^◌, nat_lt, ◌&&◌, ◌||◌, length-append, add-zero, take, drop, replicate}
-use Rattle.std.proofs.lemmas.Bool.{false≢true, cases_lt}
+use Rattle.std.proofs.Math.Bool.{and-false, or-false, or-true, or_assoc}
+use Rattle.std.proofs.lemmas.Bool.{false≢true, cases_lt, or_parts}
 use Rattle.std.proofs.lemmas.Bool.Decides.{nat_tests, eqb_tells}
 use Rattle.std.proofs.lemmas.Grind.{take_at_read}
 use Rattle.std.proofs.lemmas.List.{take-append-drop, append-nil, length-replicate}
@@ -14,7 +15,7 @@ use Rattle.rrv_model.specs.Memory.{Memory, Cell, is_within, mapped, pages_below,
 use Rattle.guest_pages.specs.declared.page.Page.{Page}
 use Rattle.guest_pages.specs.Space.{page_at, memory_in, cell_in, IsPage, ArePages}
 use Rattle.guest_pages.specs.Mapping.{missing, has_number, covered, covered_cell, IsClear, IsJoined}
-use Rattle.guest_pages.proofs.Stores.{is_at_nat}
+use Rattle.rrv_model.proofs.Threads.{is_at_nat}
 use Rattle.guest_pages.proofs.Facts.{is_mapped_in, count_all, each_page, low_pages, count_is_length}
 
 pub missing_more : (pages : List (ℕ × Page)) (first number : ℕ) → first ≤ number →
@@ -40,23 +41,16 @@ pub missing_some : (pages : List (ℕ × Page)) (first count : ℕ) → 1 ≤ le
 unfolding missing all_mapped
 missing_some pages first zero some = absurd (omega arith)
 missing_some pages first (suc count) some = by_last (is_some (page_at pages (first + count))) (is_mapped_in pages (first + count)) (missing_some pages first count) some where
-  and_false : (b : Bool) → (b && false) ≡ false
-  and_false true = refl
-  and_false false = refl
-
   by_last : (b : Bool) → is_mapped (memory_in pages) (first + count) ≡ b → (1 ≤ length (missing pages first count) → all_mapped (memory_in pages) first count ≡ false) →
       1 ≤ length (missing pages first count ++ (if b then [] else (first + count) ∷ [])) → (is_mapped (memory_in pages) (first + count) && all_mapped (memory_in pages) first count) ≡ false
   by_last true there fewer longer =
       let before : all_mapped (memory_in pages) first count ≡ false = fewer (omega (arith, length-append (missing pages first count) [])) in
-      rw before (and_false (is_mapped (memory_in pages) (first + count)))
+      rw before (and-false (is_mapped (memory_in pages) (first + count)))
   by_last false absent fewer longer = rw absent refl
 
 has_number-append : (xs ys : List ℕ) (q : ℕ) → has_number (xs ++ ys) q ≡ (has_number xs q || has_number ys q)
 has_number-append [] ys q = refl
-has_number-append (x ∷ xs) ys q = ap (λ b. (x == q) || b) (has_number-append xs ys q) ∙ assoc (x == q) where
-  assoc : (b : Bool) → (b || (has_number xs q || has_number ys q)) ≡ (b || has_number xs q || has_number ys q)
-  assoc true = refl
-  assoc false = refl
+has_number-append (x ∷ xs) ys q = ap (λ b. (x == q) || b) (has_number-append xs ys q) ∙ sym (or_assoc (x == q) (has_number xs q) (has_number ys q))
 
 -- the missing numbers of a range are those at which there is no page
 pub has_missing : (pages : List (ℕ × Page)) (first count q : ℕ) → has_number (missing pages first count) q ≡ (is_within first count q && not (is_some (page_at pages q)))
@@ -123,14 +117,9 @@ at_end first count = grind (arith, nat_tests)
 
 still : (m : Memory) (first count q : ℕ) → is_mapped m (first + count) ≡ true → (is_within first (suc count) q || is_mapped m q) ≡ (is_within first count q || is_mapped m q)
 still m first count q there = elim (eqb_tells q (first + count)) [
-  | inl w ↦ let now : is_mapped m q ≡ true = subst (λ k. is_mapped m k ≡ true) (sym w.1) there in rw now (same (is_within first (suc count) q) (is_within first count q))
+  | inl w ↦ let now : is_mapped m q ≡ true = subst (λ k. is_mapped m k ≡ true) (sym w.1) there in rw now (or-true (is_within first (suc count) q) ∙ sym (or-true (is_within first count q)))
   | inr w ↦ rw (within_same first count q w.1) refl
-] where
-  same : (a b : Bool) → (a || true) ≡ (b || true)
-  same true true = refl
-  same true false = refl
-  same false true = refl
-  same false false = refl
+]
 
 pub count_mapped : (pages : List (ℕ × Page)) (permissions : Permissions) (limit first count : ℕ) → first + count ≤ limit →
     pages_below limit (mapped (first * 4096) (count * 4096) permissions (memory_in pages)) ≡ pages_below limit (memory_in pages) + length (missing pages first count)
@@ -172,19 +161,18 @@ page_count_mapped pages permissions first count h fits =
 
 -- ---- the pages after a mapping
 
+-- where the second is not, the first is
+or_true : (a b : Bool) → (a || b) ≡ true → b ≡ false → a ≡ true
+or_true true b e f = refl
+or_true false b e f = sym f ∙ e
+
 -- one page more of a list of numbers
 pub has_number_more : (numbers : List ℕ) (i q : ℕ) → i < length numbers → has_number (take (i + 1) numbers) q ≡ (has_number (take i numbers) q || (slice_index numbers i == q))
-has_number_more numbers i q l = ap (λ (xs : List ℕ). has_number xs q) (take_at_read numbers i 0 l).1 ∙ has_number-append (take i numbers) (slice_index numbers i ∷ []) q ∙ ap (λ b. has_number (take i numbers) q || b) (or_false (slice_index numbers i == q)) where
-  or_false : (b : Bool) → (b || false) ≡ b
-  or_false true = refl
-  or_false false = refl
+has_number_more numbers i q l = ap (λ (xs : List ℕ). has_number xs q) (take_at_read numbers i 0 l).1 ∙ has_number-append (take i numbers) (slice_index numbers i ∷ []) q ∙ ap (λ b. has_number (take i numbers) q || b) (or-false (slice_index numbers i == q))
 
 pub has_number_take : (numbers : List ℕ) (i q : ℕ) → has_number numbers q ≡ false → has_number (take i numbers) q ≡ false
 has_number_take numbers i q h =
-    or_left _ _ (sym (has_number-append (take i numbers) (drop i numbers) q) ∙ ap (λ (xs : List ℕ). has_number xs q) (take-append-drop i numbers) ∙ h) where
-      or_left : (a b : Bool) → (a || b) ≡ false → a ≡ false
-      or_left true b e = e
-      or_left false b e = refl
+    (or_parts _ _ (sym (has_number-append (take i numbers) (drop i numbers) q) ∙ ap (λ (xs : List ℕ). has_number xs q) (take-append-drop i numbers) ∙ h)).0
 
 pub removed_more : (numbers : List ℕ) (i : ℕ) (pages after : List (ℕ × Page)) → i < length numbers → ((q : ℕ) → page_at after q ≡ cond (is_at (nat_cmp (slice_index numbers i)) q) None (page_at pages q)) →
     ((q : ℕ) → has_number (take i numbers) q ≡ true → page_at pages q ≡ None) → (q : ℕ) → has_number (take (i + 1) numbers) q ≡ true → page_at after q ≡ None
@@ -194,10 +182,7 @@ removed_more numbers i pages after l updated before q h = updated q ∙ elim (eq
       let apart : (slice_index numbers i == q) ≡ false = grind (arith, nat_tests, w.1) in
       let had : has_number (take i numbers) q ≡ true = or_true _ _ (sym (has_number_more numbers i q l) ∙ h) apart in
       rw (is_at_nat (slice_index numbers i) q, w.0) (before q had)
-] where
-  or_true : (a b : Bool) → (a || b) ≡ true → b ≡ false → a ≡ true
-  or_true true b e f = refl
-  or_true false b e f = sym f ∙ e
+]
 
 other_way : (q n : ℕ) → (n == q) ≡ false → (q == n) ≡ false
 other_way q n h = grind (arith, nat_tests)
@@ -206,16 +191,9 @@ pub kept_more : (numbers : List ℕ) (i : ℕ) (pages after first : List (ℕ ×
     ((q : ℕ) → has_number (take i numbers) q ≡ false → page_at pages q ≡ page_at first q) → (q : ℕ) → has_number (take (i + 1) numbers) q ≡ false → page_at after q ≡ page_at first q
 kept_more numbers i pages after first l updated before q h = updated q ∙ (
     let both : (has_number (take i numbers) q || (slice_index numbers i == q)) ≡ false = sym (has_number_more numbers i q l) ∙ h in
-    let other : (slice_index numbers i == q) ≡ false = or_right (has_number (take i numbers) q) (slice_index numbers i == q) both in
+    let other : (slice_index numbers i == q) ≡ false = (or_parts (has_number (take i numbers) q) (slice_index numbers i == q) both).1 in
     let apart : is_at (nat_cmp (slice_index numbers i)) q ≡ false = is_at_nat (slice_index numbers i) q ∙ other_way q (slice_index numbers i) other in
-    rw apart (before q (or_left _ _ both))) where
-      or_left : (a b : Bool) → (a || b) ≡ false → a ≡ false
-      or_left true b e = e
-      or_left false b e = refl
-
-      or_right : (a b : Bool) → (a || b) ≡ false → b ≡ false
-      or_right true b e = absurd (false≢true (sym e))
-      or_right false b e = e
+    rw apart (before q (or_parts _ _ both).0))
 
 -- some pages are there with zeros, and the others as before: this is the mapping
 clear_cell : (permissions : Permissions) (p : Option Page) (k : ℕ) → IsSomeAnd p (IsClear permissions) → option_map (cell_in k) p ≡ Some (record { byte = 0; permissions = permissions })
@@ -275,11 +253,8 @@ absent_before pages first count q h = by_page (page_at pages q) refl where
   by_page : (p : Option Page) → page_at pages q ≡ p → p ≡ None
   by_page None e = refl
   by_page (Some p) e =
-      let out : has_number (missing pages first count) q ≡ false = has_missing pages first count q ∙ rw e (and_false (is_within first count q)) in
-      absurd (false≢true (sym out ∙ h)) where
-        and_false : (b : Bool) → (b && not true) ≡ false
-        and_false true = refl
-        and_false false = refl
+      let out : has_number (missing pages first count) q ≡ false = has_missing pages first count q ∙ rw e (and-false (is_within first count q)) in
+      absurd (false≢true (sym out ∙ h))
 
 clear_is_page : (permissions : Permissions) (n : ℕ) → 1 ≤ n → n < 0x80000 → (IsTrue permissions.write → IsTrue permissions.read) → (p : Option Page) → IsSomeAnd p (IsClear permissions) → IfSome p (IsPage n)
 clear_is_page permissions n low high readable None h = absurd h
@@ -324,25 +299,15 @@ added_more numbers i pages after permissions l here others before q h = elim (eq
   | inr w ↦
       let had : has_number (take i numbers) q ≡ true = or_true (has_number (take i numbers) q) (slice_index numbers i == q) (sym (has_number_more numbers i q l) ∙ h) w.0 in
       subst IsSome (sym (others q (λ e. w.1 (sym e)))) (before q had)
-] where
-  or_true : (a b : Bool) → (a || b) ≡ true → b ≡ false → a ≡ true
-  or_true true b e f = refl
-  or_true false b e f = absurd (false≢true (sym f ∙ e))
+]
 
 pub kept_added : (numbers : List ℕ) (i : ℕ) (pages after first : List (ℕ × Page)) → i < length numbers
     → ((q : ℕ) → q ≢ slice_index numbers i → page_at after q ≡ page_at pages q)
     → ((q : ℕ) → has_number (take i numbers) q ≡ false → page_at pages q ≡ page_at first q) → (q : ℕ) → has_number (take (i + 1) numbers) q ≡ false → page_at after q ≡ page_at first q
 kept_added numbers i pages after first l others before q h =
     let both : (has_number (take i numbers) q || (slice_index numbers i == q)) ≡ false = sym (has_number_more numbers i q l) ∙ h in
-    others q (λ e. apart (or_right (has_number (take i numbers) q) (slice_index numbers i == q) both) e) ∙ before q (or_left (has_number (take i numbers) q) (slice_index numbers i == q) both) where
-      or_left : (a b : Bool) → (a || b) ≡ false → a ≡ false
-      or_left true b e = absurd (false≢true (sym e))
-      or_left false b e = refl
-
-      or_right : (a b : Bool) → (a || b) ≡ false → b ≡ false
-      or_right true b e = absurd (false≢true (sym e))
-      or_right false b e = e
-
+    let parts = or_parts (has_number (take i numbers) q) (slice_index numbers i == q) both in
+    others q (λ e. apart parts.1 e) ∙ before q parts.0 where
       apart : (slice_index numbers i == q) ≡ false → q ≡ slice_index numbers i → ⊥
       apart e f = absurd (grind (arith, nat_tests))
 

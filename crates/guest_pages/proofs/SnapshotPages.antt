@@ -11,7 +11,7 @@ use Rattle.rrv_model.specs.declared.machine.Permissions.{Permissions}
 use Rattle.guest_pages.specs.declared.page.Page.{Page}
 use Rattle.guest_pages.specs.Space.{memory_in, kept_at, snapshots_in, page_at, IsPage, ArePages}
 use Rattle.guest_pages.specs.Mapping.{SamePage}
-use Rattle.guest_pages.proofs.Same.{same_memory}
+use Rattle.guest_pages.proofs.SameMemory.{same_memory}
 
 -- the memory that is kept under a number
 pub memory_kept : (slots : List (Option (List (ℕ × Page)))) (n : ℕ) (o : Option (List (ℕ × Page))) →

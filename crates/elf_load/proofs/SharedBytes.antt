@@ -9,6 +9,7 @@ use Rattle.std.proofs.lemmas.List.{get_or_default}
 use Rattle.std.proofs.lemmas.List.Folds.{list_any_none}
 use Rattle.std.proofs.lemmas.List.Edits.{swapped_from_swap, length-swap}
 use Rattle.std.proofs.lemmas.List.Sorted.{IsPermutation-sym}
+use Rattle.std.proofs.lemmas.Bool.{or_parts}
 use Rattle.rrv_model.specs.Elf.{Header, load_end, share, any_share}
 use Rattle.elf_load.specs.Refusals.{has_memory}
 
@@ -18,10 +19,6 @@ share-comm g h =
     let sooner : min (load_end g) (load_end h) ≡ min (load_end h) (load_end g) = omega arith in
     ap (λ (n : ℕ). nat_lt n (min (load_end g) (load_end h))) later ∙ ap (nat_lt (max h.address g.address)) sooner
 
-pub or_false : (a b : Bool) → (a || b) ≡ false → (a ≡ false) × (b ≡ false)
-or_false true b e = let impossible : ⊥ = cc in absurd impossible
-or_false false b e = (refl, e)
-
 -- ---- headers at different indexes
 
 -- no two share a byte
@@ -30,17 +27,17 @@ Apart hs = (i j : ℕ) (d : Header) → i ≢ j → i < length hs → j < length
 
 list_any-at : (p : Header → Bool) (hs : List Header) (i : ℕ) (d : Header) → list_any p hs ≡ false → i < length hs → p (get_or hs i d) ≡ false
 list_any-at p [] i d none low = absurd (omega arith)
-list_any-at p (x ∷ xs) zero d none low = (or_false (p x) (list_any p xs) none).0
-list_any-at p (x ∷ xs) (suc i) d none low = list_any-at p xs i d (or_false (p x) (list_any p xs) none).1 (omega arith)
+list_any-at p (x ∷ xs) zero d none low = (or_parts (p x) (list_any p xs) none).0
+list_any-at p (x ∷ xs) (suc i) d none low = list_any-at p xs i d (or_parts (p x) (list_any p xs) none).1 (omega arith)
 
 before : (hs : List Header) (i j : ℕ) (d : Header) → any_share hs ≡ false → i < j → j < length hs → share (get_or hs i d) (get_or hs j d) ≡ false
 unfolding any_share
 before [] i j d apart less low = absurd (omega arith)
 before (x ∷ xs) i zero d apart less low = absurd (omega arith)
 before (x ∷ xs) zero (suc j) d apart less low =
-    list_any-at (share x) xs j d (or_false (list_any (share x) xs) (any_share xs) apart).0 (omega arith)
+    list_any-at (share x) xs j d (or_parts (list_any (share x) xs) (any_share xs) apart).0 (omega arith)
 before (x ∷ xs) (suc i) (suc j) d apart less low =
-    before xs i j d (or_false (list_any (share x) xs) (any_share xs) apart).1 (omega arith) (omega arith)
+    before xs i j d (or_parts (list_any (share x) xs) (any_share xs) apart).1 (omega arith) (omega arith)
 
 Apart-from_any_share : (hs : List Header) → any_share hs ≡ false → Apart hs
 Apart-from_any_share hs apart i j d other low_i low_j = ⊎_elim
