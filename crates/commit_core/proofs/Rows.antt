@@ -212,14 +212,8 @@ write_fails_keeps w old count disk h may failed =
 -- a row that moves the disk and the stage alone
 stage_keeps : (w : World) (old : List Record) (stage : Stage) (disk : DiskState) → Invariant w old → DiskAt stage disk (stored_bodies w) w.flusher.hand
     → Invariant (with_flusher w (at_stage stage w.flusher) disk) old
-stage_keeps w old stage disk h at = record {
-  store = h.store;
-  words = h.words;
-  told = h.told;
-  own = h.own;
-  each = h.each;
-  disk = at;
-}
+stage_keeps w old stage disk h at =
+    record { store = h.store; words = h.words; told = h.told; own = h.own; each = h.each; disk = at }
 
 -- after a sync that failed a crash leaves what it left before
 broken_keeps : (w : World) (old : List Record) → Invariant w old → Invariant (with_flusher w (at_stage Broken w.flusher) w.disk) old

@@ -7,6 +7,7 @@ pub mod sequence;
 pub mod laws;
 pub mod limits;
 pub mod machine;
+pub mod name;
 pub mod record;
 pub mod refusal;
 pub mod sink;
