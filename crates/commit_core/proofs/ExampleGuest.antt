@@ -1,12 +1,12 @@
 -- The guest of the example: its file is accepted, and its frames lead on and put its byte out.
 use Rattle.std.proofs.Common.{◌≡◌, ⊎_elim, ℕ, zero, suc, ◌+◌, ◌<◌, ◌≤◌, Bool, true, false, not, cond, if◌then◌else◌, List, [], ◌∷◌, Option, Some, None, Ok, Result, refl, sym, ◌∙◌, ap, subst, arith, ◌-◌, ◌==◌}
-use Rattle.std.specs.Prelude.{is_some}
-use Rattle.std.specs.List.{list_any}
+use Rattle.std.specs.Prelude.{is_some, nat_lt, All}
+use Rattle.std.specs.List.{list_any, list_all}
 use Rattle.std.specs.Ordering.{nat_cmp}
 use Rattle.std.specs.Cmp.{nat_cmp_total, eq_by_cmp_equiv}
 use Rattle.std.specs.FinMap.{FinMap, get, insert, remove, empty, len, get-insert, get-empty, len-insert, len-remove, len-empty}
 use Rattle.std.proofs.lemmas.Bool.{cases_lt}
-use Rattle.std.proofs.lemmas.Bool.Decides.{nat_tests}
+use Rattle.std.proofs.lemmas.Bool.Decides.{nat_tests, Decides-by_and, Decides-ltb}
 use Rattle.std.proofs.lemmas.List.Elements.{All-from_recursion}
 use Rattle.rrv_model.specs.declared.instr.ImmediateOp.TheVariants.{Addi}
 use Rattle.rrv_model.specs.declared.instr.Instr.{Instr}
@@ -53,11 +53,17 @@ accepted : refusal example_elf ≡ None
 unfolding refusal headers_from any_share
 accepted = rw few_pages refl
 
+are_bytes : (bytes : List ℕ) → list_all (λ (b : ℕ). nat_lt b 256) bytes ≡ true → All (λ (b : ℕ). b < 256) bytes
+are_bytes bytes pass =
+    (Decides-by_and (λ (b : ℕ). nat_lt b 256) (λ (b : ℕ). b < 256) (list_all (λ (b : ℕ). nat_lt b 256)) (λ b. Decides-ltb b 256) refl (λ _ _. refl) bytes).0 pass
+
 pub opens : Opens example_elf example_opening.name example_opening.random example_state
 opens = record {
   accepted = accepted;
+  file_bytes = are_bytes example_elf refl;
   is_name = (omega arith, omega arith, All-from_recursion (λ (b : ℕ). (0x21 ≤ b) × (b ≤ 0x7E)) example_opening.name ((omega arith, omega arith), tt));
   sixteen = refl;
+  random_bytes = are_bytes example_opening.random refl;
   state_is = refl;
 }
 

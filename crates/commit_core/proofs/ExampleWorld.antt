@@ -24,34 +24,21 @@ use Rattle.commit_core.proofs.ExampleGuest.{Ended, the_byte, opens, guest_ends}
 
 -- ---- texts
 
-are_bytes : (bytes : List ℕ) → list_all (λ (b : ℕ). nat_lt b 256) bytes ≡ true → All (λ (b : ℕ). b < 256) bytes
-are_bytes bytes pass =
-    (Decides-by_and (λ (b : ℕ). nat_lt b 256) (λ (b : ℕ). b < 256) (list_all (λ (b : ℕ). nat_lt b 256)) (λ b. Decides-ltb b 256) refl (λ _ _. refl) bytes).0 pass
-
-payload_len : length (payload opened.item) ≡ 134
-unfolding payload opening_text
-payload_len = refl
-
 opened_has_text : (number : ℕ) → number ≤ 1 → HasText (opening_record number example_opening)
 opened_has_text number low = record {
   guest = omega (arith, low);
   index = omega arith;
   item = record {
     elf = omega arith;
-    elf_bytes = are_bytes example_opening.elf refl;
+    elf_bytes = opens.file_bytes;
     name = opens.is_name;
     random = refl;
-    random_bytes = are_bytes example_opening.random refl;
+    random_bytes = opens.random_bytes;
   };
-  payload_len = subst (λ (n : ℕ). n < 2 ^ 32) (sym payload_len) (omega arith);
 }
 
 abbrev call_frame : ℕ → ℕ → Frame
 call_frame count result = record { tid = 1; count = count; end = ends.Call (record { result = result; written = [] }) }
-
-call_payload_len : (count result : ℕ) → length (payload (items.Frame (call_frame count result))) ≡ 16
-unfolding payload call_text
-call_payload_len count result = refl
 
 call_has_text : (number index count result : ℕ) → number ≤ 1 → index ≤ 2 → 1 ≤ count → count ≤ 5 → result ≤ 1 → HasText (frame_record number index (call_frame count result))
 call_has_text number index count result one low some few small = record {
@@ -61,7 +48,6 @@ call_has_text number index count result one low some few small = record {
     record { tid_low = omega arith; tid_high = omega arith; count_low = some; count_high = omega (arith, few) },
     record { result = omega (arith, small); two = omega arith; written = tt },
   );
-  payload_len = subst (λ (n : ℕ). n < 2 ^ 32) (sym (call_payload_len count result)) (omega arith);
 }
 
 exited_has_text : HasText exited

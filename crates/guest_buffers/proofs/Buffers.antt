@@ -64,7 +64,7 @@ readable_low m a n k is h below = low_or_high (nat_lt (a + k) 0x80000000) refl w
   low_or_high true e = grind (arith, nat_tests)
   low_or_high false e =
       let high : 0x80000000 ≤ a + k = grind (arith, nat_tests) in
-      absurd (nothing_there (m (a + k)) (is.high (a + k) high) (cell_passes can_read m a n k h below))
+      absurd (nothing_there (m (a + k)) (is.pages.high (a + k) high) (cell_passes can_read m a n k h below))
 
 -- ---- buffers
 

@@ -13,7 +13,7 @@ use Rattle.rrv_model.specs.CallRows as calls
 use Rattle.rrv_model.specs.Calls.{Silence, write_all, writes, results, call_row}
 use Rattle.rrv_model.specs.RecordText.{HasCallText}
 use Rattle.rrv_model.specs.Output.{Chunk, put_out}
-use Rattle.guest_pages.proofs.Cells.{length_bytes_at}
+use Rattle.rrv_model.proofs.MemoryRules.{length_bytes_at}
 use Rattle.guest_calls.specs.declared.syscall.Syscall.{Syscall}
 use Rattle.guest_calls.specs.declared.syscall.Syscall.TheVariants as syscalls
 use Rattle.guest_calls.specs.declared.put.Put.{Put}

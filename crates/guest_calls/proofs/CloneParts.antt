@@ -15,7 +15,7 @@ use Rattle.rrv_model.specs.CallRows.{Row, all_writable, are_clone_flags, argumen
 use Rattle.rrv_model.specs.Calls.{Silence, write_all, writes, results}
 use Rattle.rrv_model.specs.RecordText.{HasCallText, HasWrittenText}
 use Rattle.guest_pages.specs.Stores.{stored_at_each}
-use Rattle.guest_threads.proofs.Rules.{room_left}
+use Rattle.rrv_model.proofs.ThreadRules.{room_left}
 use Rattle.guest_calls.specs.Carries.{Carries}
 use Rattle.guest_calls.specs.Clones.{makes_child, with_child_at, words_at}
 use Rattle.guest_calls.specs.Growth.{Succeeds}

@@ -16,7 +16,7 @@ use Rattle.rv_machine.specs.declared.run.RunEnd.TheVariants as ends
 use Rattle.rv_machine.specs.HartRuns.{HartSteps, HartRuns, HartRunsTo, HartRunsToCall, HartRunsToFault, HartRunsToMemory}
 use Rattle.guest_calls.specs.Runs.{Runs, RunsTo, RunsToCall, RunsToFault, RunsToMemory, before_call}
 use Rattle.guest_calls.proofs.Ecalls.{called_hart}
-use Rattle.guest_threads.proofs.ByTid.{same_tid}
+use Rattle.rrv_model.proofs.ThreadRules.{same_tid}
 
 -- ---- a thread put into the threads
 

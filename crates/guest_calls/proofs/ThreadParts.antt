@@ -8,9 +8,7 @@ use Rattle.rrv_model.specs.declared.machine.Thread.{Thread}
 use Rattle.rrv_model.specs.State.{State, thread_at, with_register, with_thread, IsRunning}
 use Rattle.rrv_model.specs.CallRows.{change_thread, ends, leaves, waiters, wakes, woken}
 use Rattle.guest_threads.specs.Threads.{ThreadsValue, alone, thread_map, with_threads, without_thread}
-use Rattle.guest_threads.proofs.ByTid.{same_tid}
-use Rattle.guest_threads.proofs.Rules.{changed_at, get-changed, resumed, unequal}
-use Rattle.guest_threads.proofs.Waking.{woken_is}
+use Rattle.rrv_model.proofs.ThreadRules.{changed_at, get-changed, resumed, unequal, same_tid, woken_is}
 use Rattle.guest_calls.proofs.Lift.{changed_there}
 
 -- ---- all threads
@@ -52,24 +50,3 @@ last_left tid status s rest is none =
 pub others_left : (tid status : ℕ) (s rest : State) → rest ≡ without_thread tid s → len rest.threads ≢ 0 → rest ≡ leaves tid status s
 others_left tid status s rest is some =
     sym (ap (λ b. cond b (ends status rest) rest) (unequal (len rest.threads) 0 some)) ∙ ap (left_with status) is
-
--- ---- a running thread still runs when others are woken
-
-still : (w : ℕ) (o : Option Thread) → IsRunning o → IsRunning (changed_at w resumed o)
-still w None r = r
-still w (Some t) r = refl
-
-woken_running : (s : State) (w tid : ℕ) → IsRunning (thread_at s tid) → IsRunning (thread_at (woken s w) tid)
-woken_running s w tid r =
-    subst (λ (o : Option Thread). IsRunning o) (sym (ap (λ (s' : State). get s'.threads tid) (woken_is s w) ∙ get-changed s.threads w resumed tid))
-    (by (eq_by_cmp nat_cmp tid w) refl) where
-      by : (b : Bool) → eq_by_cmp nat_cmp tid w ≡ b → IsRunning (cond b (changed_at w resumed (get s.threads w)) (get s.threads tid))
-      by true e = still w (get s.threads w) (subst (λ k. IsRunning (get s.threads k)) (same_tid tid w e) r)
-      by false e = r
-
-all_woken_running : (tids : List ℕ) (s : State) (tid : ℕ) → IsRunning (thread_at s tid) → IsRunning (thread_at (fold woken s tids) tid)
-all_woken_running [] s tid r = r
-all_woken_running (w ∷ tids) s tid r = all_woken_running tids (woken s w) tid (woken_running s w tid r)
-
-pub wakes_running : (a count tid : ℕ) (s : State) → IsRunning (thread_at s tid) → IsRunning (thread_at (wakes a count s) tid)
-wakes_running a count tid s r = all_woken_running (waiters s a count) s tid r

@@ -1,9 +1,9 @@
 //! A guest, and what it tells.
 
-ghost use Rattle.std.specs.Prelude.{◌≡◌, ◌↔◌, ◌≤◌, ℕ, IsTrue, IfOk, OnErr, Contains, Some, None};
+ghost use Rattle.std.specs.Prelude.{◌≡◌, ◌↔◌, ◌<◌, ◌≤◌, ◌^◌, ℕ, IsTrue, IfSome, IfOk, OnErr, Contains, Some, None};
 ghost use Rattle.std.specs.List.Sorted.{IsStrictlyIncreasing};
 ghost use Rattle.rrv_model.specs.Memory.{page_count, IsMemory};
-ghost use Rattle.rrv_model.specs.State.{thread_at, IsRunning, IsState, IsThread};
+ghost use Rattle.rrv_model.specs.State.{thread_at, IsEnd, IsRunning, IsState, IsThread};
 ghost use Rattle.guest_pages.specs.Space.{snapshots_of};
 
 use crate::put::Put;
@@ -110,6 +110,7 @@ impl Guest {
     {
         let _ = self.space.page_count();
         let _ = self.threads.live();
+        are_numbers(self.reservation, self.ended);
         &self.threads
     }
 
@@ -187,5 +188,18 @@ impl Guest {
         if end.is_some() {
             self.ended = end;
         }
+    }
+}
+
+/// A law: a reservation is an address, and the status of an end a byte.
+fn are_numbers(reservation: Reservation, ended: Option<GuestEnd>)
+    ensures reservation { IfSome reservation (λ a. a < 2 ^ 32) }
+    ensures ended { IfSome ended IsEnd }
+{
+    if let Some(address) = reservation {
+        let _ = address;
+    }
+    if let Some(GuestEnd::Exited(status)) = ended {
+        let _ = status;
     }
 }

@@ -5,11 +5,12 @@ use Rattle.std.proofs.lemmas.Bool.Decides.{nat_tests}
 use Rattle.rrv_model.specs.declared.machine.Permissions.{Permissions}
 use Rattle.rrv_model.specs.Memory.{Memory, Cell, no_memory, is_within, with_byte, page_bytes}
 use Rattle.rrv_model.specs.CallRows.{has_flag}
-use Rattle.rrv_model.specs.Elf.{Header, touches, load_end, loads}
+use Rattle.rrv_model.specs.Elf.{Header, touches, load_end, loads, IsLoad}
 use Rattle.rrv_model.specs.Opening.{loaded_byte, page_has, image_memory}
-use Rattle.guest_opening.specs.Loading.{IsLoad, covered_load, file_bytes}
-use Rattle.guest_opening.proofs.ImageParts.{AreLoads, image_of, with_load}
+use Rattle.guest_opening.specs.Loading.{covered_load, file_bytes}
+use Rattle.guest_opening.proofs.ImageParts.{with_load}
 use Rattle.guest_pages.specs.Mapping.{covered_cell, union}
+use Rattle.rrv_model.proofs.ImageParts.{AreLoads, image_of}
 
 -- an address of a load's memory stands in a page that the load touches
 pub touched_page : (h : Header) (a : ℕ) → h.address ≤ a → a < load_end h → touches (a / page_bytes) h ≡ true

@@ -7,14 +7,7 @@ use Rattle.rrv_model.specs.Memory.{Memory, stored, page_bytes}
 use Rattle.rrv_model.specs.Elf.{Header, touches, touched_below, loads, is_empty_load}
 use Rattle.rrv_model.specs.Opening.{loaded_byte, page_permissions}
 use Rattle.guest_pages.specs.Mapping.{covered_cell}
-use Rattle.guest_opening.specs.Loading.{IsLoad, covered_load, file_bytes}
-
--- the memory of these loads of the file
-abbrev pub image_of : List ℕ → List Header → Memory
-image_of file hs a =
-    if list_any (touches (a / page_bytes)) hs
-    then Some (record { byte = loaded_byte file hs a; permissions = page_permissions (a / page_bytes) hs })
-    else None
+use Rattle.guest_opening.specs.Loading.{covered_load, file_bytes}
 
 -- the pages from one up to another are covered
 abbrev pub covered_pages : ℕ → ℕ → Permissions → Memory → Memory
@@ -23,15 +16,3 @@ covered_pages from to permissions m a =
 
 abbrev pub with_load : List ℕ → Header → Memory → Memory
 with_load file h m = stored h.address (file_bytes file h) (covered_load h m)
-
-abbrev pub AreLoads : List ℕ → List Header → Type 0
-AreLoads file [] = Unit {0}
-AreLoads file (h ∷ hs) = IsLoad file h × AreLoads file hs
-
--- what the refusals leave of a file
-pub record IsAccepted (file : List ℕ) : Type 0 where
-  pub long : 52 ≤ length file
-  pub short : length file ≤ 2_097_152
-  pub good : AreLoads file (loads file)
-  pub pages : touched_below 0x70000 (loads file) ≤ 16_128
-  pub fills : list_any (λ h. not (is_empty_load h)) (loads file) ≡ true

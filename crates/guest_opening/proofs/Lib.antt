@@ -1,10 +1,6 @@
-pub mod AcceptedFile
 pub mod ImageLoads
 pub mod ImageParts
 pub mod LoadWalk
-pub mod OpeningMemory
-pub mod OpeningState
-pub mod PageCounts
 pub mod PageWalk
 pub mod StackPlaces
 pub mod StackStores

@@ -3,16 +3,17 @@ use Rattle.std.proofs.Common.{◌≡◌, ℕ, zero, suc, ◌+◌, ◌-◌, ◌/�
 use Rattle.std.proofs.lemmas.List.{get_or-reverse, length-reverse}
 use Rattle.std.proofs.Math.Seq.{drop-cons}
 use Rattle.rrv_model.specs.Memory.{Memory, Cell, stored, no_memory, page_count, page_bytes}
-use Rattle.rrv_model.specs.Elf.{Header, loads, touches, refusal}
+use Rattle.rrv_model.specs.Elf.{Header, loads, touches, refusal, IsLoad}
 use Rattle.rrv_model.specs.Opening.{image_memory}
 use Rattle.guest_pages.specs.Space.{present}
 use Rattle.guest_pages.specs.Mapping.{covered_cell}
-use Rattle.guest_opening.specs.Loading.{IsLoad, covered_load, load_permissions, file_bytes}
-use Rattle.guest_opening.proofs.ImageParts.{AreLoads, image_of, with_load}
-use Rattle.guest_opening.proofs.AcceptedFile.{is_accepted}
+use Rattle.guest_opening.specs.Loading.{covered_load, load_permissions, file_bytes}
+use Rattle.guest_opening.proofs.ImageParts.{with_load}
+use Rattle.rrv_model.proofs.AcceptedFile.{is_accepted}
 use Rattle.guest_opening.proofs.PageWalk.{load_room}
 use Rattle.guest_opening.proofs.ImageLoads.{image_more, image_none, touched_page}
 use Rattle.guest_opening.proofs.StackStores.{present_all}
+use Rattle.rrv_model.proofs.ImageParts.{AreLoads, image_of}
 
 are_loads-drop : (file : List ℕ) (hs : List Header) (k : ℕ) → AreLoads file hs → AreLoads file (drop k hs)
 are_loads-drop file [] zero good = good

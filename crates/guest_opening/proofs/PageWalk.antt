@@ -5,14 +5,15 @@ use Rattle.std.specs.List.{list_any}
 use Rattle.std.proofs.lemmas.Bool.Decides.{nat_tests}
 use Rattle.rrv_model.specs.declared.machine.Permissions.{Permissions}
 use Rattle.rrv_model.specs.Memory.{Memory, Cell, is_within, is_mapped, page_count, pages_below, page_bytes}
-use Rattle.rrv_model.specs.Elf.{Header, touches, loads, touched_below}
+use Rattle.rrv_model.specs.Elf.{Header, touches, loads, touched_below, IsLoad}
 use Rattle.guest_pages.specs.declared.fault.PageFault.{PageFault}
 use Rattle.guest_pages.specs.declared.fault.PageFault.TheVariants as faults
 use Rattle.guest_pages.specs.Mapping.{covered, covered_cell, IsMapRefusal}
-use Rattle.guest_opening.specs.Loading.{IsLoad, covered_load, load_permissions}
-use Rattle.guest_opening.proofs.ImageParts.{AreLoads, IsAccepted, image_of, covered_pages}
-use Rattle.guest_opening.proofs.PageCounts.{pages_fewer, pages_none, is_mapped-image, pages_touched, page_of_start}
-use Rattle.guest_opening.proofs.AcceptedFile.{untouched}
+use Rattle.guest_opening.specs.Loading.{covered_load, load_permissions}
+use Rattle.guest_opening.proofs.ImageParts.{covered_pages}
+use Rattle.rrv_model.proofs.PageCounts.{pages_fewer, pages_none, is_mapped-image, pages_touched, page_of_start}
+use Rattle.rrv_model.proofs.AcceptedFile.{untouched}
+use Rattle.rrv_model.proofs.ImageParts.{AreLoads, IsAccepted, image_of}
 
 -- ---- the pages of a load
 

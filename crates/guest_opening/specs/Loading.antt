@@ -6,13 +6,6 @@ use Rattle.rrv_model.specs.CallRows.{has_flag}
 use Rattle.rrv_model.specs.Elf.{Header, touches, load_end}
 use Rattle.guest_pages.specs.Mapping.{covered_cell}
 
--- a load that no test of the loads refuses
-pub record IsLoad (file : List ℕ) (h : Header) : Type 0 where
-  pub in_file : 0 < h.file_len → h.offset + h.file_len ≤ length file
-  pub sizes : h.file_len ≤ h.memory_len
-  pub low : 0 < h.memory_len → 0x1000 ≤ h.address
-  pub high : 0 < h.memory_len → load_end h ≤ 0x70000000
-
 -- what a load's flags allow: X 1, W 2, R 4, and R with W
 abbrev pub load_permissions : Header → Permissions
 load_permissions h = record {

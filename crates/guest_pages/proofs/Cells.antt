@@ -4,6 +4,7 @@ use Rattle.std.proofs.lemmas.Grind.{same_number_lists}
 use Rattle.std.proofs.lemmas.Bool.{false≢true, cases_lt}
 use Rattle.std.specs.Option.{option_map}
 use Rattle.rrv_model.specs.Memory.{Cell, Memory, all_cells, bytes_at, can_read, can_write, can_execute, byte_or_zero}
+use Rattle.rrv_model.proofs.MemoryRules.{get_bytes_at, length_bytes_at}
 use Rattle.guest_pages.specs.declared.page.Page.{Page}
 use Rattle.guest_pages.specs.Pages.{run}
 use Rattle.guest_pages.specs.Space.{page_at, memory_in, cell_in, page_passes, test_of}
@@ -133,19 +134,6 @@ absent_unreadable = absent_fails can_read is_there where
   is_there (Some c) w = refl
 
 -- ---- the bytes of a range
-
-pub length_bytes_at : (m : Memory) (a count : ℕ) → length (bytes_at m a count) ≡ count
-unfolding bytes_at
-length_bytes_at m a zero = refl
-length_bytes_at m a (suc count) = ap (λ n. suc n) (length_bytes_at m (a + 1) count)
-
-pub get_bytes_at : (m : Memory) (a count k : ℕ) → k < count → slice_index (bytes_at m a count) k ≡ byte_or_zero (m (a + k))
-unfolding bytes_at
-get_bytes_at m a zero k l = absurd (omega arith)
-get_bytes_at m a (suc count) zero l = let here : a + 0 ≡ a = omega arith in ap (λ x. byte_or_zero (m x)) (sym here)
-get_bytes_at m a (suc count) (suc k) l =
-    let place : a + 1 + k ≡ a + suc k = omega arith in
-    get_bytes_at m (a + 1) count k (omega arith) ∙ ap (λ x. byte_or_zero (m x)) place
 
 -- a list of as many bytes, each of them the memory's
 pub are_bytes_at : (m : Memory) (a count : ℕ) (bytes : List ℕ) → length bytes ≡ count → ((k : ℕ) → k < count → slice_index bytes k ≡ byte_or_zero (m (a + k))) → bytes ≡ bytes_at m a count

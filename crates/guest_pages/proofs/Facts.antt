@@ -11,7 +11,8 @@ use Rattle.std.specs.BTreeMap.{is_at}
 use Rattle.std.specs.Map.{keys_of}
 use Rattle.std.specs.List.{AllByRecursion}
 use Rattle.std.specs.List.Sorted.{IsStrictlySortedBy}
-use Rattle.rrv_model.specs.Memory.{no_memory, IsMemory, AlikeCells, FitsCell, page_count, pages_below, is_mapped, all_cells}
+use Rattle.rrv_model.specs.declared.limits.TheConstants.{MAX_PAGES}
+use Rattle.rrv_model.specs.Memory.{no_memory, IsPaged, IsMemory, AlikeCells, FitsCell, page_count, pages_below, is_mapped, all_cells}
 use Rattle.guest_pages.specs.declared.page.Page.{Page}
 use Rattle.guest_pages.specs.Space.{page_at, memory_in, cell_in, IsPage, ArePages, test_of}
 use Rattle.guest_pages.proofs.Stores.{is_at_nat}
@@ -112,14 +113,19 @@ none_outside pages h n out = by_page (page_at pages n) (h.each n) where
   by_page None i = refl
   by_page (Some p) i = absurd (out i.low i.high)
 
-pub is_memory : (pages : List (ℕ × Page)) → ArePages pages → IsMemory (memory_in pages)
+is_paged : (pages : List (ℕ × Page)) → ArePages pages → IsPaged (memory_in pages)
 unfolding memory_in
-is_memory pages h = record {
+is_paged pages h = record {
   paged = λ a b e. subst (λ n. AlikeCells (memory_in pages a) (option_map (cell_in (b % 4096)) (page_at pages n))) e (alike (page_at pages (a / 4096)) (a % 4096) (b % 4096));
   low = λ a l. rw (none_outside pages h (a / 4096) (λ i j. omega arith)) refl;
   high = λ a l. rw (none_outside pages h (a / 4096) (λ i j. omega arith)) refl;
-  limit = subst (λ n. n ≤ 16_384) (sym (count_is_length pages h)) h.limit;
   cells = λ a. fits (a / 4096) (page_at pages (a / 4096)) (a % 4096) (h.each (a / 4096));
+}
+
+pub is_memory : (pages : List (ℕ × Page)) → ArePages pages → IsMemory (memory_in pages)
+is_memory pages h = record {
+  pages = is_paged pages h;
+  limit = subst (λ n. n ≤ MAX_PAGES) (sym (count_is_length pages h)) h.limit;
 }
 
 pub nothing_in_none : memory_in [] ≡ no_memory
@@ -128,7 +134,7 @@ nothing_in_none = λ i a. None
 
 -- nothing is there from 2 ^ 31 on
 pub none_high : (pages : List (ℕ × Page)) → ArePages pages → (a : ℕ) → 2 ^ 31 ≤ a → memory_in pages a ≡ None
-none_high pages h a l = (is_memory pages h).high a (omega arith)
+none_high pages h a l = (is_paged pages h).high a (omega arith)
 
 -- a range that is there lies below 2 ^ 32
 pub present_low : (pages : List (ℕ × Page)) → ArePages pages → (a count : ℕ) → a < 2 ^ 32 → all_cells is_some (memory_in pages) a count ≡ true → a + count ≤ 2 ^ 32

@@ -15,6 +15,7 @@ use Rattle.std.specs.BTreeMap.{is_at}
 use Rattle.std.specs.FinMap.{get, insert, remove, len, find, get-from_entries, get-insert, get-remove, len-empty, len-insert, same_map, nat_cmp-IsAntisymmetric}
 use Rattle.rrv_model.specs.declared.machine.Thread.{Thread}
 use Rattle.rrv_model.specs.State.{IsRunning}
+use Rattle.rrv_model.proofs.ThreadRules.{same_tid, tied}
 use Rattle.guest_threads.specs.Threads.{thread_map, runs}
 
 abbrev pub entry_at : List (ℕ × Thread) → ℕ → Option Thread
@@ -40,19 +41,6 @@ pub one_removed : (es fs : List (ℕ × Thread)) (s : ℕ) → ((q : ℕ) → en
 one_removed es fs s h = same_map nat_cmp_total nat_cmp-IsAntisymmetric _ _ (λ q.
     get_thread fs q ∙ h q ∙ ap (λ b. cond b None (entry_at es q)) ((eq_by_cmp_equiv nat_cmp_total).symm s q)
     ∙ sym (get-remove nat_cmp_total (thread_map es) s q ∙ ap (cond (is_at (nat_cmp q) s) None) (get_thread es q)))
-
--- ---- tids
-
-equal : (r : Ordering) → is_eq r ≡ true → r ≡ Equal
-equal Less e = absurd (false≢true e)
-equal Equal e = refl
-equal Greater e = absurd (false≢true e)
-
-pub same_tid : (q s : ℕ) → eq_by_cmp nat_cmp q s ≡ true → q ≡ s
-same_tid q s e = nat_cmp-IsAntisymmetric q s (equal _ e)
-
-pub tied : (q : ℕ) → eq_by_cmp nat_cmp q q ≡ true
-tied q = (eq_by_cmp_equiv nat_cmp_total).refl q
 
 -- ---- how many
 

@@ -1,6 +1,5 @@
 pub mod ByTid
 pub mod RunningTids
 pub mod SameThreads
-pub mod Rules
 pub mod Waking
 pub mod ToldThreads

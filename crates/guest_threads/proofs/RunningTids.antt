@@ -13,7 +13,8 @@ use Rattle.std.specs.declared.cmp.Ordering.TheVariants.{Less}
 use Rattle.rrv_model.specs.declared.machine.Thread.{Thread}
 use Rattle.rrv_model.specs.State.{IsRunning}
 use Rattle.guest_threads.specs.Threads.{thread_map, running_in, runs}
-use Rattle.guest_threads.proofs.ByTid.{entry_at, get_thread, same_tid, runs_is, is_runs, none_later}
+use Rattle.rrv_model.proofs.ThreadRules.{same_tid}
+use Rattle.guest_threads.proofs.ByTid.{entry_at, get_thread, runs_is, is_runs, none_later}
 
 pub on_err : {T E P : Type 0} (r : Result T E) → P → OnErr r P
 on_err (Ok x) p = tt

@@ -19,7 +19,8 @@ use Rattle.rrv_model.specs.declared.record.ThreadPart.{ThreadPart}
 use Rattle.rrv_model.specs.State.{IsThread, IsWaiting}
 use Rattle.guest_threads.specs.Threads.{thread_map}
 use Rattle.guest_threads.specs.ThreadParts.{entries_of, tids_rise, waits_in, order_fits, Fits, MakeThreads}
-use Rattle.guest_threads.proofs.ByTid.{entry_at, get_thread, same_tid, tied, none_later, counted}
+use Rattle.rrv_model.proofs.ThreadRules.{same_tid, tied}
+use Rattle.guest_threads.proofs.ByTid.{entry_at, get_thread, none_later, counted}
 
 -- ---- rising tids
 

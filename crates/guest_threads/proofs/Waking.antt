@@ -7,9 +7,9 @@ use Rattle.std.specs.FinMap.{get}
 use Rattle.std.specs.List.{AllByRecursion, IsDistinct}
 use Rattle.rrv_model.specs.declared.machine.Thread.{Thread}
 use Rattle.rrv_model.specs.State.{State}
-use Rattle.rrv_model.specs.CallRows.{change_thread, waits_at, waiters, woken, wakes}
-use Rattle.guest_threads.specs.Threads.{ThreadsValue, with_threads, changed}
-use Rattle.guest_threads.proofs.Rules.{changed_at, get-changed, resumed, by_cmp, unequal}
+use Rattle.rrv_model.specs.CallRows.{change_thread, waits_at, waiters, woken, wakes, changed}
+use Rattle.guest_threads.specs.Threads.{ThreadsValue, with_threads}
+use Rattle.rrv_model.proofs.ThreadRules.{woken_is, changed_at, get-changed, resumed, by_cmp, unequal}
 use lib.Seq.{take-nil}
 
 -- ---- a list without a number
@@ -72,16 +72,6 @@ agree p p' tid h (x ∷ xs) = by (agree p p' tid h xs) (nat_eq x tid) (p x) refl
   by rest false false e f = ap (λ c. cond c (x ∷ filter p' (without tid xs)) (filter p' (without tid xs))) (h x e ∙ f) ∙ rest
 
 -- ---- states
-
--- a change of a thread, as a change of the map
-pub change_is : (tid : ℕ) (change : Thread → Thread) (s : State) → change_thread tid change s ≡ record s { threads = changed tid change s.threads }
-change_is tid change s = by (get s.threads tid) refl where
-  by : (o : Option Thread) → get s.threads tid ≡ o → change_thread tid change s ≡ record s { threads = changed tid change s.threads }
-  by None e = rw e refl
-  by (Some t) e = rw e refl
-
-pub woken_is : (s : State) (tid : ℕ) → woken s tid ≡ record s { threads = changed tid resumed s.threads; waiting = without tid s.waiting }
-woken_is s tid = change_is tid resumed (record s { waiting = without tid s.waiting })
 
 waits_there : ℕ → Option Thread → Bool
 waits_there a None = false

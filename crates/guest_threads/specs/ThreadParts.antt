@@ -5,10 +5,10 @@ use Rattle.std.specs.List.Sorted.{IsStrictlyIncreasing}
 use Rattle.std.specs.FinMap.{from_entries}
 use Rattle.rrv_model.specs.declared.machine.Thread.{Thread}
 use Rattle.rrv_model.specs.declared.record.ThreadPart.{ThreadPart}
-use Rattle.rrv_model.specs.State.{State, IsThread}
+use Rattle.rrv_model.specs.State.{State, IsThread, AreThreads}
 use Rattle.guest_threads.specs.declared.fault.PartsFault.{PartsFault}
 use Rattle.guest_threads.specs.declared.fault.PartsFault.TheVariants.{NoState, Memory}
-use Rattle.guest_threads.specs.Threads.{thread_map, AreThreads}
+use Rattle.guest_threads.specs.Threads.{thread_map}
 
 -- each thread under its tid
 abbrev pub entries_of : List ThreadPart → List (ℕ × Thread)

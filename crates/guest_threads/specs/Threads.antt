@@ -5,7 +5,7 @@ use Rattle.std.specs.Ordering.{nat_cmp}
 use Rattle.std.specs.FinMap.{FinMap, from_entries, get, insert, remove, len}
 use Rattle.rrv_model.specs.declared.machine.Thread.{Thread}
 use Rattle.rrv_model.specs.Memory.{no_memory}
-use Rattle.rrv_model.specs.State.{State, IsThread, IsRunning, IsWaiting, with_thread}
+use Rattle.rrv_model.specs.State.{State, IsRunning, AreThreads, with_thread}
 use Rattle.guest_threads.specs.declared.fault.ThreadFault.{ThreadFault}
 use Rattle.guest_threads.specs.declared.fault.ThreadFault.TheVariants.{TooMany, NotThere, Memory}
 
@@ -47,17 +47,6 @@ live_count v = len (thread_map v.threads)
 
 -- ---- the rules
 
--- the rules of a state, for its threads, its waiting order and its next tid, which is at least 1
-pub record AreThreads (m : FinMap nat_cmp Thread) (order : List ℕ) (next : ℕ) : Type 0 where
-  pub threads : (tid : ℕ) → IfSome (get m tid) IsThread
-  pub live : len m ≤ 16
-  pub tids : (tid : ℕ) → IfSome (get m tid) (λ _. (1 ≤ tid) × (tid < next))
-  pub first : 1 ≤ next
-  pub next_tid : next ≤ 2 ^ 31
-  -- the waiting order names each waiting thread once
-  pub waiting : (tid : ℕ) → Contains order tid ↔ IsWaiting (get m tid)
-  pub waiting_once : AllPairs (λ a b. a ≢ b) order
-
 -- the threads keep the rules of a state
 abbrev pub KeepRules : ThreadsValue → Type 0
 KeepRules v = AreThreads (thread_map v.threads) v.waiting v.next_tid
@@ -71,13 +60,6 @@ spawned t s = with_thread s.next_tid t (record s { next_tid = s.next_tid + 1 })
 -- a thread leaves the list
 abbrev pub without_thread : ℕ → State → State
 without_thread tid s = record s { threads = remove s.threads tid }
-
--- the threads with one of them changed, where it is there
-abbrev pub changed : ℕ → (Thread → Thread) → FinMap nat_cmp Thread → FinMap nat_cmp Thread
-changed tid change m = changed_found (get m tid) where
-  changed_found : Option Thread → FinMap nat_cmp Thread
-  changed_found None = m
-  changed_found (Some t) = insert m tid (change t)
 
 -- ---- refusals
 

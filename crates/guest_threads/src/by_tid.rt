@@ -6,7 +6,8 @@ ghost use Rattle.std.specs.List.{list_any};
 ghost use Rattle.std.specs.List.Sorted.{IsStrictlyIncreasing};
 ghost use Rattle.std.specs.Map.{values_of};
 ghost use Rattle.rrv_model.specs.State.{IsRunning};
-ghost use Rattle.guest_threads.specs.Threads.{thread_map, running_in, changed, runs};
+ghost use Rattle.rrv_model.specs.CallRows.{changed};
+ghost use Rattle.guest_threads.specs.Threads.{thread_map, running_in, runs};
 
 use rrv_model::machine::{Regs, Thread};
 use rrv_model::refusal::Memory;

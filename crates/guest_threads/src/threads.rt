@@ -3,8 +3,7 @@
 ghost use Rattle.std.specs.Prelude.{◌≡◌, ◌↔◌, ℕ, ◌<◌, ◌≤◌, IsTrue, IfSome, OnSome, IfOk, OnErr, Contains, [], Some, None};
 ghost use Rattle.std.specs.FinMap.{insert, empty};
 ghost use Rattle.std.specs.List.Sorted.{IsStrictlyIncreasing};
-ghost use Rattle.rrv_model.specs.Memory.{IsMemory};
-ghost use Rattle.rrv_model.specs.State.{State, IsState, IsThread, IsRunning};
+ghost use Rattle.rrv_model.specs.State.{State, IsThread, IsRunning};
 
 use crate::by_tid::{
     add_thread, clone_threads, count_threads, find_thread, running_tids, same_threads,
@@ -27,7 +26,8 @@ pub struct Threads {
 }
 
 impl Model for Threads {
-    ghost use Rattle.guest_threads.specs.Threads.{ThreadsValue, thread_map, AreThreads};
+    ghost use Rattle.rrv_model.specs.State.{AreThreads};
+    ghost use Rattle.guest_threads.specs.Threads.{ThreadsValue, thread_map};
 
     ghost Value = { ThreadsValue };
 
@@ -107,13 +107,10 @@ impl Threads {
         running_tids(alloc, &self.threads)
     }
 
-    /// How many threads live. It is told here, too, that they keep the rules of a state, and with any memory and breaks
-    /// make one up.
+    /// How many threads live. That they keep the rules of a state's threads is told here, too.
     pub fn live(&self) -> u32
         ensures count { result ≡ live_count self.now }
         ensures rules { KeepRules self.now }
-        ensures state { (s : State) → IsMemory s.memory → 0x1000 ≤ s.opening_break
-            → (s.opening_break ≤ s.program_break) × (s.program_break ≤ 0x70000000) → IsState (with_threads self.now s) }
     {
         count_threads(&self.threads) as u32
     }

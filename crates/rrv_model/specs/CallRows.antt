@@ -1,6 +1,7 @@
 -- What each call does: the subset of Linux calls that a guest may make, a row a call (Linux man pages, section 2).
 use Rattle.std.specs.Prelude.{ℕ, zero, suc, ◌+◌, ◌-◌, ◌*◌, ◌/◌, ◌%◌, ◌^◌, min, Bool, true, false, not, ◌&&◌, ◌||◌, ◌==◌, nat_lt, nat_le, bit_and, if◌then◌else◌, List, [], ◌∷◌, ◌++◌, length, take, filter, flat_map, sum_by, fold, Option, Some, None}
-use Rattle.std.specs.FinMap.{remove, len}
+use Rattle.std.specs.FinMap.{FinMap, get, insert, remove, len}
+use Rattle.std.specs.Ordering.{nat_cmp}
 use Rattle.std.specs.Int.{w32, to_le_bytes}
 use Rattle.rrv_model.specs.declared.machine.Permissions.{Permissions}
 use Rattle.rrv_model.specs.declared.machine.Thread.{Thread}
@@ -120,6 +121,13 @@ change_thread tid change s = change_found (thread_at s tid) where
   change_found : Option Thread → State
   change_found None = s
   change_found (Some t) = with_thread tid (change t) s
+
+-- the threads with one of them changed, where it is there
+abbrev pub changed : ℕ → (Thread → Thread) → FinMap nat_cmp Thread → FinMap nat_cmp Thread
+changed tid change m = changed_found (get m tid) where
+  changed_found : Option Thread → FinMap nat_cmp Thread
+  changed_found None = m
+  changed_found (Some t) = insert m tid (change t)
 
 abbrev pub woken : State → ℕ → State
 woken s tid = change_thread tid (λ t. record t { waits_at = None }) (record s { waiting = filter (λ w. not (w == tid)) s.waiting })

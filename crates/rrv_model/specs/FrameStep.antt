@@ -8,7 +8,7 @@ use Rattle.rrv_model.specs.declared.record.End.TheVariants.{Preempt, Call, Fault
 use Rattle.rrv_model.specs.declared.record.Frame.{Frame}
 use Rattle.rrv_model.specs.declared.record.CallRecord.{CallRecord}
 use Rattle.rrv_model.specs.declared.machine.FaultKind.{FaultKind}
-use Rattle.rrv_model.specs.State.{State, thread_at, IsRunning}
+use Rattle.rrv_model.specs.State.{State, thread_at, IsRunning, IsState}
 use Rattle.rrv_model.specs.Step.{StepsTo, CallsFrom, FaultsFrom}
 use Rattle.rrv_model.specs.Calls.{Calls, Answer}
 
@@ -69,3 +69,7 @@ pub record FrameStep (old : State) (frame : Frame) (new : State) : Type 0 where
 -- old and frame leave one new at most
 abbrev pub OneStateAfterFrame : Type 0
 OneStateAfterFrame = (old : State) (frame : Frame) (new new' : State) → FrameStep old frame new → FrameStep old frame new' → new ≡ new'
+
+-- a frame from a state leads to a state
+abbrev pub FramesKeepStates : Type 0
+FramesKeepStates = (old : State) (frame : Frame) (new : State) → IsState old → FrameStep old frame new → IsState new

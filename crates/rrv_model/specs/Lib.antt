@@ -1,5 +1,6 @@
 pub mod Words
 pub mod Instructions
+pub mod WordReader
 pub mod Memory
 pub mod State
 pub mod Step

@@ -1,13 +1,13 @@
 -- Opening state: that from which a guest starts, from its ELF file, its name and 16 random bytes
 -- (System V ABI, chapter 5 "Program Loading"; the stack as execve(2) leaves it, with the pairs of getauxval(3)).
-use Rattle.std.specs.Prelude.{◌≡◌, ℕ, ◌+◌, ◌-◌, ◌*◌, ◌/◌, ◌%◌, ◌≤◌, max, Bool, ◌&&◌, ◌||◌, nat_le, ◌==◌, if◌then◌else◌, List, [], ◌∷◌, ◌++◌, length, fold, flat_map, replicate, All, Some, None, slice_index, slice_set}
+use Rattle.std.specs.Prelude.{◌≡◌, ℕ, ◌+◌, ◌-◌, ◌*◌, ◌/◌, ◌%◌, ◌<◌, ◌≤◌, max, Bool, ◌&&◌, ◌||◌, nat_le, ◌==◌, if◌then◌else◌, List, [], ◌∷◌, ◌++◌, length, fold, flat_map, replicate, All, Some, None, slice_index, slice_set}
 use Rattle.std.specs.List.{list_any}
 use Rattle.std.specs.FinMap.{empty, insert}
 use Rattle.std.specs.Int.{w32, to_le_bytes}
 use Rattle.rrv_model.specs.declared.machine.Permissions.{Permissions}
 use Rattle.rrv_model.specs.declared.machine.Thread.{Thread}
 use Rattle.rrv_model.specs.Memory.{Memory, stored, mapped, is_within, page_bytes, pages_for}
-use Rattle.rrv_model.specs.State.{State}
+use Rattle.rrv_model.specs.State.{State, IsState}
 use Rattle.rrv_model.specs.CallRows.{has_flag}
 use Rattle.rrv_model.specs.Elf.{Header, loads, load_end, touches, refusal, elf_entry, elf_phoff, elf_phnum}
 
@@ -112,6 +112,12 @@ IsName name = (1 ≤ length name) × (length name ≤ 32) × All (λ b. (0x21 �
 -- the state from which the guest starts; there is none where the file is refused or the name breaks its limit
 pub record Opens (file name random : List ℕ) (s : State) : Type 0 where
   pub accepted : refusal file ≡ None
+  pub file_bytes : All (λ b. b < 256) file
   pub is_name : IsName name
   pub sixteen : length random ≡ 16
+  pub random_bytes : All (λ b. b < 256) random
   pub state_is : s ≡ opening_state file name random
+
+-- a guest starts in a state
+abbrev pub OpeningsAreStates : Type 0
+OpeningsAreStates = (file name random : List ℕ) (s : State) → Opens file name random s → IsState s

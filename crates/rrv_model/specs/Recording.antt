@@ -17,10 +17,10 @@ abbrev pub IsNumbered : ℕ → ℕ → List Record → Type 0
 IsNumbered guest index [] = Unit {0}
 IsNumbered guest index (r ∷ records) = (r.guest ≡ guest) × (r.index ≡ index) × IsNumbered guest (index + 1) records
 
--- what a part says of the state, which hasn't ended, with the parts in a row before it: an unflagged one says nothing yet
+-- what a part says of the state, with the parts in a row before it: an unflagged one says nothing yet
 abbrev pub PartFits : Option CheckpointRest → State → List Part → State → Type 0
 PartFits None base parts s = Unit {0}
-PartFits (Some rest) base parts s = Describes base parts s × (s.ended ≡ None)
+PartFits (Some rest) base parts s = Describes base parts s
 
 -- the base and the parts in a row behind a part: behind a flagged one the base is the state there
 abbrev pub base_after : Option CheckpointRest → State → State → State

@@ -2,7 +2,7 @@
 use Rattle.std.specs.Prelude.{◌≡◌, ℕ, ◌-◌, nat_le, List, [], ◌∷◌, sum_by, MatchBool}
 use Rattle.rrv_model.specs.declared.record.Frame.{Frame}
 use Rattle.rrv_model.specs.declared.record.Opening.{Opening}
-use Rattle.rrv_model.specs.State.{State}
+use Rattle.rrv_model.specs.State.{State, IsState}
 use Rattle.rrv_model.specs.FrameStep.{Steps, FrameStep}
 use Rattle.rrv_model.specs.Opening.{Opens}
 
@@ -19,3 +19,7 @@ StateAtFrom s (f ∷ frames) t at =
 -- the state at t, the ends of the frames at or before t included
 abbrev pub StateAt : Opening → List Frame → ℕ → State → Type 0
 StateAt o frames t at = (s : State) × Opens o.elf o.name o.random s × StateAtFrom s frames t at
+
+-- whatever a guest was recorded to do, it was in a state at each count
+abbrev pub RecordedStatesAreStates : Type 0
+RecordedStatesAreStates = (o : Opening) (frames : List Frame) (t : ℕ) (at : State) → StateAt o frames t at → IsState at

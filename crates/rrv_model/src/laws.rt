@@ -1,9 +1,12 @@
 //! Laws of the definitions, each as the contract of a function that does nothing.
 
 ghost use Rattle.rrv_model.specs.Instructions.{OneRow};
-ghost use Rattle.rrv_model.specs.FrameStep.{OneStateAfterFrame};
+ghost use Rattle.rrv_model.specs.Memory.{HighestFreeIsFound};
+ghost use Rattle.rrv_model.specs.FrameStep.{FramesKeepStates, OneStateAfterFrame};
 ghost use Rattle.rrv_model.specs.Calls.{OneStateAfterCall};
-ghost use Rattle.rrv_model.specs.RecordText.{OneReading, OneSpelling};
+ghost use Rattle.rrv_model.specs.Opening.{OpeningsAreStates};
+ghost use Rattle.rrv_model.specs.StateAt.{RecordedStatesAreStates};
+ghost use Rattle.rrv_model.specs.RecordText.{CheckpointsExist, OneReading, OneSpelling};
 ghost use Rattle.rrv_model.specs.Recording.{BeginningsAreRecordings, FramesAppend, OneEnd};
 ghost use Rattle.rrv_model.specs.Recovered.{BeginningsAreRecovered, OneBatch, OneRecovery};
 
@@ -60,4 +63,29 @@ pub fn one_recovery()
 /// What is recovered from the first of some bodies is the first of what is recovered from all.
 pub fn beginnings_are_recovered()
     ensures { BeginningsAreRecovered }
+{}
+
+/// The search for a free place finds the highest, and none only where there is none.
+pub fn highest_free_is_found()
+    ensures { HighestFreeIsFound }
+{}
+
+/// A frame from a state leads to a state: all rules that hold of every state hold after it.
+pub fn frames_keep_states()
+    ensures { FramesKeepStates }
+{}
+
+/// A state that runs and has no reservation has a checkpoint, against any state with its opening break.
+pub fn checkpoints_exist()
+    ensures { CheckpointsExist }
+{}
+
+/// A guest starts in a state.
+pub fn openings_are_states()
+    ensures { OpeningsAreStates }
+{}
+
+/// At each count of its instructions a recorded guest was in a state.
+pub fn recorded_states_are_states()
+    ensures { RecordedStatesAreStates }
 {}

@@ -3,11 +3,11 @@
 
 pub mod fields;
 pub mod instr;
-pub mod sequence;
 pub mod laws;
 pub mod limits;
 pub mod machine;
 pub mod name;
 pub mod record;
 pub mod refusal;
+pub mod sequence;
 pub mod sink;

@@ -2,7 +2,7 @@
 
 ghost use Rattle.std.specs.Prelude.{◌≡◌, Some, None};
 ghost use Rattle.rrv_model.specs.Instructions.{opcode, funct3, funct5, Decodes};
-ghost use Rattle.rrv_model.proofs.InstructionLaws.{branch_of, load_of, store_of, immediate_of, shift_of, op_of, amo_of, read};
+ghost use Rattle.rrv_model.specs.WordReader.{branch_of, load_of, store_of, immediate_of, shift_of, op_of, amo_of, read};
 
 use crate::word;
 use rrv_model::instr::{

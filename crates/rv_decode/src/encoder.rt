@@ -11,7 +11,7 @@ use rrv_model::instr::{
     AmoOp, BranchTest, ImmediateOp, Instr, LoadKind, Ordering, RegisterOp, ShiftOp, StoreKind,
 };
 
-fn number_of(register: Register) -> u32
+fn register_number(register: Register) -> u32
     ensures value { result ≡ register }
     ensures range { result < 32 }
 {
@@ -33,7 +33,7 @@ fn upper_word(code: u32, rd: Register, immediate: UpperImmediate) -> u32
     ensures stands { IsU result code rd immediate }
     ensures back { (w : ℕ) → w < 2 ^ 32 → IsU w code rd immediate → w ≡ result }
 {
-    code + (number_of(rd) << 7) + immediate.word()
+    code + (register_number(rd) << 7) + immediate.word()
 }
 
 /// The word of form I.
@@ -43,9 +43,9 @@ fn immediate_word(code: u32, funct3: u32, rd: Register, rs1: Register, immediate
     ensures stands { IsI result code funct3 rd rs1 immediate }
     ensures back { (w : ℕ) → w < 2 ^ 32 → IsI w code funct3 rd rs1 immediate → w ≡ result }
 {
-    code + (number_of(rd) << 7)
+    code + (register_number(rd) << 7)
         + (funct3 << 12)
-        + (number_of(rs1) << 15)
+        + (register_number(rs1) << 15)
         + (immediate_bits(immediate) << 20)
 }
 
@@ -58,9 +58,9 @@ fn register_word(code: u32, funct3: u32, funct7: u32, rd: Register, rs1: Registe
     ensures stands { IsR result code funct3 funct7 rd rs1 rs2 }
     ensures back { (w : ℕ) → w < 2 ^ 32 → IsR w code funct3 funct7 rd rs1 rs2 → w ≡ result }
 {
-    code + (number_of(rd) << 7)
+    code + (register_number(rd) << 7)
         + (funct3 << 12)
-        + (number_of(rs1) << 15)
+        + (register_number(rs1) << 15)
         + (rs2 << 20)
         + (funct7 << 25)
 }
@@ -75,8 +75,8 @@ fn store_word(code: u32, funct3: u32, rs1: Register, rs2: Register, immediate: I
     let bits = immediate_bits(immediate);
     code + (bits % 32 << 7)
         + (funct3 << 12)
-        + (number_of(rs1) << 15)
-        + (number_of(rs2) << 20)
+        + (register_number(rs1) << 15)
+        + (register_number(rs2) << 20)
         + (bits / 32 << 25)
 }
 
@@ -102,8 +102,8 @@ fn branch_word(code: u32, funct3: u32, rs1: Register, rs2: Register, offset: Bra
     let high = (bits >> 12) * 64 + (bits >> 5) % 64;
     code + (low << 7)
         + (funct3 << 12)
-        + (number_of(rs1) << 15)
-        + (number_of(rs2) << 20)
+        + (register_number(rs1) << 15)
+        + (register_number(rs2) << 20)
         + (high << 25)
 }
 
@@ -124,7 +124,7 @@ fn jump_word(code: u32, rd: Register, offset: JumpOffset) -> u32
     ensures back { (w : ℕ) → w < 2 ^ 32 → IsJ w code rd offset → w ≡ result }
 {
     let bits = jump_bits(offset);
-    code + (number_of(rd) << 7)
+    code + (register_number(rd) << 7)
         + ((bits >> 12) % 256 << 12)
         + ((bits >> 11) % 2 << 20)
         + ((bits >> 1) % 1024 << 21)
@@ -148,9 +148,9 @@ fn atomic_word(funct5: u32, ordering: Ordering, rd: Register, rs1: Register, rs2
     let acquire = flag_of(ordering.acquires());
     let release = flag_of(ordering.releases());
     0b0101111
-        + (number_of(rd) << 7)
+        + (register_number(rd) << 7)
         + (0b010 << 12)
-        + (number_of(rs1) << 15)
+        + (register_number(rs1) << 15)
         + (rs2 << 20)
         + (release << 25)
         + (acquire << 26)
@@ -226,64 +226,40 @@ fn funct5_of_amo(op: AmoOp) -> u32
     }
 }
 
-fn funct3_of_shift(op: ShiftOp) -> u32
-    ensures value { result ≡ (shift_row op).0 }
-    ensures range { result < 8 }
+fn row_of_shift(op: ShiftOp) -> (u32, u32)
+    ensures row { result ≡ shift_row op }
+    ensures range { (result.0 < 8) × (result.1 < 128) }
 {
     match op {
-        ShiftOp::Slli => 0b001,
-        ShiftOp::Srli | ShiftOp::Srai => 0b101,
+        ShiftOp::Slli => (0b001, 0b0000000),
+        ShiftOp::Srli => (0b101, 0b0000000),
+        ShiftOp::Srai => (0b101, 0b0100000),
     }
 }
 
-fn funct7_of_shift(op: ShiftOp) -> u32
-    ensures value { result ≡ (shift_row op).1 }
-    ensures range { result < 128 }
+fn row_of_op(op: RegisterOp) -> (u32, u32)
+    ensures row { result ≡ op_row op }
+    ensures range { (result.0 < 8) × (result.1 < 128) }
 {
     match op {
-        ShiftOp::Slli | ShiftOp::Srli => 0b0000000,
-        ShiftOp::Srai => 0b0100000,
-    }
-}
-
-fn funct3_of_op(op: RegisterOp) -> u32
-    ensures value { result ≡ (op_row op).0 }
-    ensures range { result < 8 }
-{
-    match op {
-        RegisterOp::Add | RegisterOp::Sub | RegisterOp::Mul => 0b000,
-        RegisterOp::Sll | RegisterOp::Mulh => 0b001,
-        RegisterOp::Slt | RegisterOp::Mulhsu => 0b010,
-        RegisterOp::Sltu | RegisterOp::Mulhu => 0b011,
-        RegisterOp::Xor | RegisterOp::Div => 0b100,
-        RegisterOp::Srl | RegisterOp::Sra | RegisterOp::Divu => 0b101,
-        RegisterOp::Or | RegisterOp::Rem => 0b110,
-        RegisterOp::And | RegisterOp::Remu => 0b111,
-    }
-}
-
-fn funct7_of_op(op: RegisterOp) -> u32
-    ensures value { result ≡ (op_row op).1 }
-    ensures range { result < 128 }
-{
-    match op {
-        RegisterOp::Add
-        | RegisterOp::Sll
-        | RegisterOp::Slt
-        | RegisterOp::Sltu
-        | RegisterOp::Xor
-        | RegisterOp::Srl
-        | RegisterOp::Or
-        | RegisterOp::And => 0b0000000,
-        RegisterOp::Sub | RegisterOp::Sra => 0b0100000,
-        RegisterOp::Mul
-        | RegisterOp::Mulh
-        | RegisterOp::Mulhsu
-        | RegisterOp::Mulhu
-        | RegisterOp::Div
-        | RegisterOp::Divu
-        | RegisterOp::Rem
-        | RegisterOp::Remu => 0b0000001,
+        RegisterOp::Add => (0b000, 0b0000000),
+        RegisterOp::Sub => (0b000, 0b0100000),
+        RegisterOp::Sll => (0b001, 0b0000000),
+        RegisterOp::Slt => (0b010, 0b0000000),
+        RegisterOp::Sltu => (0b011, 0b0000000),
+        RegisterOp::Xor => (0b100, 0b0000000),
+        RegisterOp::Srl => (0b101, 0b0000000),
+        RegisterOp::Sra => (0b101, 0b0100000),
+        RegisterOp::Or => (0b110, 0b0000000),
+        RegisterOp::And => (0b111, 0b0000000),
+        RegisterOp::Mul => (0b000, 0b0000001),
+        RegisterOp::Mulh => (0b001, 0b0000001),
+        RegisterOp::Mulhsu => (0b010, 0b0000001),
+        RegisterOp::Mulhu => (0b011, 0b0000001),
+        RegisterOp::Div => (0b100, 0b0000001),
+        RegisterOp::Divu => (0b101, 0b0000001),
+        RegisterOp::Rem => (0b110, 0b0000001),
+        RegisterOp::Remu => (0b111, 0b0000001),
     }
 }
 
@@ -293,7 +269,7 @@ fn shift_word(op: ShiftOp, rd: Register, rs1: Register, amount: ShiftAmount) -> 
     ensures back { (w : ℕ) → w < 2 ^ 32 →
         IsR w 0b0010011 (shift_row op).0 (shift_row op).1 rd rs1 amount → w ≡ result }
 {
-    let (funct3, funct7) = (funct3_of_shift(op), funct7_of_shift(op));
+    let (funct3, funct7) = row_of_shift(op);
     register_word(
         0b0010011,
         funct3,
@@ -309,8 +285,8 @@ fn op_word(op: RegisterOp, rd: Register, rs1: Register, rs2: Register) -> u32
     ensures stands { IsR result 0b0110011 (op_row op).0 (op_row op).1 rd rs1 rs2 }
     ensures back { (w : ℕ) → w < 2 ^ 32 → IsR w 0b0110011 (op_row op).0 (op_row op).1 rd rs1 rs2 → w ≡ result }
 {
-    let (funct3, funct7) = (funct3_of_op(op), funct7_of_op(op));
-    register_word(0b0110011, funct3, funct7, rd, rs1, number_of(rs2))
+    let (funct3, funct7) = row_of_op(op);
+    register_word(0b0110011, funct3, funct7, rd, rs1, register_number(rs2))
 }
 
 /// The word of `instr`. Many words stand for `Fence` and for `FenceI`: the one whose ignored fields are zero.
@@ -367,13 +343,13 @@ pub fn encode(instr: Instr) -> u32
             rd,
             rs1,
             rs2,
-        } => atomic_word(0b00011, ordering, rd, rs1, number_of(rs2)),
+        } => atomic_word(0b00011, ordering, rd, rs1, register_number(rs2)),
         Instr::Amo {
             op,
             ordering,
             rd,
             rs1,
             rs2,
-        } => atomic_word(funct5_of_amo(op), ordering, rd, rs1, number_of(rs2)),
+        } => atomic_word(funct5_of_amo(op), ordering, rd, rs1, register_number(rs2)),
     }
 }

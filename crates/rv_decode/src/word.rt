@@ -3,7 +3,7 @@
 ghost use Rattle.std.specs.Prelude.{◌≡◌, ◌<◌, ◌≤◌, ◌^◌};
 ghost use Rattle.rrv_model.specs.Words.{field, sign_extend};
 ghost use Rattle.rrv_model.specs.Instructions.{opcode, rd_of, rs1_of, rs2_of, funct3, funct5, funct7, i_immediate, s_immediate, b_immediate, u_immediate, j_immediate};
-ghost use Rattle.rrv_model.proofs.InstructionLaws.{ordering_of};
+ghost use Rattle.rrv_model.specs.WordReader.{ordering_of};
 
 use rrv_model::fields::{
     BranchOffset, Immediate, JumpOffset, Register, ShiftAmount, UpperImmediate,

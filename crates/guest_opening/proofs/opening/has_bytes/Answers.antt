@@ -1,5 +1,5 @@
 use Rattle.std.proofs.Common.{arith}
-use Rattle.guest_opening.proofs.OpeningState.{all_bytes}
+use Rattle.rrv_model.proofs.OpeningState.{all_bytes}
 use Rattle.guest_opening.proofs.opening.has_bytes.Goals as goal
 
 pub returns : goal.returns

@@ -3,9 +3,9 @@ use Rattle.std.proofs.lemmas.List.{length_push}
 use Rattle.std.proofs.lemmas.Iterator.Adapters.{YieldsList-from_rev_slice}
 use Rattle.std.proofs.lemmas.Iterator.Consumers.{YieldsList-turn, YieldsList-end}
 use Rattle.rrv_model.specs.Memory.{stored}
-use Rattle.rrv_model.specs.Elf.{loads}
+use Rattle.rrv_model.specs.Elf.{loads, IsLoad}
 use Rattle.guest_pages.specs.Space.{memory_of}
-use Rattle.guest_opening.specs.Loading.{IsLoad, file_bytes}
+use Rattle.guest_opening.specs.Loading.{file_bytes}
 use Rattle.guest_opening.proofs.LoadWalk.{is_next, next_has_room, next_is_there, walk_begins, walk_goes_on, walk_ends}
 use Rattle.guest_opening.proofs.opening.load_image.Goals as goal
 

@@ -1,8 +1,8 @@
 use Rattle.std.proofs.Common.{◌≤◌, sym, subst}
 use Rattle.rrv_model.specs.Memory.{Memory, page_count}
 use Rattle.guest_opening.specs.Loading.{with_stack}
-use Rattle.guest_opening.proofs.AcceptedFile.{is_accepted}
-use Rattle.guest_opening.proofs.OpeningMemory.{bare_pages}
+use Rattle.rrv_model.proofs.AcceptedFile.{is_accepted}
+use Rattle.rrv_model.proofs.OpeningMemory.{bare_pages}
 use Rattle.guest_opening.proofs.opening.open_space.Goals as goal
 
 pub map_stack-requires : goal.map_stack-requires

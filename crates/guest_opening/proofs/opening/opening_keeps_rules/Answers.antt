@@ -1,5 +1,5 @@
 use Rattle.std.proofs.Common.{◌<◌, All, subst}
-use Rattle.guest_opening.proofs.OpeningState.{is_opening_state}
+use Rattle.rrv_model.proofs.OpeningState.{is_opening_state}
 use Rattle.guest_opening.proofs.opening.opening_keeps_rules.Goals as goal
 
 pub returns : goal.returns

@@ -1,4 +1,4 @@
-use Rattle.guest_opening.proofs.OpeningState.{is_first_thread}
+use Rattle.rrv_model.proofs.OpeningState.{is_first_thread}
 use Rattle.guest_opening.proofs.opening.opening_thread.Goals as goal
 
 pub returns-clause-fits : goal.returns-clause-fits

@@ -5,7 +5,7 @@ use Rattle.rrv_model.specs.State.{State, thread_at, IsRunning}
 use Rattle.rrv_model.specs.CallRows.{leaves}
 use Rattle.guest_calls.specs.Guest.{state_of}
 use Rattle.guest_calls.proofs.CallParts.{text_cleared, carries_clearing, memory_kept}
-use Rattle.guest_calls.proofs.ThreadParts.{wakes_running}
+use Rattle.rrv_model.proofs.ThreadRules.{wakes_running}
 use Rattle.guest_calls.proofs.guest.Guest.exit_clearing.Goals as goal
 
 pub returns-clause-carries : goal.returns-clause-carries

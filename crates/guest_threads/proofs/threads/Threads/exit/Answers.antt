@@ -1,7 +1,7 @@
 use Rattle.std.proofs.Common.{◌≡◌, true, sym, subst, refl, rules}
 use Rattle.rrv_model.specs.State.{IsRunning}
 use Rattle.guest_threads.specs.Threads.{ThreadsValue, thread_in}
-use Rattle.guest_threads.proofs.Rules.{moved, keeps_left}
+use Rattle.rrv_model.proofs.ThreadRules.{moved, keeps_left}
 use Rattle.guest_threads.proofs.threads.Threads.exit.Goals as goal
 
 pub invariant_of-self : goal.invariant_of-self

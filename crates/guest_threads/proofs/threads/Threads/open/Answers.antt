@@ -3,7 +3,7 @@ use Rattle.std.specs.FinMap.{empty, insert, len-empty}
 use Rattle.std.specs.Ordering.{nat_cmp}
 use Rattle.rrv_model.specs.declared.machine.Thread.{Thread}
 use Rattle.guest_threads.specs.Threads.{thread_map}
-use Rattle.guest_threads.proofs.Rules.{moved, no_threads, keeps_spawned}
+use Rattle.rrv_model.proofs.ThreadRules.{moved, no_threads, keeps_spawned}
 use Rattle.guest_threads.proofs.threads.Threads.open.Goals as goal
 
 pub invariant_of-result : goal.invariant_of-result

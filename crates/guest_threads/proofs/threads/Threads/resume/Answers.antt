@@ -1,4 +1,4 @@
-use Rattle.guest_threads.proofs.Rules.{moved, keeps_woken}
+use Rattle.rrv_model.proofs.ThreadRules.{moved, keeps_woken}
 use Rattle.guest_threads.proofs.threads.Threads.resume.Goals as goal
 
 pub invariant_of-self : goal.invariant_of-self

@@ -1,5 +1,5 @@
 use Rattle.std.proofs.Common.{refl, arith}
-use Rattle.guest_threads.proofs.Rules.{moved, keeps_changed}
+use Rattle.rrv_model.proofs.ThreadRules.{moved, keeps_changed}
 use Rattle.guest_threads.proofs.threads.Threads.set_clear.Goals as goal
 
 pub invariant_of-self : goal.invariant_of-self

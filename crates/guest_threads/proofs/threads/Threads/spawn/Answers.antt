@@ -1,7 +1,7 @@
 use Rattle.std.proofs.Common.{refl, sym, ◌∙◌, ap}
 use Rattle.guest_threads.specs.Threads.{ThreadsValue, is_full, thread_map}
 use Rattle.std.specs.FinMap.{len}
-use Rattle.guest_threads.proofs.Rules.{moved, keeps_spawned, room_left}
+use Rattle.rrv_model.proofs.ThreadRules.{moved, keeps_spawned, room_left}
 use Rattle.guest_threads.proofs.threads.Threads.spawn.Goals as goal
 
 pub invariant_of-self : goal.invariant_of-self

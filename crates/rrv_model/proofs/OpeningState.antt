@@ -1,24 +1,23 @@
 -- The opening state is a state.
-use Rattle.std.proofs.Common.{◌≡◌, ℕ, ◌+◌, ◌*◌, ◌^◌, ◌<◌, ◌≤◌, max, Bool, true, false, not, ◌||◌, cond, ◌==◌, if◌then◌else◌, List, [], ◌∷◌, drop, Option, Some, None, slice_index, arith, refl, sym, ◌∙◌, subst, get_or}
+use Rattle.std.proofs.Common.{◌≡◌, ℕ, ◌+◌, ◌*◌, ◌^◌, ◌<◌, ◌≤◌, max, Bool, true, false, not, ◌||◌, cond, ◌==◌, if◌then◌else◌, List, [], ◌∷◌, drop, Option, Some, None, arith, refl, sym, ◌∙◌, subst, get_or}
 use Rattle.std.specs.Prelude.{All, fold, replicate, slice_set, IfSome, IsSome}
-use Rattle.std.specs.FinMap.{FinMap, get, insert, empty, len, get-insert, get-empty, len-insert, len-empty}
+use Rattle.std.specs.FinMap.{get, insert, empty, len, get-insert, get-empty, len-insert, len-empty}
 use Rattle.std.specs.Ordering.{nat_cmp, eq_by_cmp}
 use Rattle.std.specs.Cmp.{unsigned_tied}
 use Rattle.std.specs.List.{list_any}
-use Rattle.std.specs.Int.{w32, from_le_bytes}
 use Rattle.std.proofs.lemmas.Cmp.{nat_cmp_total}
 use Rattle.std.proofs.lemmas.List.{get_or-drop}
 use Rattle.std.proofs.lemmas.List.Elements.{All-set, All-replicate, All-from_get_or}
 use Rattle.std.proofs.lemmas.Bool.Decides.{nat_tests}
 use Rattle.rrv_model.specs.declared.machine.Thread.{Thread}
 use Rattle.rrv_model.specs.Memory.{page_bytes, pages_for}
-use Rattle.rrv_model.specs.State.{IsState, IsThread, AreRegs, IsWaiting}
-use Rattle.rrv_model.specs.Elf.{Header, loads, load_end, refusal, elf_entry, is_empty_load}
-use Rattle.rrv_model.specs.Opening.{opening_state, opening_thread, image_break, stack_pointer, IsName}
-use Rattle.guest_opening.specs.Loading.{IsLoad}
-use Rattle.guest_opening.proofs.ImageParts.{AreLoads, IsAccepted}
-use Rattle.guest_opening.proofs.AcceptedFile.{is_accepted}
-use Rattle.guest_opening.proofs.OpeningMemory.{AreBytes, are_bytes, is_opening_memory}
+use Rattle.rrv_model.specs.State.{IsState, IsThread, AreThreads, AreRegs, IsWaiting}
+use Rattle.rrv_model.specs.Elf.{Header, loads, load_end, refusal, elf_entry, is_empty_load, IsLoad}
+use Rattle.rrv_model.specs.Opening.{opening_state, opening_thread, image_break, stack_pointer, IsName, OpeningsAreStates}
+use Rattle.rrv_model.proofs.ImageParts.{AreLoads, IsAccepted}
+use Rattle.rrv_model.proofs.AcceptedFile.{is_accepted}
+use Rattle.rrv_model.proofs.MemoryRules.{AreBytes, are_bytes, word-small}
+use Rattle.rrv_model.proofs.OpeningMemory.{is_opening_memory}
 
 -- ---- bytes
 
@@ -26,12 +25,6 @@ pub all_bytes : (bytes : List ℕ) → ((i : ℕ) → get_or bytes i 0 < 256) �
 all_bytes bytes small = All-from_get_or (λ b. b < 256) bytes 0 (λ i below. small i)
 
 -- ---- the thread
-
-four_bytes : (a b c d : ℕ) → a < 256 → b < 256 → c < 256 → d < 256 → ((a + b * 256 ^ 1) + c * 256 ^ 2) + d * 256 ^ 3 < 2 ^ 32
-four_bytes a b c d h g f e = omega arith
-
-word-small : (bytes : List ℕ) → AreBytes bytes → from_le_bytes w32 bytes < 2 ^ 32
-word-small bytes small = four_bytes (slice_index bytes 0) (slice_index bytes 1) (slice_index bytes 2) (slice_index bytes 3) (small 0) (small 1) (small 2) (small 3)
 
 small-drop : (n : ℕ) (bytes : List ℕ) → AreBytes bytes → AreBytes (drop n bytes)
 small-drop n bytes small i = let h = small (n + i) in rw get_or-drop h
@@ -147,8 +140,8 @@ pub is_opening_state : (file name random : List ℕ) → refusal file ≡ None �
     IsState (opening_state file name random)
 is_opening_state file name random none small is_name random_small =
     let t = opening_thread file name in
-    record {
-      memory = is_opening_memory file name random none small is_name random_small;
+    let memory = is_opening_memory file name random none small is_name random_small in
+    let threads : AreThreads (opening_state file name random).threads [] 2 = record {
       threads = λ tid. of_thread_one t tid (λ _. IsThread) (is_first_thread (elf_entry file) (stack_pointer name) (word-small (drop 24 file) (small-drop 24 file (are_bytes file small))) (small-stack_pointer name));
       live = live-one t;
       tids = λ tid. of_thread_one t tid (λ k _. (1 ≤ k) × (k < 2)) (omega arith, omega arith);
@@ -156,6 +149,19 @@ is_opening_state file name random none small is_name random_small =
       next_tid = omega arith;
       waiting = λ tid. (λ has. absurd (omega (arith, has.1)), λ waits. absurd (none_waits t tid refl waits));
       waiting_once = λ i j d above below. absurd (omega arith);
-      opening = high_image_break file (is_accepted file none);
-      breaks = (omega arith, low_image_break file (is_accepted file none));
+    } in
+    record {
+      rules = record {
+        memory = memory.pages;
+        threads = threads;
+        opening = high_image_break file (is_accepted file none);
+        breaks = (omega arith, low_image_break file (is_accepted file none));
+        reservation = tt;
+        ended = tt;
+      };
+      limit = memory.limit;
     }
+
+pub openings_are_states : OpeningsAreStates
+openings_are_states file name random s opens =
+    subst IsState (sym opens.state_is) (is_opening_state file name random opens.accepted opens.file_bytes opens.is_name opens.random_bytes)

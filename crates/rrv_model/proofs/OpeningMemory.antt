@@ -1,18 +1,18 @@
 -- The opening memory keeps the rules of every guest's memory.
-use Rattle.std.proofs.Common.{◌≡◌, ℕ, zero, suc, ◌+◌, ◌-◌, ◌*◌, ◌/◌, ◌<◌, ◌≤◌, Bool, true, false, ◌||◌, if◌then◌else◌, List, [], ◌∷◌, ◌++◌, length, Option, Some, None, slice_index, IsTrue, arith, refl, ap, sym, ◌∙◌, subst}
-use Rattle.std.specs.Prelude.{flat_map, All, nat_lt}
+use Rattle.std.proofs.Common.{◌≡◌, ℕ, ◌+◌, ◌-◌, ◌*◌, ◌/◌, ◌<◌, ◌≤◌, Bool, true, false, ◌||◌, if◌then◌else◌, List, [], ◌∷◌, ◌++◌, Option, Some, None, IsTrue, arith, refl, sym, ◌∙◌, subst}
+use Rattle.std.specs.Prelude.{flat_map, All}
 use Rattle.std.specs.List.{list_any}
-use Rattle.std.specs.Int.{w32, to_le_bytes, byte_at, bytes_low_first}
+use Rattle.std.specs.Int.{w32, to_le_bytes}
 use Rattle.std.proofs.lemmas.Bool.Decides.{nat_tests}
-use Rattle.std.proofs.lemmas.List.{get_or_past}
 use Rattle.std.proofs.lemmas.List.Elements.{All-nil, All-cons, All-append}
 use Rattle.rrv_model.specs.declared.machine.Permissions.{Permissions}
-use Rattle.rrv_model.specs.Memory.{Memory, Cell, stored, mapped, is_within, with_byte, is_mapped, pages_below, page_count, page_bytes, AlikeCells, FitsCell, IsMemory}
+use Rattle.rrv_model.specs.Memory.{Memory, Cell, mapped, is_within, is_mapped, pages_below, page_count, page_bytes, AlikeCells, FitsCell, IsMemory}
 use Rattle.rrv_model.specs.Elf.{Header, loads, touches, touched_below, refusal}
 use Rattle.rrv_model.specs.Opening.{image_memory, bare_memory, memory_with_words, memory_with_name, opening_memory, name_at, stack_pointer, stack_words, random_at, loaded_byte, page_permissions, page_has, IsName}
-use Rattle.guest_opening.proofs.ImageParts.{image_of, IsAccepted}
-use Rattle.guest_opening.proofs.AcceptedFile.{is_accepted, untouched}
-use Rattle.guest_opening.proofs.PageCounts.{pages_same, pages_more, pages_none, is_mapped-stored, is_mapped-mapped, is_mapped-image, pages_touched}
+use Rattle.rrv_model.proofs.ImageParts.{image_of, IsAccepted}
+use Rattle.rrv_model.proofs.AcceptedFile.{is_accepted, untouched}
+use Rattle.rrv_model.proofs.MemoryRules.{AreBytes, Fits, Paged, all-low_first, are_bytes, fits-stored, none-stored, paged-stored}
+use Rattle.rrv_model.proofs.PageCounts.{pages_same, pages_more, pages_none, is_mapped-stored, is_mapped-mapped, is_mapped-image, pages_touched}
 
 -- ---- which pages are mapped
 
@@ -61,24 +61,6 @@ bare_pages file accepted =
 
 -- ---- whole pages
 
-alike_stores : (t u : Bool) (b e : ℕ) (c d : Option Cell) → AlikeCells c d → AlikeCells (if t then with_byte b c else c) (if u then with_byte e d else d)
-alike_stores true true b e None None h = tt
-alike_stores true true b e (Some c) (Some d) h = h
-alike_stores true false b e None None h = tt
-alike_stores true false b e (Some c) (Some d) h = h
-alike_stores false true b e None None h = tt
-alike_stores false true b e (Some c) (Some d) h = h
-alike_stores false false b e c d h = h
-alike_stores t u b e None (Some d) h = absurd h
-alike_stores t u b e (Some c) None h = absurd h
-
-abbrev Paged : Memory → Type 0
-Paged m = (a b : ℕ) → a / page_bytes ≡ b / page_bytes → AlikeCells (m a) (m b)
-
-paged-stored : (a : ℕ) (bytes : List ℕ) (m : Memory) → Paged m → Paged (stored a bytes m)
-paged-stored a bytes m h x y same =
-    alike_stores (is_within a (length bytes) x) (is_within a (length bytes) y) (slice_index bytes (x - a)) (slice_index bytes (y - a)) (m x) (m y) (h x y same)
-
 alike_maps : (t u : Bool) (p : Permissions) (c d : Option Cell) → t ≡ u → AlikeCells c d →
     AlikeCells (if t then Some (record { byte = 0; permissions = p }) else c) (if u then Some (record { byte = 0; permissions = p }) else d)
 alike_maps true true p c d e h = refl
@@ -115,13 +97,6 @@ paged-opening file name random =
 
 -- ---- where nothing is
 
-none_store : (t : Bool) (b : ℕ) (c : Option Cell) → c ≡ None → (if t then with_byte b c else c) ≡ None
-none_store true b c e = ap (with_byte b) e
-none_store false b c e = e
-
-none-stored : (a : ℕ) (bytes : List ℕ) (m : Memory) (x : ℕ) → m x ≡ None → stored a bytes m x ≡ None
-none-stored a bytes m x e = none_store (is_within a (length bytes) x) (slice_index bytes (x - a)) (m x) e
-
 none_if : (t : Bool) (c d : Option Cell) → t ≡ false → d ≡ None → (if t then c else d) ≡ None
 none_if true c d e none = cc
 none_if false c d e none = none
@@ -146,20 +121,6 @@ high-opening file name random accepted x high =
     none-opening file name random x accepted outside (λ one below. omega arith)
 
 -- ---- bytes
-
-abbrev pub AreBytes : List ℕ → Type 0
-AreBytes bytes = (i : ℕ) → slice_index bytes i < 256
-
-fits_store : (t : Bool) (b : ℕ) (c : Option Cell) → b < 256 → FitsCell c → FitsCell (if t then with_byte b c else c)
-fits_store true b None low h = tt
-fits_store true b (Some c) low h = (low, h.1)
-fits_store false b c low h = h
-
-abbrev Fits : Memory → Type 0
-Fits m = (x : ℕ) → FitsCell (m x)
-
-fits-stored : (a : ℕ) (bytes : List ℕ) (m : Memory) → AreBytes bytes → Fits m → Fits (stored a bytes m)
-fits-stored a bytes m small h x = fits_store (is_within a (length bytes) x) (slice_index bytes (x - a)) (m x) (small (x - a)) (h x)
 
 fits_if : (t : Bool) (c : Cell) (d : Option Cell) → FitsCell (Some c) → FitsCell d → FitsCell (if t then Some c else d)
 fits_if true c d h g = h
@@ -191,20 +152,6 @@ fits-bare file small x =
 
 -- ---- the bytes of lists
 
-pub are_bytes : (bytes : List ℕ) → All (λ b. b < 256) bytes → AreBytes bytes
-are_bytes bytes all i = by_place (nat_lt i (length bytes)) refl where
-  by_place : (t : Bool) → nat_lt i (length bytes) ≡ t → slice_index bytes i < 256
-  by_place true e = let below : i < length bytes = grind (arith, nat_tests) in all i 0 below
-  by_place false e = let past : length bytes ≤ i = grind (arith, nat_tests) in rw get_or_past (omega arith)
-
-byte_at-small : (i n : ℕ) → byte_at i n < 256
-byte_at-small zero n = omega arith
-byte_at-small (suc i) n = omega arith
-
-all-low_first : (count i n : ℕ) → All (λ b. b < 256) (bytes_low_first i count n)
-all-low_first zero i n = All-nil (λ b. b < 256)
-all-low_first (suc count) i n = All-cons (λ b. b < 256) (byte_at i n) (bytes_low_first (suc i) count n) (byte_at-small i n) (all-low_first count (suc i) n)
-
 all-words : (words : List ℕ) → All (λ b. b < 256) (flat_map (to_le_bytes w32) words)
 all-words [] = All-nil (λ b. b < 256)
 all-words (w ∷ words) = All-append (λ b. b < 256) (to_le_bytes w32 w) (flat_map (to_le_bytes w32) words) (all-low_first 4 0 w) (all-words words)
@@ -225,9 +172,11 @@ pub is_opening_memory : (file name random : List ℕ) → refusal file ≡ None 
 is_opening_memory file name random none small is_name random_small =
     let accepted = is_accepted file none in
     record {
-      paged = paged-opening file name random;
-      low = low-opening file name random accepted;
-      high = high-opening file name random accepted;
+      pages = record {
+        paged = paged-opening file name random;
+        low = low-opening file name random accepted;
+        high = high-opening file name random accepted;
+        cells = fits-opening file name random small is_name random_small;
+      };
       limit = opening_pages file name random accepted;
-      cells = fits-opening file name random small is_name random_small;
     }

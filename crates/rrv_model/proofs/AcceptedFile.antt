@@ -2,11 +2,10 @@
 use Rattle.std.proofs.Common.{◌≡◌, ℕ, ◌+◌, ◌%◌, ◌<◌, ◌≤◌, Bool, true, false, not, ◌||◌, ◌&&◌, ◌==◌, if◌then◌else◌, List, [], ◌∷◌, length, Option, Some, None, slice_index, arith, refl, sym, ◌∙◌}
 use Rattle.std.specs.Prelude.{nat_lt}
 use Rattle.std.specs.List.{list_any}
+use Rattle.std.proofs.lemmas.Bool.{or_parts}
 use Rattle.std.proofs.lemmas.Bool.Decides.{nat_tests}
-use Rattle.rrv_model.specs.Elf.{Header, headers, loads, load_end, touches, touched_below, passes_file, crosses_sizes, leaves_range, any_share, refusal, elf_class, elf_data, elf_type, elf_machine, elf_flags, bad_table, is_interp, is_empty_load}
-use Rattle.guest_opening.specs.Loading.{IsLoad}
-use Rattle.guest_opening.proofs.ImageParts.{AreLoads, IsAccepted}
-use Rattle.guest_opening.proofs.ImageLoads.{false_left, false_right}
+use Rattle.rrv_model.specs.Elf.{Header, headers, loads, load_end, touches, touched_below, passes_file, crosses_sizes, leaves_range, any_share, refusal, elf_class, elf_data, elf_type, elf_machine, elf_flags, bad_table, is_interp, is_empty_load, IsLoad}
+use Rattle.rrv_model.proofs.ImageParts.{AreLoads, IsAccepted}
 
 -- ---- the tests of the loads
 
@@ -25,9 +24,9 @@ is_low h test some = grind (arith, nat_tests)
 are_loads : (file : List ℕ) (hs : List Header) → list_any (passes_file file) hs ≡ false → list_any crosses_sizes hs ≡ false → list_any leaves_range hs ≡ false → AreLoads file hs
 are_loads file [] passes crosses leaves = tt
 are_loads file (h ∷ hs) passes crosses leaves =
-    let passes_here = false_left (passes_file file h) (list_any (passes_file file) hs) passes in
-    let crosses_here = false_left (crosses_sizes h) (list_any crosses_sizes hs) crosses in
-    let leaves_here = false_left (leaves_range h) (list_any leaves_range hs) leaves in
+    let passes_here = (or_parts (passes_file file h) (list_any (passes_file file) hs) passes).0 in
+    let crosses_here = (or_parts (crosses_sizes h) (list_any crosses_sizes hs) crosses).0 in
+    let leaves_here = (or_parts (leaves_range h) (list_any leaves_range hs) leaves).0 in
     let load : IsLoad file h = record {
       in_file = is_in_file file h passes_here;
       sizes = has_sizes h crosses_here;
@@ -36,9 +35,9 @@ are_loads file (h ∷ hs) passes crosses leaves =
     } in (
       load,
       are_loads file hs
-          (false_right (passes_file file h) (list_any (passes_file file) hs) passes)
-          (false_right (crosses_sizes h) (list_any crosses_sizes hs) crosses)
-          (false_right (leaves_range h) (list_any leaves_range hs) leaves),
+          ((or_parts (passes_file file h) (list_any (passes_file file) hs) passes).1)
+          ((or_parts (crosses_sizes h) (list_any crosses_sizes hs) crosses).1)
+          ((or_parts (leaves_range h) (list_any leaves_range hs) leaves).1),
     )
 
 -- a page that a load touches
@@ -122,8 +121,8 @@ is_accepted file none =
     let limits = from10.1.1.1.1.0 in
     record {
       long = at_least 52 (length file) all.0;
-      short = at_most 2_097_152 (length file) (false_left (nat_lt 2_097_152 (length file)) (nat_lt 16_128 (touched_below 0x70000 (loads file))) limits);
+      short = at_most 2_097_152 (length file) ((or_parts (nat_lt 2_097_152 (length file)) (nat_lt 16_128 (touched_below 0x70000 (loads file))) limits).0);
       good = are_loads file (loads file) from10.0 from10.1.0 from10.1.1.0;
-      pages = at_most 16_128 (touched_below 0x70000 (loads file)) (false_right (nat_lt 2_097_152 (length file)) (nat_lt 16_128 (touched_below 0x70000 (loads file))) limits);
+      pages = at_most 16_128 (touched_below 0x70000 (loads file)) ((or_parts (nat_lt 2_097_152 (length file)) (nat_lt 16_128 (touched_below 0x70000 (loads file))) limits).1);
       fills = is_true (list_any (λ h. not (is_empty_load h)) (loads file)) from10.1.1.1.1.1.0;
     }

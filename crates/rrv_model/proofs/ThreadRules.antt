@@ -1,5 +1,5 @@
--- What keeps the rules of a state for its threads.
-use Rattle.std.proofs.Common.{◌≡◌, ◌≢◌, ◌↔◌, ◌⊎◌, inl, inr, ℕ, ◌+◌, ◌-◌, ◌^◌, ◌<◌, ◌≤◌, Bool, true, false, cond, not, ◌||◌, nat_eq, nat_le, nat_lt, is_some, List, [], ◌∷◌, ◌++◌, length, get_or, filter, Contains, AllPairs, Option, Some, None, IfSome, IsSome, refl, sym, ◌∙◌, ap, subst, arith}
+-- What keeps the rules of threads.
+use Rattle.std.proofs.Common.{◌≡◌, ◌≢◌, ◌↔◌, ◌⊎◌, inl, inr, ℕ, ◌+◌, ◌-◌, ◌^◌, ◌<◌, ◌≤◌, Bool, true, false, cond, not, ◌||◌, nat_eq, nat_le, nat_lt, is_some, List, [], ◌∷◌, ◌++◌, length, get_or, filter, fold, Contains, AllPairs, Option, Some, None, IfSome, IsSome, refl, sym, ◌∙◌, ap, subst, arith}
 use Rattle.std.proofs.lemmas.Bool.{false≢true}
 use Rattle.std.proofs.lemmas.Bool.Decides.{Decides-eqb, nat_tests}
 use Rattle.std.proofs.lemmas.List.Elements.{All-contains, All-contains_itself, All-filter, filter_passes, Contains-get_or, Contains-append_left, Contains-push, Contains-push_cases}
@@ -7,12 +7,26 @@ use Rattle.std.proofs.lemmas.List.Kept.{AllPairs-filter}
 use Rattle.std.proofs.lemmas.List.Quantifiers.{all_pairs_push}
 use Rattle.std.proofs.lemmas.Map.Views.{any-filter_same, list_any-from_Contains, Contains-from_any}
 use Rattle.std.specs.Cmp.{nat_cmp_total, eq_by_cmp_equiv}
-use Rattle.std.specs.FinMap.{FinMap, get, insert, remove, empty, len, get-insert, get-remove, get-empty, len-empty, len-insert, len-remove}
-use Rattle.std.specs.Ordering.{nat_cmp, eq_by_cmp}
+use Rattle.std.specs.FinMap.{FinMap, get, insert, remove, empty, len, get-insert, get-remove, get-empty, len-empty, len-insert, len-remove, nat_cmp-IsAntisymmetric}
+use Rattle.std.specs.Ordering.{nat_cmp, eq_by_cmp, is_eq}
+use Rattle.std.specs.declared.cmp.Ordering.{Ordering}
+use Rattle.std.specs.declared.cmp.Ordering.TheVariants.{Less, Equal, Greater}
 use Rattle.rrv_model.specs.declared.machine.Thread.{Thread}
-use Rattle.rrv_model.specs.State.{IsThread, IsRunning, IsWaiting}
-use Rattle.guest_threads.specs.Threads.{AreThreads, changed}
-use Rattle.guest_threads.proofs.ByTid.{same_tid, tied}
+use Rattle.rrv_model.specs.State.{State, IsThread, IsRunning, IsWaiting, AreThreads, thread_at}
+use Rattle.rrv_model.specs.CallRows.{change_thread, changed, waiters, wakes, woken}
+
+-- ---- tids
+
+equal : (r : Ordering) → is_eq r ≡ true → r ≡ Equal
+equal Less e = absurd (false≢true e)
+equal Equal e = refl
+equal Greater e = absurd (false≢true e)
+
+pub same_tid : (q s : ℕ) → eq_by_cmp nat_cmp q s ≡ true → q ≡ s
+same_tid q s e = nat_cmp-IsAntisymmetric q s (equal _ e)
+
+pub tied : (q : ℕ) → eq_by_cmp nat_cmp q q ≡ true
+tied q = (eq_by_cmp_equiv nat_cmp_total).refl q
 
 -- ---- numbers that are apart
 
@@ -246,3 +260,36 @@ keeps_waits m order next tid a h runs fits =
           Contains (order ++ tid ∷ []) q ↔ IsWaiting (cond b (changed_at tid (waits_from a) (get m tid)) (get m q))
       waits q true e = (λ c. it_waits a tid (get m tid) runs, λ w. subst (λ k. Contains (order ++ tid ∷ []) k) (sym (same_tid q tid e)) (Contains-push order tid))
       waits q false e = (λ c. (h.waiting q).0 (older q e (Contains-push_cases order tid q c)), λ w. Contains-append_left order (tid ∷ []) q ((h.waiting q).1 w))
+
+-- ---- changes of a state's threads
+
+-- a change of a thread, as a change of the map
+pub change_is : (tid : ℕ) (change : Thread → Thread) (s : State) → change_thread tid change s ≡ record s { threads = changed tid change s.threads }
+change_is tid change s = by (get s.threads tid) refl where
+  by : (o : Option Thread) → get s.threads tid ≡ o → change_thread tid change s ≡ record s { threads = changed tid change s.threads }
+  by None e = rw e refl
+  by (Some t) e = rw e refl
+
+pub woken_is : (s : State) (tid : ℕ) → woken s tid ≡ record s { threads = changed tid resumed s.threads; waiting = filter (λ w. not (nat_eq w tid)) s.waiting }
+woken_is s tid = change_is tid resumed (record s { waiting = filter (λ w. not (nat_eq w tid)) s.waiting })
+
+-- ---- a running thread still runs when others are woken
+
+still : (w : ℕ) (o : Option Thread) → IsRunning o → IsRunning (changed_at w resumed o)
+still w None r = r
+still w (Some t) r = refl
+
+woken_running : (s : State) (w tid : ℕ) → IsRunning (thread_at s tid) → IsRunning (thread_at (woken s w) tid)
+woken_running s w tid r =
+    subst (λ (o : Option Thread). IsRunning o) (sym (ap (λ (s' : State). get s'.threads tid) (woken_is s w) ∙ get-changed s.threads w resumed tid))
+    (by (eq_by_cmp nat_cmp tid w) refl) where
+      by : (b : Bool) → eq_by_cmp nat_cmp tid w ≡ b → IsRunning (cond b (changed_at w resumed (get s.threads w)) (get s.threads tid))
+      by true e = still w (get s.threads w) (subst (λ k. IsRunning (get s.threads k)) (same_tid tid w e) r)
+      by false e = r
+
+pub all_woken_running : (tids : List ℕ) (s : State) (tid : ℕ) → IsRunning (thread_at s tid) → IsRunning (thread_at (fold woken s tids) tid)
+all_woken_running [] s tid r = r
+all_woken_running (w ∷ tids) s tid r = all_woken_running tids (woken s w) tid (woken_running s w tid r)
+
+pub wakes_running : (a count tid : ℕ) (s : State) → IsRunning (thread_at s tid) → IsRunning (thread_at (wakes a count s) tid)
+wakes_running a count tid s r = all_woken_running (waiters s a count) s tid r

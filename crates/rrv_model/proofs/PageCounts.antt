@@ -4,7 +4,7 @@ use Rattle.std.specs.List.{list_any}
 use Rattle.rrv_model.specs.declared.machine.Permissions.{Permissions}
 use Rattle.rrv_model.specs.Memory.{Memory, Cell, stored, mapped, is_within, with_byte, is_mapped, pages_below, page_bytes}
 use Rattle.rrv_model.specs.Elf.{Header, touches, touched_below}
-use Rattle.guest_opening.proofs.ImageParts.{image_of}
+use Rattle.rrv_model.proofs.ImageParts.{image_of}
 
 -- ---- counts of any memory
 
@@ -62,7 +62,7 @@ is_some-with_byte : (b : ℕ) (c : Option Cell) → is_some (with_byte b c) ≡ 
 is_some-with_byte b None = refl
 is_some-with_byte b (Some c) = refl
 
-is_some-if : (t : Bool) (c d : Option Cell) → is_some c ≡ is_some d → is_some (if t then c else d) ≡ is_some d
+pub is_some-if : (t : Bool) (c d : Option Cell) → is_some c ≡ is_some d → is_some (if t then c else d) ≡ is_some d
 is_some-if true c d e = e
 is_some-if false c d e = refl
 
