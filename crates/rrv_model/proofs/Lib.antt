@@ -15,6 +15,9 @@ pub mod SettledLaws
 pub mod StoreCallLaws
 pub mod RecoveredLaws
 pub mod StoreLaws
+pub mod Lists
+pub mod Names
+pub mod ElfLaws
 pub mod FreePlaces
 pub mod WordValues
 pub mod MemoryRules
