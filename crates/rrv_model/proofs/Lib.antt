@@ -14,3 +14,5 @@ pub mod SettledLaws
 pub mod StoreCallLaws
 pub mod RecoveredLaws
 pub mod StoreLaws
+pub mod Lists
+pub mod Results
