@@ -34,3 +34,4 @@ pub mod AcceptedFile
 pub mod OpeningMemory
 pub mod OpeningState
 pub mod Threads
+pub mod Results

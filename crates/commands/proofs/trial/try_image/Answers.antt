@@ -25,7 +25,7 @@ returns-in-Err-open-clause-refused c =
     subst (λ n. HasGained ghosts.honest ghosts.state n c.args.quantum (opening_of n c.args.image c.args.name.now c.args.random) c.in-Ok.log c.record_guest.new.log s) c.in-Ok.ensures.next_guest c.in_ok-recorded.ensures.recorded in
     let store = kept_store (ghosts.state) c.record_guest.new.log c.close.result (texts_of gained.records) c.close.ensures (gained.keeps [] tt (c.in-Ok.ensures.kept tt)) in
     open_refused c.from-in-Err-open.result c.in-Err-open.fault c.args.quantum first c.from-in-Err-open.ensures
-    (c.in-Err-open.ensures.only_if_refused (texts_of gained.records) gained.records tt store (whole_recovery c.args.quantum first gained.records s gained.recorded))
+    ((c.in-Err-open.ensures.outcome tt).opens (texts_of gained.records) store gained.records (whole_recovery c.args.quantum first gained.records s gained.recorded))
 
 pub returns-in_err-replayed-clause-refused : goal.returns-in_err-replayed-clause-refused
 returns-in_err-replayed-clause-refused c =
@@ -35,7 +35,7 @@ returns-in_err-replayed-clause-refused c =
     let gained : HasGained ghosts.honest ghosts.state 0 c.args.quantum first c.in-Ok.log c.record_guest.new.log s =
     subst (λ n. HasGained ghosts.honest ghosts.state n c.args.quantum (opening_of n c.args.image c.args.name.now c.args.random) c.in-Ok.log c.record_guest.new.log s) c.in-Ok.ensures.next_guest c.in_ok-recorded.ensures.recorded in
     let store = kept_store (ghosts.state) c.record_guest.new.log c.close.result (texts_of gained.records) c.close.ensures (gained.keeps [] tt (c.in-Ok.ensures.kept tt)) in
-    let opened = c.in-Ok-open.ensures.exact (texts_of gained.records) tt store in
+    let opened = (c.in-Ok-open.ensures.outcome tt).opens (texts_of gained.records) store in
     let again = found_again c.args.quantum first gained.records c.in-Ok-open.opened.1 c.in_ok-records.records.items s gained.recorded opened.1 c.in_ok-records.ensures.records in
     rw (p.1, p.2) (replay_refused c.in_err-replayed.field-0.0 c.args.quantum first c.in_ok-records.records.items s again
     (subst (λ (rs : List Record). RefusesReplay c.in_err-replayed.field-0.0 rs) c.deref.ensures.value c.in_err-replayed.ensures.refused))
@@ -47,7 +47,7 @@ returns-clause-program c =
     let gained : HasGained ghosts.honest ghosts.state 0 c.args.quantum first c.in-Ok.log c.record_guest.new.log s =
     subst (λ n. HasGained ghosts.honest ghosts.state n c.args.quantum (opening_of n c.args.image c.args.name.now c.args.random) c.in-Ok.log c.record_guest.new.log s) c.in-Ok.ensures.next_guest c.in_ok-recorded.ensures.recorded in
     let store = kept_store (ghosts.state) c.record_guest.new.log c.close.result (texts_of gained.records) c.close.ensures (gained.keeps [] tt (c.in-Ok.ensures.kept tt)) in
-    let opened = c.in-Ok-open.ensures.exact (texts_of gained.records) tt store in
+    let opened = (c.in-Ok-open.ensures.outcome tt).opens (texts_of gained.records) store in
     (found_again c.args.quantum first gained.records c.in-Ok-open.opened.1 c.in_ok-records.records.items s gained.recorded opened.1 c.in_ok-records.ensures.records).opens
 
 pub returns-clause-turns : goal.returns-clause-turns
@@ -57,7 +57,7 @@ returns-clause-turns c =
     let gained : HasGained ghosts.honest ghosts.state 0 c.args.quantum first c.in-Ok.log c.record_guest.new.log s =
     subst (λ n. HasGained ghosts.honest ghosts.state n c.args.quantum (opening_of n c.args.image c.args.name.now c.args.random) c.in-Ok.log c.record_guest.new.log s) c.in-Ok.ensures.next_guest c.in_ok-recorded.ensures.recorded in
     let store = kept_store (ghosts.state) c.record_guest.new.log c.close.result (texts_of gained.records) c.close.ensures (gained.keeps [] tt (c.in-Ok.ensures.kept tt)) in
-    let opened = c.in-Ok-open.ensures.exact (texts_of gained.records) tt store in
+    let opened = (c.in-Ok-open.ensures.outcome tt).opens (texts_of gained.records) store in
     (found_again c.args.quantum first gained.records c.in-Ok-open.opened.1 c.in_ok-records.records.items s gained.recorded opened.1 c.in_ok-records.ensures.records).turns
 
 pub returns-clause-same : goal.returns-clause-same
@@ -67,7 +67,7 @@ returns-clause-same c =
     let gained : HasGained ghosts.honest ghosts.state 0 c.args.quantum first c.in-Ok.log c.record_guest.new.log s =
     subst (λ n. HasGained ghosts.honest ghosts.state n c.args.quantum (opening_of n c.args.image c.args.name.now c.args.random) c.in-Ok.log c.record_guest.new.log s) c.in-Ok.ensures.next_guest c.in_ok-recorded.ensures.recorded in
     let store = kept_store (ghosts.state) c.record_guest.new.log c.close.result (texts_of gained.records) c.close.ensures (gained.keeps [] tt (c.in-Ok.ensures.kept tt)) in
-    let opened = c.in-Ok-open.ensures.exact (texts_of gained.records) tt store in
+    let opened = (c.in-Ok-open.ensures.outcome tt).opens (texts_of gained.records) store in
     let again = found_again c.args.quantum first gained.records c.in-Ok-open.opened.1 c.in_ok-records.records.items s gained.recorded opened.1 c.in_ok-records.ensures.records in
     same_state c.args.quantum first c.in_ok-records.records.items s (state_of c.in_ok-replayed.replayed.guest) again
     (subst (λ (rs : List Record). EndsIn (items_of rs) (state_of c.in_ok-replayed.replayed.guest)) c.deref.ensures.value c.in_ok-replayed.ensures.ends)
