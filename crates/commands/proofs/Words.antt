@@ -101,19 +101,14 @@ entered_is_named app (Some p) = found_is_named (λ s. answers_to p.0 (label_of s
 named : (words : List Text) → IfSome (subcommand_of program words) (λ found. IsName found.0 (built program).subs)
 named words = entered_is_named (built program) (stop_after (built program).top.rules (names_of (built program)) (argument_words program words))
 
-is_command : (words : List Text) (found : Text × List Row) → subcommand_of program words ≡ Some found → found.0 ≡ codes "try"
-is_command words found is = elim (subst (λ o. IfSome o (λ f. IsName f.0 (built program).subs)) is (named words)) [
-  | inl e ↦ e
-  | inr none ↦ absurd none
-]
-
 module _ {Z : Type 0} where
   name_in : (found : Option (Box SubCommand Z)) (words : List Text) (name : Text) → subcommand_rows found ≡ subcommand_of program words
-      → Some name ≡ option_map (λ sub. (out-SubCommand (box_value sub)).name.now) found → name ≡ codes "try"
+      → Some name ≡ option_map (λ sub. (out-SubCommand (box_value sub)).name.now) found → IsName name (built program).subs
   name_in None words name rows is = absurd (none-some name (sym is))
-  name_in (Some sub) words name rows is = same_Some name _ is ∙ is_command words _ (sym rows)
+  name_in (Some sub) words name rows is =
+      subst (λ n. IsName n (built program).subs) (sym (same_Some name _ is)) (subst (λ o. IfSome o (λ f. IsName f.0 (built program).subs)) (sym rows) (named words))
 
 -- a command that was found has a name of the program's
-pub command_name : (app : App) (words : List Text) (m : ArgMatches) (name : Text) → app ≡ program → HasMatchesOf app words m → Some name ≡ subcommand_name_of m → name ≡ codes "try"
+pub command_name : (app : App) (words : List Text) (m : ArgMatches) (name : Text) → app ≡ program → HasMatchesOf app words m → Some name ≡ subcommand_name_of m → IsName name (built program).subs
 command_name app words m name is has named_so =
     let of_program = subst (λ a. HasMatchesOf a words m) is has in name_in (out-ArgMatches m).subcommand words name (of_program simple).1 named_so

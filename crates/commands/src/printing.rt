@@ -10,11 +10,14 @@ use std::alloc::Global;
 use std::io::{BufWriter, Write};
 use trace_text::{RecordLine, VerifyLine};
 
-/// Prints bytes that a guest put out: what goes to descriptor 2 as errors, behind all that was printed before.
+/// Prints bytes that a guest put out. What goes to descriptor 2 is printed as errors, once all before it is printed.
 fn print_put<O: Write, E: Write>(put: &Put, out: &mut O, err: &mut E) -> Result<(), Refusal>
-    ensures output { OnOk result (put.now.descriptor ≢ 2 → Appends (O.contents out.old) (O.contents out.new) put.now.bytes) }
-    ensures errors { OnOk result (put.now.descriptor ≡ 2 → Appends (E.contents err.old) (E.contents err.new) put.now.bytes) }
-    ensures no_output { OnOk result (put.now.descriptor ≡ 2 → Keeps (O.contents out.old) (O.contents out.new)) }
+    ensures output { OnOk result (put.now.descriptor ≢ 2
+        → Appends (O.contents out.old) (O.contents out.new) put.now.bytes) }
+    ensures errors { OnOk result (put.now.descriptor ≡ 2
+        → Appends (E.contents err.old) (E.contents err.new) put.now.bytes) }
+    ensures no_output { OnOk result (put.now.descriptor ≡ 2
+        → Keeps (O.contents out.old) (O.contents out.new)) }
     ensures no_errors { put.now.descriptor ≢ 2 → err.new ≡ err.old }
 {
     let bytes = put.bytes.as_slice();

@@ -1,5 +1,5 @@
-//! Lines of the program as rows: the files that a line may read, its words, and what it answers. What plays a row is proved once; a row
-//! costs no proof.
+//! Lines of the program as rows: the files that a line may read, its words, and what it answers. What plays a row is
+//! proved once; a row costs no proof.
 
 use commands::run;
 use std::alloc::Global;
@@ -35,7 +35,8 @@ pub(crate) struct Row<'a> {
     pub(crate) err: &'a [u8],
 }
 
-/// Ends the test where something else is found than wanted. An assertion costs its proof wherever it stands; this one stands once.
+/// Ends the test where something else is found than wanted. An assertion costs its proof wherever it stands; this one
+/// stands once.
 pub(crate) fn same<T: PartialEq + Debug + Drop>(
     rt: &impl Abort,
     what: &impl Debug,

@@ -12,8 +12,8 @@ pub(crate) const HELLO: [u32; 11] = [
 
 #[test]
 fn no_word_records_the_demonstration(rt: HostRuntime) -> Result<(), Fail> {
-    let want: &[u8] =
-        b"0 opening name=g0 elf=96\n1 call tid=1 count=3 result=00000000 written=0\nok records=2 instructions=3 end exited 5\n";
+    let want: &[u8] = b"0 opening name=g0 elf=96\n1 call tid=1 count=3 result=00000000 written=0\n\
+        ok records=2 instructions=3 end exited 5\n";
     play(&rt, &bare(&[], 0, want, b""))
 }
 
@@ -48,8 +48,8 @@ fn a_trial_has_zeros_for_random_bytes(rt: HostRuntime) -> Result<(), Fail> {
 
 #[test]
 fn a_trial_has_a_silent_outside(rt: HostRuntime) -> Result<(), Fail> {
-    // It fills 24 bytes with ones. Then it reads up to ten bytes of input to them, takes three random bytes, and the time
-    // to the last 16; writes the 24 bytes, and exits with 0.
+    // It fills 24 bytes with ones. Then it reads up to ten bytes of input to them, takes three random bytes, and the
+    // time to the last 16; writes the 24 bytes, and exits with 0.
     let program = [
         0x7FF00437, 0xFFF00293, 0x00542023, 0x00542223, 0x00542423, 0x00542623, 0x00542823,
         0x00542A23, 0x00000513, 0x00040593, 0x00A00613, 0x03F00893, 0x00000073, 0x00040513,

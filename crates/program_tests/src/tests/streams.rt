@@ -42,7 +42,8 @@ impl Write for Sink {
     }
 }
 
-/// What a line answers, what its output took, and its errors, where the output takes so many bytes of a write, and so many in all.
+/// What a line returns, what its output took, and its errors, where the output takes so many bytes of a write, and so
+/// many in all.
 fn printed<R: Abort + AllocGlobal + Files>(
     rt: &R,
     words: &[&str],
@@ -59,42 +60,45 @@ fn printed<R: Abort + AllocGlobal + Files>(
     (status, out.taken, err)
 }
 
-#[test]
-fn output_that_is_taken_in_parts_is_whole(rt: HostRuntime) -> Result<(), Fail> {
+/// Ends the test where a guest that writes `hi` is printed otherwise by an output that takes so many bytes of a write,
+/// and so many in all.
+fn prints_hi<R: Abort + AllocGlobal + Files>(
+    rt: &R,
+    rows: &[(usize, usize)],
+    status: u8,
+    errors: &[u8],
+) -> Result<(), Fail> {
     let elf = file_of(rt.alloc(), &HELLO)?;
-    fs::write(&rt, "hello", elf.as_slice())?;
-    for most in [1, 2, 7, 1000] {
-        let (status, out, err) = printed(&rt, &["try", "hello"], most, usize::MAX);
+    fs::write(rt, "hello", elf.as_slice())?;
+    for (most, room) in rows {
+        let (ended, out, err) = printed(rt, &["try", "hello"], *most, *room);
+        let front = HI.get(..*room).unwrap_or(HI);
         same(
-            &rt,
-            &most,
-            (status, out.as_slice(), err.is_empty()),
-            (0, HI, true),
+            rt,
+            &(*most, *room),
+            (ended, out.as_slice(), err.as_slice()),
+            (status, front, errors),
         );
     }
-    fs::remove_file(&rt, "hello")?;
+    fs::remove_file(rt, "hello")?;
     Ok(())
 }
 
 #[test]
+fn output_that_is_taken_in_parts_is_whole(rt: HostRuntime) -> Result<(), Fail> {
+    let whole = HI.len();
+    prints_hi(
+        &rt,
+        &[(1, whole), (2, whole), (7, whole), (1000, 1000)],
+        0,
+        b"",
+    )
+}
+
+#[test]
 fn output_that_fails_is_told(rt: HostRuntime) -> Result<(), Fail> {
-    let elf = file_of(rt.alloc(), &HELLO)?;
-    fs::write(&rt, "hello", elf.as_slice())?;
-    let want: &[u8] = b"rrv: output failed\n";
-    for room in [0, 1, 3, 29, 100] {
-        for most in [1, 1000] {
-            let (status, out, err) = printed(&rt, &["try", "hello"], most, room);
-            let front = HI.get(..room).unwrap_or(b"");
-            same(
-                &rt,
-                &room,
-                (status, out.as_slice(), err.as_slice()),
-                (1, front, want),
-            );
-        }
-    }
-    fs::remove_file(&rt, "hello")?;
-    Ok(())
+    let rows = [(1, 0), (1, 1), (1000, 0), (1000, 3), (1, 29), (1000, 100)];
+    prints_hi(&rt, &rows, 1, b"rrv: output failed\n")
 }
 
 /// A writer that fails.
@@ -193,13 +197,14 @@ fn unread<R: Abort + AllocGlobal>(rt: &R, kind: ErrorKind, want: (u8, &[u8])) {
 }
 
 #[test]
-fn words_that_cannot_be_read_are_told(rt: HostRuntime) {
+fn words_that_are_no_text_are_told(rt: HostRuntime) {
+    let want: &[u8] = b"rrv: cannot read the command line: invalid data\n";
+    unread(&rt, ErrorKind::InvalidData, (2, want));
+}
+
+#[test]
+fn words_that_find_no_memory_are_told(rt: HostRuntime) {
     unread(&rt, ErrorKind::OutOfMemory, (1, b"rrv: out of memory\n"));
-    unread(
-        &rt,
-        ErrorKind::InvalidData,
-        (2, b"rrv: cannot read the command line: invalid data\n"),
-    );
 }
 
 #[test]
