@@ -1,8 +1,8 @@
 //! What a line of words asks for.
 
-ghost use Rattle.std.specs.Prelude.{◌≡◌, ◌≤◌, IfOk, Some, length, map, option_map, unwrap_or, []};
-ghost use Rattle.clap.specs.Words.{FailsBy, app_of, fault_of, subcommand_rows_of};
-ghost use Rattle.commands.specs.Line.{elf_among, elf_in, elf_requested, program};
+ghost use Rattle.std.specs.Prelude.{◌≡◌, ◌≤◌, IfOk, IsSomeAnd, length, map};
+ghost use Rattle.clap.specs.Words.{FailsBy, fault_of, found_of, rows_of, subcommand_of};
+ghost use Rattle.commands.specs.Request.{Asks, IsCommand, program, try_command, value_of};
 
 use clap::{Arg, ArgAction, ArgMatches, Command, Error};
 use std::alloc::{AllocError, Global};
@@ -17,47 +17,58 @@ pub enum Request<'a> {
     Try { elf: &'a str },
 }
 
-fn command<'a>(alloc: Global) -> Result<Command<'a>, AllocError>
-    ensures { IfOk result (λ command. app_of command ≡ program) }
+/// `try ELF`.
+fn try_command<'a>(alloc: Global) -> Result<Command<'a>, AllocError>
+    ensures { IfOk result (IsCommand try_command) }
 {
     let elf = Arg::new(alloc, "ELF")
         .required(true)
         .action(ArgAction::Set)
         .help("a static RISC-V program (ELF32, RV32IMA)");
-    let attempt = Command::new(alloc, "try")
+    Command::new(alloc, "try")
         .about("records a program to a disk in memory and replays it")
-        .arg(elf)?;
+        .arg(elf)
+}
+
+/// The commands of the program.
+fn command<'a>(alloc: Global) -> Result<Command<'a>, AllocError>
+    ensures { IfOk result (IsCommand program) }
+{
     Command::new(alloc, "rrv")
+        .bin_name("rrv")?
         .about("records RISC-V programs and replays them exactly")
         .no_binary_name(true)
         .subcommand_required(true)
         .disable_help_subcommand(true)
-        .subcommand(attempt)
+        .subcommand(try_command(alloc)?)
 }
 
-/// The file that was found.
-fn elf_of<'a>(matches: &ArgMatches<'a>) -> Option<&'a str>
-    ensures { option_map (λ elf. elf.now) result ≡ elf_among (subcommand_rows_of matches.now) }
+/// The value of an argument that has to be there.
+fn value_of<'a>(values: &ArgMatches<'a>, name: &str) -> &'a str
+    ensures { result.now ≡ value_of name.now (rows_of (found_of values.now)) }
 {
-    match matches.subcommand() {
-        Some((_, attempt)) => attempt.get_str("ELF"),
-        None => None,
-    }
+    values.get_str(name).unwrap_or("")
 }
 
 /// Reads the words after the program's name. No word at all asks for the demonstration; else a word that the
 /// command line doesn't have, or lacks, and a call for help, are the parser's error, whose text says so.
-pub fn line<'a, S: AsStr>(alloc: Global, words: &'a [S]) -> Result<Request<'a>, Error>
+pub fn parse_words<'a, S: AsStr>(alloc: Global, words: &'a [S]) -> Result<Request<'a>, Error>
     ensures none { length words.now ≡ 0 → result ≡ Ok Request.Demonstration }
-    ensures some { IfOk result (λ request. request ≡ Request.Demonstration → length words.now ≡ 0) }
-    ensures file { 1 ≤ length words.now → IfOk result (λ request. elf_requested request ≡ Some (unwrap_or (elf_in (map S.text words.now)) [])) }
+    ensures asked { 1 ≤ length words.now
+        → IfOk result (λ request. IsSomeAnd (subcommand_of program (map S.text words.now)) (Asks request)) }
     ensures kinds { 1 ≤ length words.now → FailsBy (fault_of program (map S.text words.now)) result }
 {
     if words.is_empty() {
         return Ok(Request::Demonstration);
     }
     let matches = command(alloc)?.try_get_matches_from(words)?;
-    Ok(Request::Try {
-        elf: elf_of(&matches).unwrap_or(""),
-    })
+    let Some((name, values)) = matches.subcommand() else {
+        unreachable!()
+    };
+    match name {
+        "try" => Ok(Request::Try {
+            elf: value_of(values, "ELF"),
+        }),
+        _ => unreachable!(),
+    }
 }
