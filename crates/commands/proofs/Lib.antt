@@ -1,4 +1,4 @@
 pub mod RecoveredRecordings
 pub mod NoPart
 pub mod Tried
-pub mod Lines
+pub mod Words

@@ -1,3 +1,3 @@
 pub mod Told
 pub mod Tried
-pub mod Line
+pub mod Request

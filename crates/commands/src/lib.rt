@@ -2,10 +2,13 @@
 #![tactic(auto)]
 
 mod exit_five;
-mod line;
+mod printing;
+mod program_file;
 mod refusal;
+mod request;
 mod running;
 mod trial;
 
+pub use program_file::read_program;
 pub use refusal::Refusal;
-pub use running::{report_unread, run};
+pub use running::{report, report_unread, run};

@@ -42,7 +42,8 @@ pub fn try_image(
     ensures program { IfOk result (λ trial. IsFirst (opening_of 0 image name.now random) trial.records.items) }
     ensures recording { IfOk result (λ trial. IsRecording trial.records.items) }
     ensures ends { IfOk result (λ trial. EndsIn (items_of trial.records.items) (state_of trial.replayed.guest)) }
-    ensures output { IfOk result (λ trial. OutputOf (items_of trial.records.items) (chunks_in trial.replayed.output.items)) }
+    ensures output { IfOk result (λ trial.
+        OutputOf (items_of trial.records.items) (chunks_in trial.replayed.output.items)) }
     ensures turns { IfOk result (λ trial. TakesTurns quantum (items_of trial.records.items)) }
     ensures ended { IfOk result (λ trial. IsSome (state_of trial.recorded).ended) }
     ensures same { IfOk result (λ trial. state_of trial.replayed.guest ≡ state_of trial.recorded) }

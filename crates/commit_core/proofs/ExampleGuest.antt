@@ -26,27 +26,10 @@ use Rattle.rrv_model.specs.FrameStep.{Steps, FrameStep, closed}
 use Rattle.rrv_model.specs.Output.{Chunk, FramePuts, put_out, put_out_by}
 use Rattle.rrv_model.specs.Elf.{Header, headers_from, loads, any_share, refusal, touches, touched_below}
 use Rattle.rrv_model.specs.Opening.{Opens, opening_memory, opening_thread, loaded_byte, headers_address}
+use Rattle.rrv_model.proofs.ElfLaws.{touched_below-above}
 use Rattle.commit_core.specs.Example.{example_elf, example_opening, example_state, write_frame, exit_frame}
 
 -- ---- the file is accepted
-
--- behind the last page that is touched
-touched_below-above : (hs : List Header) (pages n : ℕ) → ((page : ℕ) → pages ≤ page → list_any (touches page) hs ≡ false) → pages ≤ n →
-    touched_below n hs ≡ touched_below pages hs
-unfolding touched_below
-touched_below-above hs pages zero none above =
-    let same : zero ≡ pages = omega arith in
-    ap (λ (m : ℕ). touched_below m hs) same
-touched_below-above hs pages (suc n) none above = ⊎_elim
-    (λ (less : n < pages).
-    let same : suc n ≡ pages = omega arith in
-    ap (λ (m : ℕ). touched_below m hs) same)
-    (λ (more : pages ≤ n).
-    let before = touched_below-above hs pages n none more in
-    let none_here : ◌≡◌ {A = ℕ} (cond (list_any (touches n) hs) 1 0) 0 = ap (λ (b : Bool). cond b 1 0) (none n more) in
-    let sum : touched_below n hs + cond (list_any (touches n) hs) 1 0 ≡ touched_below pages hs = omega (arith, none_here, before) in
-    sum)
-    (cases_lt n pages)
 
 example_loads : List Header
 example_loads = record { kind = 1; offset = 0; address = 0x10000; file_len = 112; memory_len = 112; flags = 5 } ∷ []

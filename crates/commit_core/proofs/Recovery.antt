@@ -15,7 +15,9 @@ use Rattle.commit_core.specs.Runs.{IsOutput, IsAt, total_of}
 use Rattle.commit_core.specs.World.{World, made, committed_count, stored_bodies, joined}
 use Rattle.commit_core.specs.Facts.{Replays, RecoversFrom, Recovers, IsRun}
 use Rattle.commit_core.specs.Sessions.{Gives, GrowsTo, IsStoreOf}
-use Rattle.commit_core.proofs.Lists.{all_both, all_front, all_back, all_weaker, of_guest-append, none_of_guest, joined-append, joined-push}
+use Rattle.rrv_model.proofs.Lists.{AllByRecursion-append, AllByRecursion-front, AllByRecursion-back, AllByRecursion-weaker}
+use Rattle.rrv_model.proofs.RecoveredLaws.{of_guest-append, numbered_front}
+use Rattle.commit_core.proofs.Lists.{none_of_guest, joined-append, joined-push}
 use Rattle.commit_core.proofs.Runs.{output_further, recording_front, there_is, below_total, at_total_is_end, items_of-append}
 use Rattle.commit_core.proofs.Invariant.{total, IsOwn, Invariant}
 use Rattle.commit_core.proofs.Stages.{Outcome, some_records, outcome_at, sound_outcome, closed_sound, outcome_store_of}
@@ -25,11 +27,7 @@ use Rattle.commit_core.proofs.Stages.{Outcome, some_records, outcome_at, sound_o
 -- each record's guest is below the next one's number
 all_below : (records : List Record) → AllByRecursion (λ (r : Record). r.guest < next_guest records) records
 all_below [] = tt
-all_below (r ∷ records) = (omega arith, all_weaker (λ q. q.guest < next_guest records) (λ q. q.guest < next_guest (r ∷ records)) records (λ q l. omega (arith, l)) (all_below records))
-
-numbered_front : (guest index : ℕ) (xs ys : List Record) → IsNumbered guest index (xs ++ ys) → IsNumbered guest index xs
-numbered_front guest index [] ys h = tt
-numbered_front guest index (x ∷ xs) ys h = (h.0, h.1, numbered_front guest (index + 1) xs ys h.2)
+all_below (r ∷ records) = (omega arith, AllByRecursion-weaker (λ q. q.guest < next_guest records) (λ q. q.guest < next_guest (r ∷ records)) records (λ q l. omega (arith, l)) (all_below records))
 
 less_or_more : (a b : ℕ) → (a < b) ⊎ (b ≤ a)
 less_or_more a b = grind arith
@@ -40,8 +38,8 @@ less_or_more a b = grind arith
 batch_texts : (batches : List (List Record)) → AllByRecursion HasText (joined batches) → AllByRecursion IsBody (map body_text batches) → AreBodyTexts (map body_text batches) batches
 batch_texts [] texts sizes = tt
 batch_texts (batch ∷ batches) texts sizes = (
-  record { some = some_records batch sizes.0.0; each = all_front HasText batch (joined batches) texts; spelled = refl },
-  batch_texts batches (all_back HasText batch (joined batches) texts) sizes.1,
+  record { some = some_records batch sizes.0.0; each = AllByRecursion-front HasText batch (joined batches) texts; spelled = refl },
+  batch_texts batches (AllByRecursion-back HasText batch (joined batches) texts) sizes.1,
 )
 
 texts_both : (bodies more : List (List ℕ)) (batches others : List (List Record)) → AreBodyTexts bodies batches → AreBodyTexts more others → AreBodyTexts (bodies ++ more) (batches ++ others)
@@ -108,7 +106,7 @@ module _ (w : World) (old : List Record) (invariant : Invariant w old) (batches 
   all = old ++ gained
 
   own : AllByRecursion (IsOwn w.first_guest w.guests) (joined batches)
-  own = all_front (IsOwn w.first_guest w.guests) (joined batches) rest (subst (AllByRecursion (IsOwn w.first_guest w.guests)) (sym front) invariant.own)
+  own = AllByRecursion-front (IsOwn w.first_guest w.guests) (joined batches) rest (subst (AllByRecursion (IsOwn w.first_guest w.guests)) (sym front) invariant.own)
 
   old_below : AllByRecursion (λ (r : Record). r.guest < w.first_guest) old
   old_below = subst (λ (n : ℕ). AllByRecursion (λ (r : Record). r.guest < n) old) (sym invariant.store.next) (all_below old)
@@ -119,13 +117,13 @@ module _ (w : World) (old : List Record) (invariant : Invariant w old) (batches 
   -- of a lower number there are the records of before
   lower : (h : ℕ) → h < w.first_guest → of_guest h (old ++ joined batches) ≡ of_guest h old
   lower h l = split h
-      ∙ ap (λ (r : List Record). of_guest h old ++ r) (none_of_guest h (joined batches) (all_weaker (IsOwn w.first_guest w.guests) (λ r. r.guest ≢ h) (joined batches) (λ r o e. omega (arith, o.low, e, l)) own))
+      ∙ ap (λ (r : List Record). of_guest h old ++ r) (none_of_guest h (joined batches) (AllByRecursion-weaker (IsOwn w.first_guest w.guests) (λ r. r.guest ≢ h) (joined batches) (λ r o e. omega (arith, o.low, e, l)) own))
       ∙ append-nil (of_guest h old)
 
   -- of a number of the group or above those of the group alone
   upper : (h : ℕ) → w.first_guest ≤ h → of_guest h (old ++ joined batches) ≡ of_guest h (joined batches)
   upper h l = split h
-      ∙ ap (λ (r : List Record). r ++ of_guest h (joined batches)) (none_of_guest h old (all_weaker (λ r. r.guest < w.first_guest) (λ r. r.guest ≢ h) old (λ r b e. omega (arith, b, e, l)) old_below))
+      ∙ ap (λ (r : List Record). r ++ of_guest h (joined batches)) (none_of_guest h old (AllByRecursion-weaker (λ r. r.guest < w.first_guest) (λ r. r.guest ≢ h) old (λ r b e. omega (arith, b, e, l)) old_below))
 
   -- which are a beginning of what its recorder sent
   sent_is : (g : ℕ) → g < w.guests → of_guest (w.first_guest + g) (joined batches) ++ of_guest (w.first_guest + g) rest ≡ (w.recorders g).sent
@@ -150,18 +148,18 @@ module _ (w : World) (old : List Record) (invariant : Invariant w old) (batches 
           (subst (IsNumbered (w.first_guest + g) 0) (sym (made_is g (omega (arith, l, high)))) (invariant.each g (omega (arith, l, high))).recording.run.numbered))
 
       above : w.first_guest + w.guests ≤ h → IsNumbered h 0 (of_guest h (joined batches))
-      above l = subst (IsNumbered h 0) (sym (none_of_guest h (joined batches) (all_weaker (IsOwn w.first_guest w.guests) (λ r. r.guest ≢ h) (joined batches) (λ r o e. omega (arith, o.high, e, l)) own))) tt
+      above l = subst (IsNumbered h 0) (sym (none_of_guest h (joined batches) (AllByRecursion-weaker (IsOwn w.first_guest w.guests) (λ r. r.guest ≢ h) (joined batches) (λ r o e. omega (arith, o.high, e, l)) own))) tt
 
   pub is_recovered : IsRecovered bodies (old ++ joined batches)
   is_recovered = record {
     batches = invariant.store.recovered.batches ++ batches;
     texts = subst (λ (b : List (List ℕ)). AreBodyTexts b (invariant.store.recovered.batches ++ batches)) (sym text)
         (texts_both w.bodies (map body_text batches) invariant.store.recovered.batches batches invariant.store.recovered.texts
-        (batch_texts batches (all_weaker (IsOwn w.first_guest w.guests) HasText (joined batches) (λ r o. o.has_text) own) sizes));
+        (batch_texts batches (AllByRecursion-weaker (IsOwn w.first_guest w.guests) HasText (joined batches) (λ r o. o.has_text) own) sizes));
     joined = ap (λ (l : List Record). l ++ joined batches) invariant.store.recovered.joined ∙ sym (joined-append invariant.store.recovered.batches batches);
     in_order = record {
       numbered = numbered;
-      opened = all_both OpensAtZero old (joined batches) invariant.store.recovered.in_order.opened (all_weaker (IsOwn w.first_guest w.guests) OpensAtZero (joined batches) (λ r o. o.opens) own);
+      opened = AllByRecursion-append OpensAtZero old (joined batches) invariant.store.recovered.in_order.opened (AllByRecursion-weaker (IsOwn w.first_guest w.guests) OpensAtZero (joined batches) (λ r o. o.opens) own);
     };
   }
 
@@ -191,7 +189,7 @@ module _ (w : World) (old : List Record) (invariant : Invariant w old) (batches 
     );
     seen = λ g l. omega (arith, seen_in g l, ap length (upper (w.first_guest + g) (omega arith)));
     output = λ g l. subst (IsOutput (w.recorders g).out) (sym (upper (w.first_guest + g) (omega arith))) (put_out g l);
-    none_above = λ h l. upper h (omega (arith, l)) ∙ none_of_guest h (joined batches) (all_weaker (IsOwn w.first_guest w.guests) (λ r. r.guest ≢ h) (joined batches) (λ r o e. omega (arith, o.high, e, l)) own);
+    none_above = λ h l. upper h (omega (arith, l)) ∙ none_of_guest h (joined batches) (AllByRecursion-weaker (IsOwn w.first_guest w.guests) (λ r. r.guest ≢ h) (joined batches) (λ r o e. omega (arith, o.high, e, l)) own);
     kept = lower;
     replays = λ g l some.
         subst (λ (k : List Record). Replays k (made (w.recorders g)) (w.recorders g).states) (sym (upper (w.first_guest + g) (omega arith)))
@@ -210,14 +208,14 @@ module _ (w : World) (old : List Record) (invariant : Invariant w old) (batches 
       gained = joined batches;
       reported = invariant.store.recovered;
       recovered = is_recovered;
-      later = all_weaker (IsOwn w.first_guest w.guests) (λ r. w.first_guest ≤ r.guest) (joined batches) (λ r o. o.low) own;
+      later = AllByRecursion-weaker (IsOwn w.first_guest w.guests) (λ r. w.first_guest ≤ r.guest) (joined batches) (λ r o. o.low) own;
     };
   }
 
 -- ---- with the finished bodies, and with the one in hand
 
 sizes_behind : (bodies : List (List ℕ)) (batches : List (List Record)) → AllByRecursion IsBody (bodies ++ map body_text batches) → AllByRecursion IsBody (map body_text batches)
-sizes_behind bodies batches all = all_back IsBody bodies (map body_text batches) all
+sizes_behind bodies batches all = AllByRecursion-back IsBody bodies (map body_text batches) all
 
 module _ (w : World) (old : List Record) (invariant : Invariant w old) where
   front_finished : joined w.flusher.finished ++ ((w.flusher.hand ++ w.flusher.waiting) ++ w.queue) ≡ total w
@@ -236,7 +234,7 @@ module _ (w : World) (old : List Record) (invariant : Invariant w old) where
 
   sizes_hand : IsBody (body_text w.flusher.hand) → AllByRecursion IsBody (map body_text (w.flusher.finished ++ w.flusher.hand ∷ []))
   sizes_hand is = subst (AllByRecursion IsBody) (sym (map-append body_text w.flusher.finished (w.flusher.hand ∷ [])))
-      (all_both IsBody (map body_text w.flusher.finished) (body_text w.flusher.hand ∷ []) (sizes_behind w.bodies w.flusher.finished invariant.store.sizes) (is, tt))
+      (AllByRecursion-append IsBody (map body_text w.flusher.finished) (body_text w.flusher.hand ∷ []) (sizes_behind w.bodies w.flusher.finished invariant.store.sizes) (is, tt))
 
   enough_hand : (g : ℕ) → committed_count (w.first_guest + g) w.flusher ≤ length (of_guest (w.first_guest + g) (joined (w.flusher.finished ++ w.flusher.hand ∷ [])))
   enough_hand g = omega (

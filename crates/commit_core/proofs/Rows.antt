@@ -18,10 +18,12 @@ use Rattle.commit_core.specs.World.Stage.{Idle, Written, Synced, Opened, Broken}
 use Rattle.commit_core.specs.Events.{Event, after, May, CanSlice, CanPush, CanWrite, put, with_recorder, with_flusher, gate_place, next_body, behind_gate, left_place, sliced, pushed, looked, released, looked_at_halt, gone, took, at_stage}
 use Rattle.commit_core.specs.Events.Event.{Slice, Push, Look, Release, LookHalt, Leave, Pop, WriteBody, WriteBodyFails, Sync1, Sync1Fails, OpenGate, OpenGateFails, Sync2, Sync2Fails, Publish, Halt, LookLeft}
 use Rattle.commit_core.specs.Facts.{HadStates}
-use Rattle.commit_core.proofs.Lists.{all_both, all_back, of_guest-append, of_guest_one, of_guest_other, joined-push, put_cases, put_each, put_other, put_same}
+use Rattle.rrv_model.proofs.Lists.{AllByRecursion-append, AllByRecursion-back, AllByRecursion-push}
+use Rattle.rrv_model.proofs.RecoveredLaws.{of_guest-append}
+use Rattle.commit_core.proofs.Lists.{of_guest_one, of_guest_other, joined-push, put_cases, put_each, put_other, put_same}
 use Rattle.commit_core.proofs.Runs.{output_further, recording_opens}
 use Rattle.commit_core.proofs.Invariant.{total, IsOwn, RecordingInvariant, RecorderInvariant, Invariant}
-use Rattle.commit_core.proofs.Stages.{IsCommittable, DiskAt, outcome_at, to_written, to_written_fails, to_synced, to_opened, to_opened_fails, to_idle, all_push, some_body}
+use Rattle.commit_core.proofs.Stages.{IsCommittable, DiskAt, outcome_at, to_written, to_written_fails, to_synced, to_opened, to_opened_fails, to_idle, some_body}
 
 -- ---- changes of one part
 
@@ -85,7 +87,7 @@ slice_keeps w old g entry s h may =
       left = one.left;
       output = subst (IsOutput r.out) (sym (ap (take r.seen) more ∙ take-append-le r.seen (made r) (entry ∷ []) seen_made)) one.output;
       recording = subst (λ (m : List Record). RecordingInvariant (w.first_guest + g) m (r.states ++ s ∷ [])) (sym more) (record {
-        texts = all_both HasText (made r) (entry ∷ []) one.recording.texts (may.has_text, tt);
+        texts = AllByRecursion-append HasText (made r) (entry ∷ []) one.recording.texts (may.has_text, tt);
         run = record {
           recording = may.recording;
           numbered = may.numbered;
@@ -108,8 +110,8 @@ push_keeps w old g entry rest h may =
     let made_is : made r ≡ r.sent ++ entry ∷ rest = ap (λ (l : List Record). r.sent ++ l) may.next in
     let same : (r.sent ++ entry ∷ []) ++ rest ≡ made r = append_assoc r.sent (entry ∷ []) rest ∙ sym made_is in
     let guest_is : entry.guest ≡ w.first_guest + g = numbered_at (w.first_guest + g) 0 r.sent rest entry (subst (IsNumbered (w.first_guest + g) 0) made_is one.recording.run.numbered) in
-    let opens = all_back OpensAtZero r.sent (entry ∷ rest) (subst (AllByRecursion OpensAtZero) made_is (recording_opens (w.first_guest + g) (made r) one.recording.run.recording one.recording.run.numbered)) in
-    let texts = all_back HasText r.sent (entry ∷ rest) (subst (AllByRecursion HasText) made_is one.recording.texts) in
+    let opens = AllByRecursion-back OpensAtZero r.sent (entry ∷ rest) (subst (AllByRecursion OpensAtZero) made_is (recording_opens (w.first_guest + g) (made r) one.recording.run.recording one.recording.run.numbered)) in
+    let texts = AllByRecursion-back HasText r.sent (entry ∷ rest) (subst (AllByRecursion HasText) made_is one.recording.texts) in
     let grown : total (after w (Push g entry rest)) ≡ total w ++ entry ∷ [] = sym (append_assoc (received w.flusher) w.queue (entry ∷ [])) in
     record {
       store = h.store;
@@ -117,7 +119,7 @@ push_keeps w old g entry rest h may =
       told = h.told;
       disk = h.disk;
       own = subst (AllByRecursion (IsOwn w.first_guest w.guests)) (sym grown)
-          (all_both (IsOwn w.first_guest w.guests) (total w) (entry ∷ []) h.own (record { low = omega (arith, guest_is); high = omega (arith, guest_is, may.guest); has_text = texts.0; opens = opens.0 }, tt));
+          (AllByRecursion-append (IsOwn w.first_guest w.guests) (total w) (entry ∷ []) h.own (record { low = omega (arith, guest_is); high = omega (arith, guest_is, may.guest); has_text = texts.0; opens = opens.0 }, tt));
       each = put_cases (λ k x. k < w.guests → RecorderInvariant w.first_guest w.guests (total (after w (Push g entry rest))) w.words w.flusher.halted w.flusher.totals k x) w.recorders g (pushed entry rest r)
           (λ k differs l. let o = h.each k l in record {
             recording = o.recording;
@@ -212,14 +214,8 @@ write_fails_keeps w old count disk h may failed =
 -- a row that moves the disk and the stage alone
 stage_keeps : (w : World) (old : List Record) (stage : Stage) (disk : DiskState) → Invariant w old → DiskAt stage disk (stored_bodies w) w.flusher.hand
     → Invariant (with_flusher w (at_stage stage w.flusher) disk) old
-stage_keeps w old stage disk h at = record {
-  store = h.store;
-  words = h.words;
-  told = h.told;
-  own = h.own;
-  each = h.each;
-  disk = at;
-}
+stage_keeps w old stage disk h at =
+    record { store = h.store; words = h.words; told = h.told; own = h.own; each = h.each; disk = at }
 
 -- after a sync that failed a crash leaves what it left before
 broken_keeps : (w : World) (old : List Record) → Invariant w old → Invariant (with_flusher w (at_stage Broken w.flusher) w.disk) old
@@ -238,7 +234,7 @@ sync2_keeps w old h may =
       store = record {
         recovered = h.store.recovered;
         next = h.store.next;
-        sizes = subst (AllByRecursion IsBody) (sym bodies) (all_push (stored_bodies w) (body_text f.hand) h.store.sizes at.2.0);
+        sizes = subst (AllByRecursion IsBody) (sym bodies) (AllByRecursion-push IsBody (stored_bodies w) (body_text f.hand) h.store.sizes at.2.0);
         few = omega (arith, ap length bodies, length-append (stored_bodies w) (body_text f.hand ∷ []), at.2.1);
       };
       own = subst (AllByRecursion (IsOwn w.first_guest w.guests)) (sym same) h.own;

@@ -13,7 +13,7 @@ use Rattle.commit_core.specs.Events.{Event, run, IsSchedule}
 use Rattle.commit_core.specs.Sessions.{Session, IsSession, IsStopped, AreSessions, Report, reports, GrowsTo, AreGrowing, Gives, IsStoreOf, HasRecords, CanOpen, fresh_disk, opened_disk}
 use Rattle.commit_core.specs.Sessions.Session.{StoppedOpening, OnlyOpened, Ran}
 use Rattle.commit_core.specs.Headline.{KeepsSession, IsFoundLater, AreKept}
-use Rattle.commit_core.proofs.Lists.{all_both, all_weaker}
+use Rattle.rrv_model.proofs.Lists.{AllByRecursion-append, AllByRecursion-weaker}
 use Rattle.commit_core.proofs.Schedules.{invariant_at_start, invariant_of_run, run_same}
 use Rattle.commit_core.proofs.Stages.{closed_store_of}
 use Rattle.commit_core.proofs.Recovery.{LeftBehind, store_left}
@@ -52,8 +52,8 @@ growth_stays first known is bodies later records recovered step grows =
       gained = grows.gained ++ step.gained;
       reported = grows.reported;
       recovered = subst (IsRecovered later) whole step.recovered;
-      later = all_both (λ r. next_guest known ≤ r.guest) grows.gained step.gained grows.later
-          (all_weaker (λ r. next_guest records ≤ r.guest) (λ r. next_guest known ≤ r.guest) step.gained (λ r l. omega (arith, l, le)) step.later);
+      later = AllByRecursion-append (λ r. next_guest known ≤ r.guest) grows.gained step.gained grows.later
+          (AllByRecursion-weaker (λ r. next_guest records ≤ r.guest) (λ r. next_guest known ≤ r.guest) step.gained (λ r l. omega (arith, l, le)) step.later);
     }
 
 session_stays : (w : World) (old : List Record) → Stays (KeepsSession w old)

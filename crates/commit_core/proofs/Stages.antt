@@ -14,16 +14,13 @@ use Rattle.rrv_model.proofs.CrashLaws.{crash_synced, crash_torn, torn_same}
 use Rattle.commit_core.specs.World.{Stage, IsAtRest, store_text, closed_store}
 use Rattle.commit_core.specs.World.Stage.{Idle, Written, Synced, Opened, Broken}
 use Rattle.commit_core.specs.Sessions.{Gives, IsStoreOf}
-use Rattle.commit_core.proofs.Lists.{all_both}
+use Rattle.rrv_model.proofs.Lists.{AllByRecursion-push, head_is}
 
 -- ---- one body more
 
 pub store_text-push : (bodies : List (List ℕ)) (body : List ℕ) → store_text (bodies ++ body ∷ []) ≡ store_text bodies ++ 0xA5 ∷ segment (length bodies) body
 unfolding store_text
 store_text-push bodies body = ap (λ (l : List ℕ). header ++ l) (segments_push 0 bodies body ∙ ap (λ n. segments 0 bodies ++ 0xA5 ∷ segment n body) (omega arith)) ∙ sym (append_assoc header (segments 0 bodies) (0xA5 ∷ segment (length bodies) body))
-
-pub all_push : (bodies : List (List ℕ)) (body : List ℕ) → AllByRecursion IsBody bodies → IsBody body → AllByRecursion IsBody (bodies ++ body ∷ [])
-all_push bodies body all one = all_both IsBody bodies (body ∷ []) all (one, tt)
 
 pub sound_by : (c behind : List ℕ) (gate : ℕ) (bodies : List (List ℕ)) → c ≡ store_text bodies ++ gate ∷ behind → gate ≢ 0xA5 → AllByRecursion IsBody bodies
     → length bodies ≤ 4294967295 → (gate ≡ 0) ⊎ IsNextSegment (length bodies) behind → IsSound c bodies
@@ -53,7 +50,7 @@ closed_store_of fine c behind bodies each count are text = store_of_by fine c be
 pub ajar_store_of : (fine : List (List ℕ) → Type 0) (c behind : List ℕ) (gate : ℕ) (bodies : List (List ℕ)) → AllByRecursion IsBody bodies → length bodies ≤ 4294967295
     → fine bodies → (segment : IsNextSegment (length bodies) behind) → fine (bodies ++ segment.body ∷ []) → c ≡ store_text bodies ++ gate ∷ behind → IsStoreOf fine c
 ajar_store_of fine c behind gate bodies each count are next more text = elim (cases_eq gate 0xA5) [
-  | inl is ↦ closed_store_of fine c next.rest (bodies ++ next.body ∷ []) (all_push bodies next.body each next.is_body)
+  | inl is ↦ closed_store_of fine c next.rest (bodies ++ next.body ∷ []) (AllByRecursion-push IsBody bodies next.body each next.is_body)
       (omega (arith, length-append bodies (next.body ∷ []), next.few)) more
       (text ∙ ap (λ (g : ℕ). store_text bodies ++ g ∷ behind) is ∙ ap (λ (l : List ℕ). store_text bodies ++ 0xA5 ∷ l) next.text
       ∙ sym (append_assoc (store_text bodies) (0xA5 ∷ segment (length bodies) next.body) (0 ∷ next.rest))
@@ -131,7 +128,7 @@ module _ (bodies : List (List ℕ)) (body : List ℕ) where
 
   module _ (sizes : AllByRecursion IsBody bodies) (few : length bodies ≤ 4294967295) where
     more_sizes : IsCommittable → AllByRecursion IsBody (bodies ++ body ∷ [])
-    more_sizes can = all_push bodies body sizes can.0
+    more_sizes can = AllByRecursion-push IsBody bodies body sizes can.0
 
     more_few : IsCommittable → length (bodies ++ body ∷ []) ≤ 4294967295
     more_few can = omega (arith, length-append bodies (body ∷ []), can.1)
@@ -159,9 +156,6 @@ module _ (bodies : List (List ℕ)) (body : List ℕ) where
     outcome_store_of fine are more c (inr ajar) = ajar_store_of fine c tail ajar.1.0 bodies sizes few are (next_is ajar.0) (more ajar.0) ajar.1.1
 
 -- ---- calls that fail
-
-head_is : (p q : Pending) (ps qs : List Pending) → p ∷ ps ≡ q ∷ qs → p ≡ q
-head_is p q ps qs e = cc
 
 -- a crash after a write that failed leaves what one before it, or one within the write, may leave
 pub crash_failed : (place count : ℕ) (old new : DiskState) → FailsToWrite place count old new → (c : List ℕ) → IsCrash new.pending c

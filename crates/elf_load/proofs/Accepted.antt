@@ -3,6 +3,7 @@ use Rattle.std.proofs.Common.{◌≡◌, ℕ, zero, suc, ◌+◌, ◌%◌, ◌<�
 use Rattle.std.specs.Prelude.{not, ◌||◌, ◌==◌, nat_lt}
 use Rattle.std.specs.List.{list_any}
 use Rattle.std.proofs.lemmas.Bool.Decides.{nat_tests}
+use Rattle.std.proofs.lemmas.Bool.{or_parts}
 use Rattle.rrv_model.specs.Elf.{Header, refusal, headers, loads, is_interp, elf_class, elf_data, elf_type, elf_machine, elf_flags, bad_table, passes_file, crosses_sizes, leaves_range, share, any_share, touched_below, is_empty_load}
 use Rattle.elf_load.specs.Refusals.{has_magic}
 use Rattle.elf_load.proofs.Headers.{none_at}
@@ -82,10 +83,6 @@ good_load file k h a low is =
       high = λ some. grind (arith, nat_tests);
     }
 
-or_false : (a b : Bool) → (a || b) ≡ false → (a ≡ false) × (b ≡ false)
-or_false true b e = let impossible : ⊥ = cc in absurd impossible
-or_false false b e = (refl, e)
-
 -- two PT_LOADs at different indexes share no byte
 pub apart_at : (hs : List Header) (i j : ℕ) (g h : Header) → any_share hs ≡ false → i < j → j < length hs →
     g ≡ get_or hs i g → h ≡ get_or hs j h → share g h ≡ false
@@ -93,8 +90,8 @@ unfolding any_share
 apart_at [] i j g h apart before low g_is h_is = absurd (omega arith)
 apart_at (x ∷ xs) i zero g h apart before low g_is h_is = absurd (omega arith)
 apart_at (x ∷ xs) zero (suc j) g h apart before low g_is h_is =
-    let others = or_false (list_any (share x) xs) (any_share xs) apart in
+    let others = or_parts (list_any (share x) xs) (any_share xs) apart in
     ap (λ (f : Header). share f h) g_is ∙ none_at (share x) xs j h (omega arith) h_is others.0
 apart_at (x ∷ xs) (suc i) (suc j) g h apart before low g_is h_is =
-    let others = or_false (list_any (share x) xs) (any_share xs) apart in
+    let others = or_parts (list_any (share x) xs) (any_share xs) apart in
     apart_at xs i j g h others.1 (omega arith) (omega arith) g_is h_is

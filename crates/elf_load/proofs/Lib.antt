@@ -2,4 +2,4 @@ mod Headers
 mod Pages
 mod Refusal
 pub mod Accepted
-mod Shares
+mod SharedBytes

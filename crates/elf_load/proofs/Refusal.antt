@@ -4,7 +4,8 @@ use Rattle.std.specs.Prelude.{not, ◌||◌, ◌==◌, nat_lt}
 use Rattle.std.specs.List.{list_any}
 use Rattle.std.specs.Option.{option_or}
 use Rattle.std.proofs.lemmas.Bool.Decides.{nat_tests}
-use Rattle.elf_load.proofs.Shares.{or_false, empty_shares_none}
+use Rattle.elf_load.proofs.SharedBytes.{empty_shares_none}
+use Rattle.std.proofs.lemmas.Bool.{or_parts}
 use Rattle.elf_load.proofs.Pages.{empty_touches}
 use Rattle.rrv_model.specs.Elf.{Header, refusal, headers, loads, is_interp, elf_class, elf_data, elf_type, elf_machine, elf_flags, bad_table, passes_file, crosses_sizes, leaves_range, any_share, touches, touched_below}
 use Rattle.elf_load.specs.Refusals.{has_magic, has_memory, header_refusal, load_refusal, limit_refusal, IsPastRefusal}
@@ -95,13 +96,13 @@ none_shares : (hs : List Header) → list_any has_memory hs ≡ false → any_sh
 unfolding any_share
 none_shares [] none = refl
 none_shares (h ∷ hs) none =
-    let parts = or_false (has_memory h) (list_any has_memory hs) none in
+    let parts = or_parts (has_memory h) (list_any has_memory hs) none in
     ap (λ (b : Bool). b || any_share hs) (empty_shares_none h hs parts.0) ∙ none_shares hs parts.1
 
 none_touched : (hs : List Header) (page : ℕ) → list_any has_memory hs ≡ false → list_any (touches page) hs ≡ false
 none_touched [] page none = refl
 none_touched (h ∷ hs) page none =
-    let parts = or_false (has_memory h) (list_any has_memory hs) none in
+    let parts = or_parts (has_memory h) (list_any has_memory hs) none in
     ap (λ (b : Bool). b || list_any (touches page) hs) (empty_touches h page parts.0) ∙ none_touched hs page parts.1
 
 none_below : (hs : List Header) (n : ℕ) → list_any has_memory hs ≡ false → touched_below n hs ≡ 0

@@ -1,12 +1,17 @@
--- The refusals of a file in three parts, in their order, each of a file that the tests before pass; the ninth stands between the first two.
+-- The refusals of a file in three parts, in their order, each of a file that the tests before pass; the ninth stands
+-- between the first two.
 use Rattle.std.specs.Prelude.{◌≡◌, ◌≢◌, ℕ, ◌+◌, ◌*◌, ◌%◌, ◌<◌, ◌≤◌, Bool, not, ◌&&◌, ◌||◌, ◌==◌, nat_lt, nat_le, max, fold, if◌then◌else◌, List, length, Option, Some, None, slice_index}
 use Rattle.std.specs.List.{list_any}
 use Rattle.rrv_model.specs.Elf.{Header, load_end, elf_class, elf_data, elf_type, elf_machine, elf_flags, elf_entry, elf_phoff, elf_phnum, bad_table, loads, passes_file, crosses_sizes, leaves_range, any_share, touched_below, is_empty_load, refusal}
+use Rattle.rrv_model.specs.declared.limits.TheConstants.{MAX_ELF}
+use Rattle.elf_load.specs.declared.limits.TheConstants.{MAX_LOADED_PAGES}
 use Rattle.elf_load.specs.declared.header.LoadTest.{LoadTest}
 use Rattle.elf_load.specs.declared.header.LoadTest.TheVariants as tests
 
 abbrev pub has_magic : List ℕ → Bool
-has_magic file = slice_index file 0 == 0x7F && (slice_index file 1 == 0x45 && (slice_index file 2 == 0x4C && slice_index file 3 == 0x46))
+has_magic file =
+    slice_index file 0 == 0x7F
+    && (slice_index file 1 == 0x45 && (slice_index file 2 == 0x4C && slice_index file 3 == 0x46))
 
 -- 1 to 8, of the ELF header
 unfoldable pub header_refusal : List ℕ → Option ℕ
@@ -36,7 +41,7 @@ load_refusal file =
 unfoldable pub limit_refusal : List ℕ → Option ℕ
 limit_refusal file =
     if any_share (loads file) then Some 13
-    else if nat_lt 2_097_152 (length file) || nat_lt 16_128 (touched_below 0x70000 (loads file)) then Some 14
+    else if nat_lt MAX_ELF (length file) || nat_lt MAX_LOADED_PAGES (touched_below 0x70000 (loads file)) then Some 14
     else if not (list_any has_memory (loads file)) then Some 15
     else None
 
@@ -60,7 +65,8 @@ pub record IsHeader (file : List ℕ) (entry table_offset count : ℕ) : Type 0 
 
 -- the bytes of all program headers are within those of the load
 abbrev pub holds_headers : List ℕ → Header → Bool
-holds_headers file h = nat_le h.offset (elf_phoff file) && nat_le (elf_phoff file + 32 * elf_phnum file) (h.offset + h.file_len)
+holds_headers file h =
+    nat_le h.offset (elf_phoff file) && nat_le (elf_phoff file + 32 * elf_phnum file) (h.offset + h.file_len)
 
 -- the higher of an end and that of a load with memory
 abbrev pub higher_end : ℕ → Header → ℕ

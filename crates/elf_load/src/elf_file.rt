@@ -4,7 +4,7 @@ ghost use Rattle.std.specs.Prelude.{◌≡◌, ◌≢◌, ◌≤◌, ◌+◌, �
 ghost use Rattle.std.specs.List.{list_any};
 ghost use Rattle.rrv_model.specs.Elf.{bad_table, elf_entry, elf_phnum, headers, loads, is_interp, crosses_sizes, leaves_range};
 ghost use Rattle.rrv_model.specs.Opening.{headers_address};
-ghost use Rattle.elf_load.specs.Fault.{number_of};
+ghost use Rattle.elf_load.specs.Fault.{refusal_number};
 ghost use Rattle.elf_load.specs.Refusals.{has_magic, header_refusal, load_refusal, load_test, holds_headers};
 
 use crate::fault::ElfFault;
@@ -70,7 +70,7 @@ impl<'a> ElfFile<'a> {
     pub(crate) fn read(elf: &'a [u8]) -> Result<Self, ElfFault>
         ensures file { IfOk result (λ file. file ≡ elf.now) }
         ensures passes { OnOk result (header_refusal elf.now ≡ None) }
-        ensures refused { IfErr result (λ fault. header_refusal elf.now ≡ Some (number_of fault)) }
+        ensures refused { IfErr result (λ fault. header_refusal elf.now ≡ Some (refusal_number fault)) }
         ensures no_growth { IfErr result (λ fault. fault ≢ ElfFault.Memory) }
     {
         if elf.len() < FILE_HEADER_BYTES {
@@ -146,7 +146,7 @@ impl<'a> ElfFile<'a> {
         ensures passes { OnOk result (load_refusal self.now ≡ None) }
         ensures sizes { OnOk result (list_any crosses_sizes (loads self.now) ≡ false) }
         ensures in_range { OnOk result (list_any leaves_range (loads self.now) ≡ false) }
-        ensures refused { IfErr result (λ fault. load_refusal self.now ≡ Some (number_of fault)) }
+        ensures refused { IfErr result (λ fault. load_refusal self.now ≡ Some (refusal_number fault)) }
         ensures no_growth { IfErr result (λ fault. fault ≢ ElfFault.Memory) }
     {
         if self.any_load(LoadTest::PassesFile) {

@@ -1,7 +1,7 @@
 //! Why an ELF file is refused.
 
 ghost use Rattle.std.specs.Prelude.{◌≡◌};
-ghost use Rattle.elf_load.specs.Fault.{number_of};
+ghost use Rattle.elf_load.specs.Fault.{refusal_number};
 
 use std::alloc::{AllocError, AllocFailed};
 use std::error::Error;
@@ -48,7 +48,7 @@ pub enum ElfFault {
 impl ElfFault {
     /// The fault's number, 1 to 16.
     pub fn number(self) -> u8
-        ensures { result ≡ number_of self }
+        ensures { result ≡ refusal_number self }
     {
         self as u8 + 1
     }

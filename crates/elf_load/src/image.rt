@@ -4,7 +4,7 @@ ghost use Rattle.std.specs.Prelude.{◌≡◌, ◌≢◌, true, false, None, Som
 ghost use Rattle.std.specs.List.{list_any};
 ghost use Rattle.rrv_model.specs.Elf.{refusal, loads, elf_entry, elf_phnum, crosses_sizes, leaves_range};
 ghost use Rattle.rrv_model.specs.Opening.{headers_address, image_break};
-ghost use Rattle.elf_load.specs.Fault.{number_of};
+ghost use Rattle.elf_load.specs.Fault.{refusal_number};
 ghost use Rattle.elf_load.specs.Refusals.{has_memory, IsPastRefusal};
 
 use crate::elf_file::ElfFile;
@@ -120,7 +120,7 @@ pub fn parse(alloc: Global, elf: &[u8]) -> Result<Image, ElfFault>
     ensures image { IfOk result (λ image. image ≡ elf.now) }
     ensures accepted { OnOk result (refusal elf.now ≡ None) }
     ensures refused { IfErr result (λ fault. fault ≢ ElfFault.Memory
-        → refusal elf.now ≡ Some (number_of fault)) }
+        → refusal elf.now ≡ Some (refusal_number fault)) }
     ensures memory { result ≡ Err ElfFault.Memory → IsPastRefusal 12 elf.now }
     ensures grows { result ≡ Err ElfFault.Memory → list_any has_memory (loads elf.now) ≡ true }
 {

@@ -3,7 +3,7 @@
 ghost use Rattle.std.specs.Prelude.{◌≡◌, ◌||◌, ◌*◌, ◌≤◌, ◌<◌, ℕ, None, Some, IfOk, IfErr, OnOk, ◌≢◌, All, length, slice_index_or, true, false, count_by};
 ghost use Rattle.std.specs.List.{list_any};
 ghost use Rattle.rrv_model.specs.Elf.{loads, load_end, touches, touched_below, leaves_range};
-ghost use Rattle.elf_load.specs.Fault.{number_of};
+ghost use Rattle.elf_load.specs.Fault.{refusal_number};
 ghost use Rattle.elf_load.specs.Refusals.{has_memory, limit_refusal};
 
 use crate::fault::ElfFault;
@@ -20,7 +20,7 @@ const MAX_LOADED_PAGES: usize = 16_128;
 #[tactic(auto, using(crate::proofs::Refusal::too_large_without_memory, crate::proofs::Refusal::no_load_without_memory))]
 pub(crate) fn refusal_without_memory(elf: &[u8]) -> ElfFault
     requires { list_any has_memory (loads elf.now) ≡ false }
-    ensures refused { limit_refusal elf.now ≡ Some (number_of result) }
+    ensures refused { limit_refusal elf.now ≡ Some (refusal_number result) }
     ensures no_growth { result ≢ ElfFault.Memory }
 {
     if elf.len() > MAX_ELF as usize {
@@ -42,7 +42,7 @@ pub(crate) fn check_limits(
     requires memory { list_any has_memory found.now ≡ true }
     ensures passes { OnOk result (limit_refusal elf.now ≡ None) }
     ensures refused { IfErr result (λ fault. fault ≢ ElfFault.Memory
-        → limit_refusal elf.now ≡ Some (number_of fault)) }
+        → limit_refusal elf.now ≡ Some (refusal_number fault)) }
 {
     if any_share(alloc, found)? {
         return Err(ElfFault::Overlap);

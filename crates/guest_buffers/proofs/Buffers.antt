@@ -2,43 +2,17 @@
 use Rattle.std.proofs.Common.{◌≡◌, ℕ, zero, suc, ◌+◌, ◌-◌, ◌*◌, ◌<◌, ◌≤◌, Bool, true, false, ◌&&◌, nat_lt, min, List, [], ◌∷◌, ◌++◌, length, Option, Some, None, refl, sym, ◌∙◌, ap, subst, arith, add-zero, add-one, get_or, take, drop, drop-cons}
 use Rattle.std.proofs.lemmas.Grind.{flat_map-append}
 use Rattle.std.proofs.lemmas.List.Sums.{sum_by-cons, sum_by-append}
-use Rattle.std.proofs.lemmas.List.{take-append-drop, take_more}
-use Rattle.std.proofs.lemmas.Bool.{false≢true}
+use Rattle.std.proofs.lemmas.List.{take-append-drop, take_more, append-nil}
+use Rattle.std.proofs.Math.Bool.{and-true, and_assoc}
+use Rattle.std.proofs.lemmas.Bool.{false≢true, and_from, and_right}
 use Rattle.std.proofs.lemmas.Bool.Decides.{nat_tests}
-use Rattle.rrv_model.specs.Memory.{Memory, Cell, IsMemory, all_cells, can_read, readable, bytes_at}
+use Rattle.rrv_model.specs.Memory.{Memory, Cell, IsMemory, can_read, readable, bytes_at}
 use Rattle.rrv_model.specs.Step.{word_at}
 use Rattle.rrv_model.specs.CallRows.{buffers_at, clipped, all_readable, total_len}
+use Rattle.guest_pages.proofs.Cells.{all_pass, one_of_all}
 use Rattle.guest_buffers.specs.Buffers.{joined}
 
 -- ---- parts of a range
-
-left_true : (a b : Bool) → (a && b) ≡ true → a ≡ true
-left_true true b h = refl
-left_true false b h = absurd (false≢true h)
-
-right_true : (a b : Bool) → (a && b) ≡ true → b ≡ true
-right_true true b h = h
-right_true false b h = absurd (false≢true h)
-
-both_true : (a b : Bool) → a ≡ true → b ≡ true → (a && b) ≡ true
-both_true true b e h = h
-both_true false b e h = absurd (false≢true e)
-
-cell_passes : (test : Option Cell → Bool) (m : Memory) (a n k : ℕ) → all_cells test m a n ≡ true → k < n → test (m (a + k)) ≡ true
-unfolding all_cells
-cell_passes test m a zero k h below = absurd (omega arith)
-cell_passes test m a (suc n) k h below =
-    last_or_before (nat_lt k n) refl (λ before. cell_passes test m a n k (left_true (all_cells test m a n) (test (m (a + n))) h) before) where
-      last_or_before : (b : Bool) → nat_lt k n ≡ b → (k < n → test (m (a + k)) ≡ true) → test (m (a + k)) ≡ true
-      last_or_before true e before = before (grind (arith, nat_tests))
-      last_or_before false e before =
-          let last : n ≡ k = grind (arith, nat_tests) in
-          subst (λ (j : ℕ). test (m (a + j)) ≡ true) last (right_true (all_cells test m a n) (test (m (a + n))) h)
-
-cells_pass : (test : Option Cell → Bool) (m : Memory) (a n : ℕ) → ((k : ℕ) → k < n → test (m (a + k)) ≡ true) → all_cells test m a n ≡ true
-unfolding all_cells
-cells_pass test m a zero h = refl
-cells_pass test m a (suc n) h = both_true (all_cells test m a n) (test (m (a + n))) (cells_pass test m a n (λ k below. h k (omega arith))) (h n (omega arith))
 
 further : (a k j : ℕ) → a + (k + j) ≡ (a + k) + j
 further a k j = omega arith
@@ -46,8 +20,8 @@ further a k j = omega arith
 -- a part of a readable range
 pub readable_within : (m : Memory) (a n k count : ℕ) → readable m a n ≡ true → k + count ≤ n → readable m (a + k) count ≡ true
 readable_within m a n k count h within =
-    cells_pass can_read m (a + k) count (λ j below.
-    subst (λ (x : ℕ). can_read (m x) ≡ true) (further a k j) (cell_passes can_read m a n (k + j) h (omega arith)))
+    all_pass can_read m (a + k) count (λ j below.
+    subst (λ (x : ℕ). can_read (m x) ≡ true) (further a k j) (one_of_all can_read m a n (k + j) h (omega arith)))
 
 nothing_there : (o : Option Cell) → o ≡ None → can_read o ≡ true → ⊥
 nothing_there None e h = false≢true h
@@ -64,7 +38,7 @@ readable_low m a n k is h below = low_or_high (nat_lt (a + k) 0x80000000) refl w
   low_or_high true e = grind (arith, nat_tests)
   low_or_high false e =
       let high : 0x80000000 ≤ a + k = grind (arith, nat_tests) in
-      absurd (nothing_there (m (a + k)) (is.pages.high (a + k) high) (cell_passes can_read m a n k h below))
+      absurd (nothing_there (m (a + k)) (is.pages.high (a + k) high) (one_of_all can_read m a n k h below))
 
 -- ---- buffers
 
@@ -110,10 +84,7 @@ pub all_readable-append : (m : Memory) (xs ys : List (ℕ × ℕ)) → all_reada
 unfolding all_readable
 all_readable-append m [] ys = refl
 all_readable-append m (x ∷ xs) ys =
-    ap (λ (b : Bool). readable m x.0 x.1 && b) (all_readable-append m xs ys) ∙ grouped (readable m x.0 x.1) (all_readable m xs) (all_readable m ys) where
-      grouped : (a b c : Bool) → (a && (b && c)) ≡ ((a && b) && c)
-      grouped true b c = refl
-      grouped false b c = refl
+    ap (λ (b : Bool). readable m x.0 x.1 && b) (all_readable-append m xs ys) ∙ sym (and_assoc (readable m x.0 x.1) (all_readable m xs) (all_readable m ys))
 
 min_both : (x c d rest all : ℕ) → all ≡ x + rest → all ≤ c → all ≤ d → min x c ≡ min x d
 min_both x c d rest all e h g = omega arith
@@ -152,41 +123,30 @@ clipped_more c xs b = clipped-append c xs (b ∷ [])
 
 alone : (m : Memory) (b : ℕ × ℕ) → all_readable m (b ∷ []) ≡ readable m b.0 b.1
 unfolding all_readable
-alone m b = last (readable m b.0 b.1) where
-  last : (b : Bool) → (b && true) ≡ b
-  last true = refl
-  last false = refl
+alone m b = and-true (readable m b.0 b.1)
 
 pub readable_more : (m : Memory) (c : ℕ) (xs : List (ℕ × ℕ)) (b : ℕ × ℕ) → all_readable m (clipped c xs) ≡ true → readable m b.0 (min b.1 (c - total_len xs)) ≡ true →
     all_readable m (clipped c (xs ++ b ∷ [])) ≡ true
 readable_more m c xs b h g =
     ap (all_readable m) (clipped_more c xs b) ∙ all_readable-append m (clipped c xs) ((b.0, min b.1 (c - total_len xs)) ∷ [])
-    ∙ both_true _ _ h (alone m (b.0, min b.1 (c - total_len xs)) ∙ g)
-
-none_more : (xs : List ℕ) → xs ++ [] ≡ xs
-none_more [] = refl
-none_more (x ∷ xs) = ap (λ (ys : List ℕ). x ∷ ys) (none_more xs)
+    ∙ and_from _ _ h (alone m (b.0, min b.1 (c - total_len xs)) ∙ g)
 
 pub joined_more : (m : Memory) (c : ℕ) (xs : List (ℕ × ℕ)) (b : ℕ × ℕ) →
     joined m (clipped c (xs ++ b ∷ [])) ≡ joined m (clipped c xs) ++ bytes_at m b.0 (min b.1 (c - total_len xs))
 joined_more m c xs b =
     ap (joined m) (clipped_more c xs b) ∙ flat_map-append (λ (b : ℕ × ℕ). bytes_at m b.0 b.1) (clipped c xs) ((b.0, min b.1 (c - total_len xs)) ∷ [])
-    ∙ ap (λ (bytes : List ℕ). joined m (clipped c xs) ++ bytes) (none_more (bytes_at m b.0 (min b.1 (c - total_len xs))))
+    ∙ ap (λ (bytes : List ℕ). joined m (clipped c xs) ++ bytes) (append-nil (bytes_at m b.0 (min b.1 (c - total_len xs))))
 
 head_false : (m : Memory) (c : ℕ) (b : ℕ × ℕ) (ys : List (ℕ × ℕ)) → readable m b.0 (min b.1 c) ≡ false → all_readable m (clipped c (b ∷ ys)) ≡ false
 unfolding clipped all_readable
 head_false m c b ys h = ap (λ (r : Bool). r && all_readable m (clipped (c - b.1) ys)) h
-
-and_false : (a b : Bool) → b ≡ false → (a && b) ≡ false
-and_false true b e = e
-and_false false b e = refl
 
 -- one buffer that can't be read spoils them all
 pub unreadable_there : (m : Memory) (c : ℕ) (xs : List (ℕ × ℕ)) (b : ℕ × ℕ) (ys : List (ℕ × ℕ)) → readable m b.0 (min b.1 (c - total_len xs)) ≡ false →
     all_readable m (clipped c (xs ++ b ∷ ys)) ≡ false
 unreadable_there m c xs b ys h =
     ap (all_readable m) (clipped-append c xs (b ∷ ys)) ∙ all_readable-append m (clipped c xs) (clipped (c - total_len xs) (b ∷ ys))
-    ∙ and_false (all_readable m (clipped c xs)) _ (head_false m (c - total_len xs) b ys h)
+    ∙ and_right (all_readable m (clipped c xs)) _ (head_false m (c - total_len xs) b ys h)
 
 -- ---- the loop over the buffers
 

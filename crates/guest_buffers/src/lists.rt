@@ -1,6 +1,7 @@
 //! Buffers that are listed, counted and joined.
 
 ghost use Rattle.std.specs.Prelude.{◌≡◌, ◌+◌, ◌*◌, ◌++◌, ◌≤◌, true, false, min, length, vec_len, IsTrue, IfOk, OnErr, MatchOption};
+ghost use Rattle.rrv_model.specs.declared.limits.TheConstants.{MAX_TRANSFER};
 ghost use Rattle.rrv_model.specs.Memory.{readable, bytes_at};
 ghost use Rattle.rrv_model.specs.Step.{word_at};
 ghost use Rattle.rrv_model.specs.CallRows.{all_readable, buffers_at, clipped, total_len};
@@ -49,6 +50,7 @@ pub fn list_buffers(
     ensures some { OnErr result (1 ≤ count) }
 {
     let mut buffers = Vec::new(alloc);
+    // what holds of a guest's memory, which the count of its pages tells
     let _memory = space.page_count();
     for place in 0..count {
         let at = address + BUFFER_BYTES * place;
@@ -69,7 +71,7 @@ fn append(
     count: usize,
     bytes: &mut Vec<u8>,
 ) -> Result<bool, Memory>
-    requires { count ≤ 65_536 }
+    requires { count ≤ MAX_TRANSFER }
     ensures readable { IfOk result (λ appended. appended ≡ readable (memory_of space.now) base count) }
     ensures bytes { IfOk result (λ appended. IsTrue appended
         → bytes.new.items ≡ bytes.old.items ++ bytes_at (memory_of space.now) base count) }
@@ -92,10 +94,10 @@ pub fn join_buffers(
 ) -> Result<Option<Vec<u8>>, Memory>
     ensures some { OnErr result (1 ≤ length buffers.now) }
     ensures bytes { IfOk result (λ found. MatchOption found
-        (all_readable (memory_of space.now) (clipped 65_536 buffers.now) ≡ false)
-        (λ bytes. (all_readable (memory_of space.now) (clipped 65_536 buffers.now) ≡ true)
-        × (bytes.items ≡ joined (memory_of space.now) (clipped 65_536 buffers.now))
-        × (vec_len bytes ≡ min (total_len buffers.now) 65_536))) }
+        (all_readable (memory_of space.now) (clipped MAX_TRANSFER buffers.now) ≡ false)
+        (λ bytes. (all_readable (memory_of space.now) (clipped MAX_TRANSFER buffers.now) ≡ true)
+        × (bytes.items ≡ joined (memory_of space.now) (clipped MAX_TRANSFER buffers.now))
+        × (vec_len bytes ≡ min (total_len buffers.now) MAX_TRANSFER))) }
 {
     let mut bytes = Vec::new(alloc);
     for buffer in buffers {

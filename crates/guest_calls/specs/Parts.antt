@@ -4,7 +4,7 @@ use Rattle.std.specs.FinMap.{from_entries}
 use Rattle.std.specs.List.Sorted.{IsStrictlyIncreasing}
 use Rattle.rrv_model.specs.declared.limits.TheConstants.{MAX_PAGES}
 use Rattle.rrv_model.specs.declared.record.CheckpointRest.{CheckpointRest}
-use Rattle.rrv_model.specs.Memory.{Memory, page_count, is_mapped}
+use Rattle.rrv_model.specs.Memory.{Memory, page_count}
 use Rattle.rrv_model.specs.State.{State, IsState}
 use Rattle.guest_pages.specs.declared.page.PageView.{PageView}
 use Rattle.guest_pages.specs.WholePages.{with_page, MayHave}
@@ -17,8 +17,7 @@ use Rattle.guest_calls.specs.declared.fault.SetRestFault.TheVariants as rest_fau
 abbrev pub IsSetPageRefusal : SetPageFault → ℕ → Option PageView → Memory → Type 0
 IsSetPageRefusal faults.NoState n page m = ¬ MayHave n page
 IsSetPageRefusal faults.TooManyPages n page m = MayHave n page × (MAX_PAGES < page_count (with_page n page m))
-IsSetPageRefusal faults.Memory n page m =
-    MayHave n page × (page_count (with_page n page m) ≤ MAX_PAGES) × (is_mapped m n ≡ false)
+IsSetPageRefusal faults.Memory n page m = MayHave n page × (page_count (with_page n page m) ≤ MAX_PAGES)
 
 -- the state with the rest of a checkpoint: memory and opening break stay, and there is neither a reservation nor an end
 abbrev pub with_rest : CheckpointRest → State → State

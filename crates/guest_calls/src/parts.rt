@@ -51,10 +51,9 @@ impl Guest {
         self.space.drop_snapshot(snapshot);
     }
 
-    /// Puts a page with its permissions and bytes in place of what was there; None unmaps it. Refused with NoState
-    /// exactly where no state has such a page, else with TooManyPages exactly where more than 16,384 pages would be
-    /// mapped, else with Memory where a growth is refused, which is only where the page wasn't mapped. To unmap is
-    /// never refused.
+    /// Puts a page with its permissions and bytes in place of what was there; None unmaps it. Refused with NoState exactly
+    /// where no state has such a page, else with TooManyPages exactly where more than 16,384 pages would be mapped, else with
+    /// Memory where a growth is refused, which may be over a mapped page too. To unmap is never refused.
     pub fn set_page(&mut self, number: u32, page: Option<PageView<'_>>) -> Result<(), SetPageFault>
         ensures state { OnOk result (state_of self.new
             ≡ with_memory (with_page number page.entry (state_of self.old).memory) (state_of self.old)) }

@@ -2,6 +2,8 @@
 use Rattle.std.proofs.Common.{◌≡◌, ℕ, ◌+◌, ◌-◌, ◌/◌, ◌<◌, ◌≤◌, Bool, true, false, ◌||◌, ◌&&◌, if◌then◌else◌, List, [], ◌∷◌, length, take, drop, Option, Some, None, slice_index, arith, refl, ap, sym, ◌∙◌, length-take, length-drop, get_or-take, get_or-drop}
 use Rattle.std.specs.List.{list_any}
 use Rattle.std.proofs.lemmas.Bool.Decides.{nat_tests}
+use Rattle.std.proofs.Math.Bool.{or-false, or_comm}
+use Rattle.std.proofs.lemmas.Bool.{or_parts}
 use Rattle.rrv_model.specs.declared.machine.Permissions.{Permissions}
 use Rattle.rrv_model.specs.Memory.{Memory, Cell, no_memory, is_within, with_byte, page_bytes}
 use Rattle.rrv_model.specs.CallRows.{has_flag}
@@ -22,14 +24,6 @@ within_low a count x h = grind (arith, nat_tests)
 within_high : (a count x : ℕ) → is_within a count x ≡ true → x < a + count
 within_high a count x h = grind (arith, nat_tests)
 
-pub false_left : (a b : Bool) → (a || b) ≡ false → a ≡ false
-false_left true b h = cc
-false_left false b h = refl
-
-pub false_right : (a b : Bool) → (a || b) ≡ false → b ≡ false
-false_right true b h = cc
-false_right false b h = h
-
 -- a file's byte of a load stands in a page that the load touches
 touched_file : (file : List ℕ) (h : Header) (a : ℕ) → IsLoad file h → is_within h.address h.file_len a ≡ true → touches (a / page_bytes) h ≡ true
 touched_file file h a good w =
@@ -47,9 +41,8 @@ no_byte : (file : List ℕ) (hs : List Header) (a : ℕ) → AreLoads file hs �
 unfolding loaded_byte
 no_byte file [] a good none = refl
 no_byte file (h ∷ hs) a good none =
-    let here = false_left (touches (a / page_bytes) h) (list_any (touches (a / page_bytes)) hs) none in
-    let behind = false_right (touches (a / page_bytes) h) (list_any (touches (a / page_bytes)) hs) none in
-    no_byte_of file h a (slice_index file (h.offset + (a - h.address))) (loaded_byte file hs a) (is_within h.address h.file_len a) good.0 here refl (no_byte file hs a good.1 behind)
+    let parts = or_parts (touches (a / page_bytes) h) (list_any (touches (a / page_bytes)) hs) none in
+    no_byte_of file h a (slice_index file (h.offset + (a - h.address))) (loaded_byte file hs a) (is_within h.address h.file_len a) good.0 parts.0 refl (no_byte file hs a good.1 parts.1)
 
 no_flag_of : (t f rest : Bool) → t ≡ false → rest ≡ false → ((t && f) || rest) ≡ false
 no_flag_of true f rest e none = cc
@@ -58,9 +51,8 @@ no_flag_of false f rest e none = none
 no_flag : (flag page : ℕ) (hs : List Header) → list_any (touches page) hs ≡ false → page_has flag page hs ≡ false
 no_flag flag page [] none = refl
 no_flag flag page (h ∷ hs) none =
-    let here = false_left (touches page h) (list_any (touches page) hs) none in
-    let behind = false_right (touches page h) (list_any (touches page) hs) none in
-    no_flag_of (touches page h) (has_flag h.flags flag) (page_has flag page hs) here (no_flag flag page hs behind)
+    let parts = or_parts (touches page h) (list_any (touches page) hs) none in
+    no_flag_of (touches page h) (has_flag h.flags flag) (page_has flag page hs) parts.0 (no_flag flag page hs parts.1)
 
 -- ---- one more load, over plain tests
 
@@ -74,16 +66,6 @@ union_read false true false true = refl
 union_read false true false false = refl
 union_read false false false true = refl
 union_read false false false false = refl
-
-union_other : (f a : Bool) → (f || a) ≡ (a || f)
-union_other true true = refl
-union_other true false = refl
-union_other false true = refl
-union_other false false = refl
-
-no_union : (f : Bool) → (f || false) ≡ f
-no_union true = refl
-no_union false = refl
 
 same_permissions : (r w x r' w' x' : Bool) → r ≡ r' → w ≡ w' → x ≡ x' →
     record { read = r; write = w; execute = x } ≡ (let p : Permissions = record { read = r'; write = w'; execute = x' } in p)
@@ -112,16 +94,16 @@ abbrev covered_if : Bool → Permissions → Option Cell → Option Cell
 covered_if t p c = if t then Some (covered_cell p c) else c
 
 joined_flags : (f g : Flags) → permissions_of (flags_with true f g) ≡ union (permissions_of g) (permissions_of f)
-joined_flags f g = same_permissions _ _ _ _ _ _ (union_read f.four f.two g.four g.two) (union_other f.two g.two) (union_other f.one g.one)
+joined_flags f g = same_permissions _ _ _ _ _ _ (union_read f.four f.two g.four g.two) (or_comm f.two g.two) (or_comm f.one g.one)
 
 no_union_read : (f4 g4 f2 g2 : Bool) → g4 ≡ false → g2 ≡ false → ((f4 || g4) || (f2 || g2)) ≡ (f4 || f2)
 no_union_read f4 true f2 g2 e d = cc
 no_union_read f4 false f2 true e d = cc
-no_union_read f4 false f2 false e d = λ i. no_union f4 i || no_union f2 i
+no_union_read f4 false f2 false e d = λ i. or-false f4 i || or-false f2 i
 
 no_union_with : (f g : Bool) → g ≡ false → (f || g) ≡ f
 no_union_with f true e = cc
-no_union_with f false e = no_union f
+no_union_with f false e = or-false f
 
 no_flags : (f g : Flags) → g.four ≡ false → g.two ≡ false → g.one ≡ false → permissions_of (flags_with true f g) ≡ permissions_of f
 no_flags f g four two one =

@@ -12,7 +12,7 @@ use Rattle.guest_opening.proofs.ImageParts.{with_load}
 use Rattle.rrv_model.proofs.AcceptedFile.{is_accepted}
 use Rattle.guest_opening.proofs.PageWalk.{load_room}
 use Rattle.guest_opening.proofs.ImageLoads.{image_more, image_none, touched_page}
-use Rattle.guest_opening.proofs.StackStores.{present_all}
+use Rattle.guest_pages.proofs.Cells.{all_pass}
 use Rattle.rrv_model.proofs.ImageParts.{AreLoads, image_of}
 
 are_loads-drop : (file : List ℕ) (hs : List Header) (k : ℕ) → AreLoads file hs → AreLoads file (drop k hs)
@@ -65,7 +65,7 @@ covered_there false h c e = cc
 pub next_is_there : (file : List ℕ) (h : Header) (m covered : Memory) → IsLoad file h → covered ≡ covered_load h m → IsTrue (present covered h.address h.file_len)
 next_is_there file h m covered load is =
     let sizes = load.sizes in
-    let there : IsTrue (present (covered_load h m) h.address h.file_len) = present_all (covered_load h m) h.address h.file_len (λ k below.
+    let there : IsTrue (present (covered_load h m) h.address h.file_len) = all_pass is_some (covered_load h m) h.address h.file_len (λ k below.
     covered_there (touches ((h.address + k) / page_bytes) h) h (m (h.address + k)) (touched_page h (h.address + k) (omega arith) (omega arith))) in
     subst (λ (k : Memory). IsTrue (present k h.address h.file_len)) (sym is) there
 

@@ -3,6 +3,7 @@ use Rattle.std.proofs.Common.{◌≡◌, ℕ, zero, suc, ◌+◌, ◌-◌, ◌*�
 use Rattle.std.specs.Prelude.{nat_lt, nat_le}
 use Rattle.std.specs.List.{list_any}
 use Rattle.std.proofs.lemmas.Bool.Decides.{nat_tests}
+use Rattle.std.proofs.lemmas.Bool.{or_right}
 use Rattle.rrv_model.specs.declared.machine.Permissions.{Permissions}
 use Rattle.rrv_model.specs.Memory.{Memory, Cell, is_within, is_mapped, page_count, pages_below, page_bytes}
 use Rattle.rrv_model.specs.Elf.{Header, touches, loads, touched_below, IsLoad}
@@ -99,15 +100,11 @@ only_memory m faults.Memory room h = refl
 
 -- ---- the loads of a file
 
-either : (a b : Bool) → b ≡ true → (a || b) ≡ true
-either true b e = refl
-either false b e = e
-
 some_drop : (test : Header → Bool) (hs : List Header) (k : ℕ) → list_any test (drop k hs) ≡ true → list_any test hs ≡ true
 some_drop test [] zero h = h
 some_drop test [] (suc k) h = h
 some_drop test (x ∷ hs) zero h = h
-some_drop test (x ∷ hs) (suc k) h = let rest = some_drop test hs k h in either (test x) (list_any test hs) rest
+some_drop test (x ∷ hs) (suc k) h = let rest = some_drop test hs k h in or_right (test x) (list_any test hs) rest
 
 same_bound : (all low touched : ℕ) → all ≡ low → low ≡ touched → touched ≤ 16_128 → all ≤ 16_128
 same_bound all low touched e f h = omega arith

@@ -8,7 +8,9 @@ use Rattle.rrv_model.specs.Memory.{Memory, Cell, stored, is_within}
 use Rattle.rrv_model.specs.Opening.{bare_memory, opening_memory, stack_pointer, stack_words, name_at, IsName}
 use Rattle.guest_pages.specs.Space.{present}
 use Rattle.guest_opening.specs.Loading.{with_stack}
-use Rattle.guest_opening.proofs.StackStores.{stored-append, stored-nil, stored-word, present_all, present_part, is_some-stored}
+use Rattle.guest_opening.proofs.StackStores.{stored-append, stored-nil, stored-word, present_part}
+use Rattle.rrv_model.proofs.PageCounts.{is_some-stored}
+use Rattle.guest_pages.proofs.Cells.{all_pass}
 
 -- ---- words
 
@@ -55,7 +57,7 @@ pub has_stack_still : (a : ℕ) (bytes : List ℕ) (m next : Memory) → HasStac
 has_stack_still a bytes m next h is = subst HasStack (sym is) (has_stack-stored a bytes m h)
 
 pub present_on_stack : (m : Memory) (a count : ℕ) → HasStack m → 0x7FF00000 ≤ a → a + count ≤ 0x80000000 → IsTrue (present m a count)
-present_on_stack m a count h low high = present_all m a count (λ k below. h.there (a + k) (omega arith) (omega arith))
+present_on_stack m a count h low high = all_pass is_some m a count (λ k below. h.there (a + k) (omega arith) (omega arith))
 
 -- ---- the places on the stack
 

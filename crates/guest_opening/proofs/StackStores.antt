@@ -1,13 +1,15 @@
 -- Stores one behind another, and where bytes are there.
-use Rattle.std.proofs.Common.{◌≡◌, ℕ, zero, suc, ◌+◌, ◌-◌, ◌*◌, ◌<◌, ◌≤◌, Bool, true, false, ◌&&◌, if◌then◌else◌, List, [], ◌∷◌, ◌++◌, length, take, Option, Some, None, is_some, slice_index, IsTrue, arith, refl, ap, sym, ◌∙◌, length-append}
-use Rattle.std.specs.Prelude.{flat_map, nat_lt}
+use Rattle.std.proofs.Common.{◌≡◌, ℕ, ◌+◌, ◌-◌, ◌*◌, ◌<◌, ◌≤◌, Bool, true, false, if◌then◌else◌, List, [], ◌∷◌, ◌++◌, length, take, Option, is_some, slice_index, IsTrue, arith, refl, ap, sym, ◌∙◌, length-append}
+use Rattle.std.specs.Prelude.{flat_map}
 use Rattle.std.specs.Int.{w32, to_le_bytes}
 use Rattle.std.proofs.lemmas.Bool.Decides.{nat_tests}
 use Rattle.std.proofs.lemmas.List.{get_or_append_left, take_more, length-take-le}
 use Rattle.std.proofs.lemmas.Grind.{flat_map-append}
 use Rattle.std.proofs.Math.Seq.{get_or-append_right}
-use Rattle.rrv_model.specs.Memory.{Memory, Cell, stored, is_within, with_byte, all_cells}
+use Rattle.rrv_model.specs.Memory.{Memory, Cell, stored, is_within, with_byte}
 use Rattle.guest_pages.specs.Space.{present}
+use Rattle.rrv_model.proofs.PageCounts.{is_some-stored}
+use Rattle.guest_pages.proofs.Cells.{all_pass, one_of_all}
 
 -- ---- stores
 
@@ -79,49 +81,10 @@ stored-word a words i word m below is =
 
 -- ---- where bytes are there
 
-both : (a b : Bool) → a ≡ true → b ≡ true → (a && b) ≡ true
-both true b e f = f
-both false b e f = e
-
-both_parts : (a b : Bool) → (a && b) ≡ true → (a ≡ true) × (b ≡ true)
-both_parts true b h = (refl, h)
-both_parts false b h = cc
-
-last_or_before : (m : Memory) (a count k : ℕ) → is_some (m (a + count)) ≡ true → (k < count → is_some (m (a + k)) ≡ true) → k < suc count → is_some (m (a + k)) ≡ true
-last_or_before m a count k last before below = by_place (nat_lt k count) refl where
-  by_place : (t : Bool) → nat_lt k count ≡ t → is_some (m (a + k)) ≡ true
-  by_place true e = before (let low : k < count = grind (arith, nat_tests) in low)
-  by_place false e =
-      let same : a + k ≡ a + count = grind (arith, nat_tests) in
-      ap (λ (x : ℕ). is_some (m x)) same ∙ last
-
-pub present_all : (m : Memory) (a count : ℕ) → ((k : ℕ) → k < count → is_some (m (a + k)) ≡ true) → IsTrue (present m a count)
-unfolding all_cells
-present_all m a zero h = refl
-present_all m a (suc count) h = both (present m a count) (is_some (m (a + count))) (present_all m a count (λ k below. h k (omega arith))) (h count (omega arith))
-
-pub present_at : (m : Memory) (a count k : ℕ) → IsTrue (present m a count) → k < count → is_some (m (a + k)) ≡ true
-unfolding all_cells
-present_at m a zero k h below = absurd (omega arith)
-present_at m a (suc count) k h below =
-    let parts = both_parts (present m a count) (is_some (m (a + count))) h in
-    last_or_before m a count k parts.1 (λ before. present_at m a count k parts.0 before) below
-
-is_some-with_byte : (b : ℕ) (c : Option Cell) → is_some (with_byte b c) ≡ is_some c
-is_some-with_byte b None = refl
-is_some-with_byte b (Some c) = refl
-
-is_some-store : (t : Bool) (b : ℕ) (c : Option Cell) → is_some (if t then with_byte b c else c) ≡ is_some c
-is_some-store true b c = is_some-with_byte b c
-is_some-store false b c = refl
-
-pub is_some-stored : (a : ℕ) (bytes : List ℕ) (m : Memory) (x : ℕ) → is_some (stored a bytes m x) ≡ is_some (m x)
-is_some-stored a bytes m x = is_some-store (is_within a (length bytes) x) (slice_index bytes (x - a)) (m x)
-
 -- a part of a stretch that is there, after a store
 pub present_part : (a : ℕ) (bytes : List ℕ) (m : Memory) (b count c part : ℕ) → IsTrue (present m b count) → b ≤ c → c + part ≤ b + count →
     IsTrue (present (stored a bytes m) c part)
 present_part a bytes m b count c part there low high =
-    present_all (stored a bytes m) c part (λ k below.
+    all_pass is_some (stored a bytes m) c part (λ k below.
     let place : b + (c + k - b) ≡ c + k = omega arith in
-    is_some-stored a bytes m (c + k) ∙ ap (λ (x : ℕ). is_some (m x)) (sym place) ∙ present_at m b count (c + k - b) there (omega arith))
+    is_some-stored a bytes m (c + k) ∙ ap (λ (x : ℕ). is_some (m x)) (sym place) ∙ one_of_all is_some m b count (c + k - b) there (omega arith))

@@ -1,7 +1,8 @@
 -- What the memory in pages has within one page.
-use Rattle.std.proofs.Common.{length, slice_index, ◌≡◌, ℕ, zero, suc, ◌+◌, ◌*◌, ◌/◌, ◌%◌, ◌<◌, ◌≤◌, ◌&&◌, List, [], Option, Some, None, is_some, Bool, true, false, refl, ap, ◌∙◌, sym, arith, inl, inr, subst, ◌-◌, max}
+use Rattle.std.proofs.Common.{length, slice_index, ◌≡◌, ℕ, zero, suc, ◌+◌, ◌*◌, ◌/◌, ◌%◌, ◌<◌, ◌≤◌, List, [], Option, Some, None, is_some, Bool, true, false, refl, ap, ◌∙◌, sym, arith, inl, inr, subst, ◌-◌, max}
 use Rattle.std.proofs.lemmas.Grind.{same_number_lists}
-use Rattle.std.proofs.lemmas.Bool.{false≢true, cases_lt}
+use Rattle.std.proofs.Math.Bool.{and_self}
+use Rattle.std.proofs.lemmas.Bool.{false≢true, cases_lt, and_parts}
 use Rattle.std.specs.Option.{option_map}
 use Rattle.rrv_model.specs.Memory.{Cell, Memory, all_cells, bytes_at, can_read, can_write, can_execute, byte_or_zero}
 use Rattle.rrv_model.proofs.MemoryRules.{get_bytes_at, length_bytes_at}
@@ -26,10 +27,7 @@ all_cells_alike test m b a zero h = h 0 (omega arith)
 all_cells_alike test m b a (suc count) h =
     let before : all_cells test m a (suc count) ≡ b = all_cells_alike test m b a count (λ k l. h k (omega arith)) in
     let last : test (m (a + suc count)) ≡ b = h (suc count) (omega arith) in
-    rw (before, last) (same b) where
-      same : (b : Bool) → (b && b) ≡ b
-      same true = refl
-      same false = refl
+    rw (before, last) (and_self b)
 
 -- the bytes of a page
 pub bytes_in_page : (pages : List (ℕ × Page)) (p : Page) (count a at n : ℕ) → page_at pages n ≡ Some p → a ≡ n * 4096 + at → at + count ≤ 4096 → bytes_at (memory_in pages) a count ≡ run count at p.bytes.value
@@ -79,21 +77,13 @@ is_in_page pages a count some fits = passes_in_page is_some (λ k p. refl) pages
 
 -- ---- tests of a range
 
-and_left : (a b : Bool) → (a && b) ≡ true → a ≡ true
-and_left true b h = refl
-and_left false b h = h
-
-and_right : (a b : Bool) → (a && b) ≡ true → b ≡ true
-and_right true b h = h
-and_right false b h = absurd (false≢true h)
-
 -- what all of some cells pass, each does
 pub one_of_all : (test : Option Cell → Bool) (m : Memory) (a count k : ℕ) → all_cells test m a count ≡ true → k < count → test (m (a + k)) ≡ true
 unfolding all_cells
 one_of_all test m a zero k h l = absurd (omega arith)
 one_of_all test m a (suc count) k h l = elim (cases_lt k count) [
-  | inl w ↦ one_of_all test m a count k (and_left _ _ h) w
-  | inr w ↦ let same : k ≡ count = omega arith in subst (λ j. test (m (a + j)) ≡ true) (sym same) (and_right _ _ h)
+  | inl w ↦ one_of_all test m a count k (and_parts _ _ h).0 w
+  | inr w ↦ let same : k ≡ count = omega arith in subst (λ j. test (m (a + j)) ≡ true) (sym same) (and_parts _ _ h).1
 ]
 
 -- where one cell fails, all do

@@ -14,7 +14,7 @@ use Rattle.guest_pages.specs.Space.{page_at, memory_in, cell_in, IsPage, ArePage
 use Rattle.guest_pages.specs.Mapping.{SamePage, SameAt, ListsOthers}
 use Rattle.guest_pages.specs.Snapshots.{SameOn, DifferOn, AreChanges}
 use Rattle.guest_pages.proofs.Facts.{none_high}
-use Rattle.guest_pages.proofs.Same.{in_page, same_cell, permissions_or}
+use Rattle.guest_pages.proofs.SameMemory.{in_page, same_cell, permissions_or}
 
 -- what holds anyway holds where there is an error
 pub on_err : {T E P : Type 0} (r : Result T E) → P → OnErr r P

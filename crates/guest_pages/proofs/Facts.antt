@@ -15,7 +15,7 @@ use Rattle.rrv_model.specs.declared.limits.TheConstants.{MAX_PAGES}
 use Rattle.rrv_model.specs.Memory.{no_memory, IsPaged, IsMemory, AlikeCells, FitsCell, page_count, pages_below, is_mapped, all_cells}
 use Rattle.guest_pages.specs.declared.page.Page.{Page}
 use Rattle.guest_pages.specs.Space.{page_at, memory_in, cell_in, IsPage, ArePages, test_of}
-use Rattle.guest_pages.proofs.Stores.{is_at_nat}
+use Rattle.rrv_model.proofs.Threads.{is_at_nat}
 use Rattle.guest_pages.proofs.Cells.{one_of_all, one_fails}
 use Rattle.guest_pages.specs.declared.page.Access.{Access}
 use Rattle.guest_pages.specs.declared.page.Access.TheVariants as accesses

@@ -1,10 +1,10 @@
 pub mod Cells
 pub mod Stores
 pub mod Facts
-pub mod Missing
+pub mod MissingPages
 pub mod Ranges
-pub mod Same
-pub mod Kept
+pub mod SameMemory
+pub mod SnapshotPages
 pub mod Changes
 pub mod WordStores
 pub mod WholePages

@@ -1,5 +1,6 @@
 -- Ranges of pages that are there, free, taken away or protected.
-use Rattle.std.proofs.Common.{◌≡◌, ℕ, zero, suc, ◌+◌, ◌-◌, ◌*◌, ◌/◌, ◌%◌, ◌<◌, ◌≤◌, List, Option, Some, None, IfSome, IfNone, not, is_some, is_none, Bool, true, false, refl, ap, ◌∙◌, sym, subst, arith, length, slice_index, if◌then◌else◌, inl, inr, IsTrue, ◌&&◌}
+use Rattle.std.proofs.Common.{◌≡◌, ℕ, zero, suc, ◌+◌, ◌-◌, ◌*◌, ◌/◌, ◌%◌, ◌<◌, ◌≤◌, List, Option, Some, None, IfSome, IfNone, not, is_some, is_none, Bool, true, false, refl, ap, ◌∙◌, sym, subst, arith, length, slice_index, if◌then◌else◌, inl, inr, IsTrue}
+use Rattle.std.proofs.Math.Bool.{and-false}
 use Rattle.std.proofs.lemmas.Bool.{false≢true, cases_lt}
 use Rattle.std.proofs.lemmas.Bool.Decides.{nat_tests, eqb_tells}
 use Rattle.std.specs.Ordering.{nat_cmp}
@@ -32,11 +33,8 @@ one_absent pages first (suc count) number begun low absent = elim (eqb_tells num
       rw here refl
   | inr w ↦
       let rest : all_mapped (memory_in pages) first count ≡ false = one_absent pages first count number begun (omega (arith, w.1)) absent in
-      rw rest (and_false (is_mapped (memory_in pages) (first + count)))
-] where
-  and_false : (b : Bool) → (b && false) ≡ false
-  and_false true = refl
-  and_false false = refl
+      rw rest (and-false (is_mapped (memory_in pages) (first + count)))
+]
 
 -- ---- a free range
 
@@ -65,11 +63,8 @@ taken_range m first (suc count) q from to h = elim (eqb_tells q (first + count))
       rw here refl
   | inr w ↦
       let rest : all_free m first count ≡ false = taken_range m first count q from (omega (arith, w.1)) h in
-      rw rest (and_false (is_none (m ((first + count) * 4096))))
-] where
-  and_false : (b : Bool) → (b && false) ≡ false
-  and_false true = refl
-  and_false false = refl
+      rw rest (and-false (is_none (m ((first + count) * 4096))))
+]
 
 -- by the least page of a range that is there
 pub free_by_first : (m : Memory) (first count : ℕ) (o : Option ℕ) (r : Bool) → is_some o ≡ not r

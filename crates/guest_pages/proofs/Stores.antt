@@ -1,5 +1,5 @@
 -- A store within one page.
-use Rattle.std.proofs.Common.{◌≡◌, ◌≢◌, ℕ, zero, suc, ◌+◌, ◌-◌, ◌*◌, ◌/◌, ◌%◌, ◌<◌, ◌≤◌, ◌==◌, List, [], ◌∷◌, length, Option, Some, None, IfSome, Bool, true, false, cond, refl, ap, ◌∙◌, sym, subst, arith, slice_index, slice_set, length-set, inl, inr, get_or-set_same, get_or-set_other, if◌then◌else◌, IsTrue, IsSome, is_some, ◌++◌, take, drop}
+use Rattle.std.proofs.Common.{◌≡◌, ◌≢◌, ℕ, zero, suc, ◌+◌, ◌-◌, ◌*◌, ◌/◌, ◌%◌, ◌<◌, ◌≤◌, List, [], ◌∷◌, length, Option, Some, None, IfSome, Bool, true, false, cond, refl, ap, ◌∙◌, sym, subst, arith, slice_index, slice_set, length-set, inl, inr, get_or-set_same, get_or-set_other, if◌then◌else◌, IsTrue, IsSome, is_some, ◌++◌, take, drop}
 use Rattle.std.proofs.lemmas.List.{length-take-le}
 use Rattle.std.proofs.Math.Seq.{take-add}
 use Rattle.std.proofs.lemmas.Bool.{false≢true}
@@ -13,10 +13,11 @@ use Rattle.std.proofs.lemmas.Map.Steps.{set_value_same}
 use Rattle.std.specs.List.{AllByRecursion}
 use Rattle.std.specs.List.Sorted.{IsStrictlySortedBy}
 use Rattle.rrv_model.specs.Memory.{Memory, Cell, stored, is_within, with_byte}
+use Rattle.rrv_model.proofs.Threads.{is_at_nat}
 use Rattle.rrv_model.specs.declared.machine.Permissions.{Permissions}
 use Rattle.guest_pages.specs.declared.page.Page.{Page}
 use Rattle.guest_pages.specs.Pages.{written, IsWritten}
-use Rattle.guest_pages.specs.Space.{page_at, memory_in, cell_in, IsPage, ArePages}
+use Rattle.guest_pages.specs.Space.{SpaceValue, page_at, memory_in, cell_in, IsPage, ArePages}
 
 one_more : (bs : List ℕ) (bytes : List ℕ) (at k b : ℕ) → at + suc (length bs) ≤ length bytes →
     (if is_within (at + 1) (length bs) k then slice_index bs (k - (at + 1)) else slice_index (slice_set bytes at b) k) ≡ if is_within at (suc (length bs)) k then slice_index (b ∷ bs) (k - at) else slice_index bytes k
@@ -38,12 +39,16 @@ length_written (b ∷ bs) bytes at = length_written bs (slice_set bytes at b) (a
 pub is_written : (bs : List ℕ) (bytes : List ℕ) (at : ℕ) → at + length bs ≤ length bytes → IsWritten bytes at bs (written bytes at bs)
 is_written bs bytes at fits = record { len = length_written bs bytes at; each = λ k. get_written bs bytes at k fits }
 
-pub is_at_nat : (page k : ℕ) → is_at (nat_cmp page) k ≡ (k == page)
-is_at_nat page k = grind (arith, common_steps)
-
 -- what is written back unchanged changes nothing
 pub written_back : (pages after : List (ℕ × Page)) (n : ℕ) (p : Page) → after ≡ set_value (is_at (nat_cmp n)) pages p → Some p ≡ page_at pages n → after ≡ pages
 written_back pages after n p e found = e ∙ set_value_same (is_at (nat_cmp n)) pages p (sym found)
+
+-- the space is then as before
+pub same_space : (pages after : List (ℕ × Page)) (snapshots : List (Option (List (ℕ × Page)))) (s : SpaceValue) (n : ℕ) (p : Page) →
+    after ≡ set_value (is_at (nat_cmp n)) pages p → Some p ≡ page_at pages n → record { pages = pages; snapshots = snapshots } ≡ s →
+    record { pages = after; snapshots = snapshots } ≡ s
+same_space pages after snapshots s n p e found same =
+    ap (λ (ps : List (ℕ × Page)). let t : SpaceValue = record { pages = ps; snapshots = snapshots } in t) (written_back pages after n p e found) ∙ same
 
 abbrev cell : Permissions → ℕ → Option Cell
 cell permissions b = Some (record { byte = b; permissions = permissions })

@@ -12,7 +12,7 @@ use Rattle.guest_pages.specs.declared.page.PageView.{PageView}
 use Rattle.guest_pages.specs.Space.{page_at, memory_in, cell_in, IsPage, ArePages}
 use Rattle.guest_pages.specs.WholePages.{cell_of, with_page, MayHave, IsCopyOf}
 use Rattle.guest_pages.proofs.Facts.{is_mapped_in, count_all, each_page, low_pages, count_is_length}
-use Rattle.guest_pages.proofs.Missing.{pages_below_add}
+use Rattle.guest_pages.proofs.MissingPages.{pages_below_add}
 
 -- ---- what is mapped
 

@@ -1,6 +1,7 @@
 -- Words that are stored at several places.
-use Rattle.std.proofs.Common.{◌≡◌, ℕ, zero, suc, ◌+◌, ◌-◌, ◌<◌, Bool, true, false, ◌&&◌, List, [], ◌∷◌, length, drop, get_or, Option, Some, None, if◌then◌else◌, slice_index, refl, sym, ◌∙◌, ap, subst, add-one, drop-cons}
-use Rattle.std.proofs.lemmas.Bool.{false≢true}
+use Rattle.std.proofs.Common.{◌≡◌, ℕ, zero, suc, ◌+◌, ◌-◌, ◌<◌, Bool, true, false, ◌&&◌, List, [], ◌∷◌, length, drop, get_or, Option, Some, None, if◌then◌else◌, slice_index, refl, sym, ◌∙◌, ap}
+use Rattle.std.proofs.lemmas.Bool.{false≢true, and_parts}
+use Rattle.std.proofs.lemmas.List.{drop_more}
 use Rattle.rrv_model.specs.Memory.{Memory, Cell, all_cells, can_write, is_within, stored, with_byte, writable}
 use Rattle.rrv_model.specs.CallRows.{all_writable}
 use Rattle.guest_pages.specs.Space.{present}
@@ -37,20 +38,13 @@ writable_present m a count h = by_test (present m a count) refl where
 
 -- ---- one place, and those that are left
 
-both_parts : (a b : Bool) → (a && b) ≡ true → (a ≡ true) × (b ≡ true)
-both_parts true b h = (refl, h)
-both_parts false b h = absurd (false≢true h)
-
-left : (places : List ℕ) (i : ℕ) → i < length places → drop i places ≡ get_or places i 0 ∷ drop (i + 1) places
-left places i below = rw (add-one, drop-cons places i 0)
-
 parts : (m : Memory) (place : ℕ) (rest : List ℕ) → all_writable m (place ∷ rest) ≡ true → (writable m place 4 ≡ true) × (all_writable m rest ≡ true)
 unfolding all_writable
-parts m place rest h = both_parts (writable m place 4) (all_writable m rest) h
+parts m place rest h = and_parts (writable m place 4) (all_writable m rest) h
 
 pub next_place : (m : Memory) (places : List ℕ) (i : ℕ) → i < length places → all_writable m (drop i places) ≡ true →
     (writable m (get_or places i 0) 4 ≡ true) × (all_writable m (drop (i + 1) places) ≡ true)
-next_place m places i below h = parts m (get_or places i 0) (drop (i + 1) places) (ap (all_writable m) (sym (left places i below)) ∙ h)
+next_place m places i below h = parts m (get_or places i 0) (drop (i + 1) places) (ap (all_writable m) (sym (drop_more places i 0 below)) ∙ h)
 
 pub allowed_after : (a : ℕ) (bs : List ℕ) (m : Memory) (places : List ℕ) → all_writable m places ≡ true → all_writable (stored a bs m) places ≡ true
 allowed_after a bs m places h = all_writable-stored a bs m places ∙ h
@@ -62,7 +56,7 @@ one_stored bs m place rest = refl
 pub next_stored : (bs : List ℕ) (m : Memory) (places : List ℕ) (i : ℕ) → i < length places →
     stored_at_each (drop (i + 1) places) bs (stored (get_or places i 0) bs m) ≡ stored_at_each (drop i places) bs m
 next_stored bs m places i below =
-    sym (ap (λ (ps : List ℕ). stored_at_each ps bs m) (left places i below) ∙ one_stored bs m (get_or places i 0) (drop (i + 1) places))
+    sym (ap (λ (ps : List ℕ). stored_at_each ps bs m) (drop_more places i 0 below) ∙ one_stored bs m (get_or places i 0) (drop (i + 1) places))
 
 none_left : (bs : List ℕ) (m : Memory) (rest : List ℕ) → rest ≡ [] → stored_at_each rest bs m ≡ m
 unfolding stored_at_each

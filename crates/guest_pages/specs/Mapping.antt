@@ -2,6 +2,7 @@
 use Rattle.std.specs.Prelude.{◌≡◌, ℕ, zero, suc, ◌+◌, ◌*◌, ◌<◌, ◌≤◌, Bool, ◌||◌, if◌then◌else◌, List, [], ◌∷◌, ◌++◌, length, Option, Some, None, is_some, slice_index, ◌==◌, IsSomeAnd, Contains}
 use Rattle.std.specs.List.{list_any}
 use Rattle.std.specs.List.Sorted.{IsStrictlyIncreasing}
+use Rattle.rrv_model.specs.declared.limits.TheConstants.{MAX_PAGES}
 use Rattle.rrv_model.specs.declared.machine.Permissions.{Permissions}
 use Rattle.rrv_model.specs.Memory.{Memory, Cell, is_within, page_bytes, page_count}
 use Rattle.guest_pages.specs.declared.page.Page.{Page}
@@ -13,8 +14,8 @@ use Rattle.guest_pages.specs.Space.{page_at}
 abbrev pub IsMapRefusal : Memory → PageFault → Type 0
 IsMapRefusal after faults.NotMapped = ⊥
 IsMapRefusal after faults.NotAllowed = ⊥
-IsMapRefusal after faults.TooManyPages = 16_384 < page_count after
-IsMapRefusal after faults.Memory = page_count after ≤ 16_384
+IsMapRefusal after faults.TooManyPages = MAX_PAGES < page_count after
+IsMapRefusal after faults.Memory = page_count after ≤ MAX_PAGES
 
 -- ---- a page for a loaded range
 
@@ -27,14 +28,16 @@ covered_cell permissions (Some c) = record c { permissions = union c.permissions
 
 -- page p is there, with these permissions too
 abbrev pub covered : ℕ → Permissions → Memory → Memory
-covered p permissions m x = if is_within (p * page_bytes) page_bytes x then Some (covered_cell permissions (m x)) else m x
+covered p permissions m x =
+    if is_within (p * page_bytes) page_bytes x then Some (covered_cell permissions (m x)) else m x
 
 -- ---- the steps of a mapping
 
 -- the numbers of count pages from first at which there is none
 unfoldable pub missing : List (ℕ × Page) → ℕ → ℕ → List ℕ
 missing pages first zero = []
-missing pages first (suc count) = missing pages first count ++ (if is_some (page_at pages (first + count)) then [] else (first + count) ∷ [])
+missing pages first (suc count) =
+    missing pages first count ++ (if is_some (page_at pages (first + count)) then [] else (first + count) ∷ [])
 
 abbrev pub has_number : List ℕ → ℕ → Bool
 has_number numbers q = list_any (λ n. n == q) numbers

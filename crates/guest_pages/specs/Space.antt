@@ -8,6 +8,7 @@ use Rattle.std.specs.List.Sorted.{IsStrictlySortedBy}
 use Rattle.std.specs.Int.{w8, w16, w32, from_le_bytes}
 use Rattle.rrv_model.specs.Memory.{Memory, Cell, readable, writable, executable, all_cells, can_read, can_write, can_execute, bytes_at, page_bytes}
 use Rattle.rrv_model.specs.Step.{word_at}
+use Rattle.rrv_model.specs.declared.limits.TheConstants.{MAX_PAGES}
 use Rattle.guest_pages.specs.declared.page.Page.{Page}
 use Rattle.guest_pages.specs.declared.page.Access.{Access}
 use Rattle.guest_pages.specs.declared.page.Access.TheVariants as accesses
@@ -59,7 +60,7 @@ pub record IsPage (n : ℕ) (p : Page) : Type 0 where
 pub record ArePages (pages : List (ℕ × Page)) : Type 0 where
   pub ordered : IsStrictlySortedBy nat_cmp (keys_of pages)
   pub each : (n : ℕ) → IfSome (page_at pages n) (IsPage n)
-  pub limit : length pages ≤ 16_384
+  pub limit : length pages ≤ MAX_PAGES
 
 -- ---- what is loaded
 
@@ -112,6 +113,7 @@ IsLoadRefusal m a count faults.NotAllowed = (present m a count ≡ true) × (rea
 IsLoadRefusal m a count faults.TooManyPages = ⊥
 IsLoadRefusal m a count faults.Memory = ⊥
 
--- a fill of count bytes from a takes no memory: they are there, in pages that the space has for itself, as it has all of its pages
+-- a fill of count bytes from a takes no memory: they are there, in pages that the space has for itself,
+-- as it has all of its pages
 abbrev pub CanFill : SpaceValue → ℕ → ℕ → Type 0
 CanFill s a count = IsTrue (present (memory_of s) a count)

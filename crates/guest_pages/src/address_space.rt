@@ -1,6 +1,7 @@
 //! The address space.
 
 ghost use Rattle.std.specs.Prelude.{◌≡◌, ◌≢◌, ℕ, ◌+◌, ◌<◌, ◌≤◌, ◌^◌, OnOk, OnErr, IfErr, IfOk, IsTrue, IsSome, IsSomeAnd, Some, None, true, false, length, slice_index, ◌%◌, ◌*◌, ◌↔◌};
+ghost use Rattle.std.specs.Result.{IsErrOf};
 ghost use Rattle.std.specs.Int.{w8, w16, w32, to_le_bytes};
 ghost use Rattle.rrv_model.specs.Memory.{all_free, all_mapped, byte_or_zero, bytes_at, highest_free_up_to, mapped, no_memory, page_bytes, protected, readable, unmapped, writable, all_cells, stored, page_count, is_mapped, IsMemory};
 ghost use Rattle.guest_pages.specs.Space.{memory_of, memory_in, snapshots_of, fetched_word, loaded_byte, loaded_half, loaded_word, cell_byte, page_at, page_passes, test_of, present, CanFill, IsLoadRefusal, IsStoreRefusal};
@@ -78,8 +79,10 @@ impl Space {
         requires low { 1 ≤ page }
         requires high { page + count ≤ 0x80000 }
         requires readable { IsTrue permissions.write → IsTrue permissions.read }
-        ensures mapped { OnOk result (memory_of self.new ≡ mapped (page * page_bytes) (count * page_bytes) permissions (memory_of self.old)) }
-        ensures refused { IfErr result (IsMapRefusal (mapped (page * page_bytes) (count * page_bytes) permissions (memory_of self.old))) }
+        ensures mapped { OnOk result (memory_of self.new
+            ≡ mapped (page * page_bytes) (count * page_bytes) permissions (memory_of self.old)) }
+        ensures refused { IfErr result (IsMapRefusal
+            (mapped (page * page_bytes) (count * page_bytes) permissions (memory_of self.old))) }
         ensures err { OnErr result (self.new ≡ self.old) }
         ensures grows { OnErr result (all_mapped (memory_of self.old) page count ≡ false) }
         ensures snapshots { snapshots_of self.new ≡ snapshots_of self.old }
@@ -117,8 +120,10 @@ impl Space {
         requires low { page + count < 2 ^ 32 }
         requires readable { IsTrue permissions.write → IsTrue permissions.read }
         ensures allowed { OnOk result (IsTrue (all_mapped (memory_of self.old) page count)) }
-        ensures protected { OnOk result (memory_of self.new ≡ protected (page * page_bytes) (count * page_bytes) permissions (memory_of self.old)) }
-        ensures refused { IfErr result (λ fault. (fault ≡ PageFault.NotMapped) × (all_mapped (memory_of self.old) page count ≡ false)) }
+        ensures protected { OnOk result (memory_of self.new
+            ≡ protected (page * page_bytes) (count * page_bytes) permissions (memory_of self.old)) }
+        ensures refused { IfErr result (λ fault. (fault ≡ PageFault.NotMapped)
+            × (all_mapped (memory_of self.old) page count ≡ false)) }
         ensures err { OnErr result (self.new ≡ self.old) }
         ensures snapshots { snapshots_of self.new ≡ snapshots_of self.old }
     {
@@ -186,15 +191,15 @@ impl Space {
     }
 
     /// Puts a page with its permissions and bytes, as [`Space::page`] reads one, in place of what was there; None unmaps it.
-    /// Refused with TooManyPages where more than 16,384 pages would be mapped, else with Memory where a growth is refused.
-    /// Where the page is mapped already, or is unmapped, it takes no memory, and is not refused.
+    /// Refused with TooManyPages where more than 16,384 pages would be mapped, which is only where the page wasn't mapped;
+    /// else with Memory where a growth is refused, which may be over a mapped page too. To unmap is never refused.
     pub fn set_page(&mut self, number: u32, page: Option<PageView<'_>>) -> Result<(), PageFault>
         requires { MayHave number page }
         ensures set { OnOk result (memory_of self.new ≡ with_page number page.entry (memory_of self.old)) }
         ensures refused { IfErr result (IsMapRefusal (with_page number page.entry (memory_of self.old))) }
         ensures err { OnErr result (self.new ≡ self.old) }
         ensures some { OnErr result (IsSome page.entry) }
-        ensures grows { OnErr result (is_mapped (memory_of self.old) number ≡ false) }
+        ensures too_many { IsErrOf result PageFault.TooManyPages → is_mapped (memory_of self.old) number ≡ false }
         ensures snapshots { snapshots_of self.new ≡ snapshots_of self.old }
     {
         let Some(page) = page else {
@@ -333,7 +338,8 @@ impl Space {
         requires low { address < 2 ^ 32 }
         requires there { IsSome (memory_of self.now address) }
         requires fits { address % 4096 + length into.old ≤ 4096 }
-        ensures { (k : ℕ) → k < length into.old → slice_index into.new k ≡ byte_or_zero (memory_of self.now (address + k)) }
+        ensures { (k : ℕ) → k < length into.old → slice_index into.new k
+            ≡ byte_or_zero (memory_of self.now (address + k)) }
     {
         let Some(page) = self.pages.get(&((address / 4096) as u32)) else {
             unreachable!();
@@ -420,7 +426,8 @@ impl Space {
     #[tactic(auto, using(crate::proofs::Cells::writes_in_page, crate::proofs::Cells::is_in_page))]
     pub fn store_half(&mut self, address: u32, value: u16) -> Result<(), PageFault>
         ensures allowed { OnOk result (IsTrue (writable (memory_of self.old) address 2)) }
-        ensures stored { OnOk result (memory_of self.new ≡ stored address (to_le_bytes w16 value) (memory_of self.old)) }
+        ensures stored { OnOk result (memory_of self.new
+            ≡ stored address (to_le_bytes w16 value) (memory_of self.old)) }
         ensures refused { IfErr result (IsStoreRefusal (memory_of self.old) address 2) }
         ensures err { OnErr result (self.new ≡ self.old) }
         ensures snapshots { snapshots_of self.new ≡ snapshots_of self.old }
@@ -444,7 +451,8 @@ impl Space {
     #[tactic(auto, using(crate::proofs::Cells::writes_in_page, crate::proofs::Cells::is_in_page))]
     pub fn store_word(&mut self, address: u32, value: u32) -> Result<(), PageFault>
         ensures allowed { OnOk result (IsTrue (writable (memory_of self.old) address 4)) }
-        ensures stored { OnOk result (memory_of self.new ≡ stored address (to_le_bytes w32 value) (memory_of self.old)) }
+        ensures stored { OnOk result (memory_of self.new
+            ≡ stored address (to_le_bytes w32 value) (memory_of self.old)) }
         ensures refused { IfErr result (IsStoreRefusal (memory_of self.old) address 4) }
         ensures err { OnErr result (self.new ≡ self.old) }
         ensures snapshots { snapshots_of self.new ≡ snapshots_of self.old }
@@ -620,8 +628,10 @@ impl Space {
 
     fn pages_pass(&self, first: u32, last: u32, access: Access) -> bool
         requires { last < 2 ^ 21 }
-        ensures all { result ≡ true → (n : ℕ) → first ≤ n → n ≤ last → page_passes (test_of access) (page_at self.now.pages n) ≡ true }
-        ensures one { result ≡ false → (n : ℕ) × (first ≤ n) × (n ≤ last) × (page_passes (test_of access) (page_at self.now.pages n) ≡ false) }
+        ensures all { result ≡ true → (n : ℕ) → first ≤ n → n ≤ last →
+            page_passes (test_of access) (page_at self.now.pages n) ≡ true }
+        ensures one { result ≡ false → (n : ℕ) × (first ≤ n) × (n ≤ last)
+            × (page_passes (test_of access) (page_at self.now.pages n) ≡ false) }
     {
         for number in first..last + 1 {
             if !self.page_passes(number, access) {

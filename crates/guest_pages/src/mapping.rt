@@ -25,7 +25,7 @@ pub(crate) fn clear_page(alloc: Global, permissions: Permissions) -> Result<Page
 }
 
 /// How many of some pages aren't there.
-#[tactic(auto, using(crate::proofs::Missing::missing_more, crate::proofs::Missing::missing_none))]
+#[tactic(auto, using(crate::proofs::MissingPages::missing_more, crate::proofs::MissingPages::missing_none))]
 pub(crate) fn count_missing(pages: &BTreeMap<u32, Page>, first: u32, count: u32) -> u32
     requires { first + count < 2 ^ 32 }
     ensures { result ≡ length (missing pages.now.entries first count) }
@@ -41,7 +41,7 @@ pub(crate) fn count_missing(pages: &BTreeMap<u32, Page>, first: u32, count: u32)
 }
 
 /// The numbers of the pages that aren't there, rising. It takes no memory where all are there.
-#[tactic(auto, using(crate::proofs::Missing::missing_more, crate::proofs::Missing::missing_none, crate::proofs::Ranges::one_absent))]
+#[tactic(auto, using(crate::proofs::MissingPages::missing_more, crate::proofs::MissingPages::missing_none, crate::proofs::Ranges::one_absent))]
 pub(crate) fn list_missing(
     alloc: Global,
     pages: &BTreeMap<u32, Page>,
@@ -72,7 +72,8 @@ pub(crate) fn add_pages(
     requires absent { (q : ℕ) → has_number numbers.now q ≡ true → page_at pages.old.entries q ≡ None }
     requires ordered { IsStrictlySortedBy nat_cmp (keys_of pages.old.entries) }
     ensures added { OnOk result ((q : ℕ) → has_number numbers.now q ≡ true → IsSome (page_at pages.new.entries q)) }
-    ensures kept { OnOk result ((q : ℕ) → has_number numbers.now q ≡ false → page_at pages.new.entries q ≡ page_at pages.old.entries q) }
+    ensures kept { OnOk result ((q : ℕ) → has_number numbers.now q ≡ false →
+        page_at pages.new.entries q ≡ page_at pages.old.entries q) }
     ensures ordered { IsStrictlySortedBy nat_cmp (keys_of pages.new.entries) }
     ensures err { OnErr result (pages.new.entries ≡ pages.old.entries) }
     ensures grows { OnErr result (1 ≤ length numbers.now) }
@@ -127,7 +128,8 @@ pub(crate) fn insert_page(
 /// Gives a page that is there the permissions and the bytes of another.
 pub(crate) fn overwrite_page(pages: &mut BTreeMap<u32, Page>, number: u32, page: PageView<'_>)
     requires { IsStrictlySortedBy nat_cmp (keys_of pages.old.entries) }
-    ensures here { IsSome (page_at pages.old.entries number) → IsSomeAnd (page_at pages.new.entries number) (IsCopyOf page.entry) }
+    ensures here { IsSome (page_at pages.old.entries number) →
+        IsSomeAnd (page_at pages.new.entries number) (IsCopyOf page.entry) }
     ensures others { (q : ℕ) → q ≢ number → page_at pages.new.entries q ≡ page_at pages.old.entries q }
     ensures ordered { IsStrictlySortedBy nat_cmp (keys_of pages.new.entries) }
     ensures len { length pages.new.entries ≡ length pages.old.entries }
@@ -155,7 +157,8 @@ fn overwrite_bytes(bytes: &mut [u8; 4096], from: &[u8; 4096])
 fn remove_pages(pages: &mut BTreeMap<u32, Page>, numbers: &[u32])
     requires { IsStrictlySortedBy nat_cmp (keys_of pages.old.entries) }
     ensures removed { (q : ℕ) → has_number numbers.now q ≡ true → page_at pages.new.entries q ≡ None }
-    ensures kept { (q : ℕ) → has_number numbers.now q ≡ false → page_at pages.new.entries q ≡ page_at pages.old.entries q }
+    ensures kept { (q : ℕ) → has_number numbers.now q ≡ false →
+        page_at pages.new.entries q ≡ page_at pages.old.entries q }
     ensures ordered { IsStrictlySortedBy nat_cmp (keys_of pages.new.entries) }
 {
     for number in numbers {
@@ -172,7 +175,8 @@ pub(crate) fn clear_pages(
 )
     requires low { first + count < 2 ^ 32 }
     requires ordered { IsStrictlySortedBy nat_cmp (keys_of pages.old.entries) }
-    ensures cleared { (q : ℕ) → first ≤ q → q < first + count → IsSome (page_at pages.old.entries q) → IsSomeAnd (page_at pages.new.entries q) (IsClear permissions) }
+    ensures cleared { (q : ℕ) → first ≤ q → q < first + count → IsSome (page_at pages.old.entries q) →
+        IsSomeAnd (page_at pages.new.entries q) (IsClear permissions) }
     ensures below { (q : ℕ) → q < first → page_at pages.new.entries q ≡ page_at pages.old.entries q }
     ensures above { (q : ℕ) → first + count ≤ q → page_at pages.new.entries q ≡ page_at pages.old.entries q }
     ensures ordered { IsStrictlySortedBy nat_cmp (keys_of pages.new.entries) }
@@ -184,7 +188,8 @@ pub(crate) fn clear_pages(
 
 fn clear_number(pages: &mut BTreeMap<u32, Page>, number: u32, permissions: Permissions)
     requires { IsStrictlySortedBy nat_cmp (keys_of pages.old.entries) }
-    ensures here { IsSome (page_at pages.old.entries number) → IsSomeAnd (page_at pages.new.entries number) (IsClear permissions) }
+    ensures here { IsSome (page_at pages.old.entries number) →
+        IsSomeAnd (page_at pages.new.entries number) (IsClear permissions) }
     ensures others { (q : ℕ) → q ≢ number → page_at pages.new.entries q ≡ page_at pages.old.entries q }
     ensures ordered { IsStrictlySortedBy nat_cmp (keys_of pages.new.entries) }
 {
@@ -208,7 +213,8 @@ pub(crate) fn join_permissions(
     permissions: Permissions,
 )
     requires { IsStrictlySortedBy nat_cmp (keys_of pages.old.entries) }
-    ensures here { (p : Page) → page_at pages.old.entries number ≡ Some p → IsSomeAnd (page_at pages.new.entries number) (IsJoined permissions p) }
+    ensures here { (p : Page) → page_at pages.old.entries number ≡ Some p →
+        IsSomeAnd (page_at pages.new.entries number) (IsJoined permissions p) }
     ensures others { (q : ℕ) → q ≢ number → page_at pages.new.entries q ≡ page_at pages.old.entries q }
     ensures ordered { IsStrictlySortedBy nat_cmp (keys_of pages.new.entries) }
     ensures len { length pages.new.entries ≡ length pages.old.entries }
@@ -263,7 +269,8 @@ pub(crate) fn protect_range(
 )
     requires low { first + count < 2 ^ 32 }
     requires ordered { IsStrictlySortedBy nat_cmp (keys_of pages.old.entries) }
-    ensures protected { (q : ℕ) → first ≤ q → q < first + count → AreProtected permissions (page_at pages.old.entries q) (page_at pages.new.entries q) }
+    ensures protected { (q : ℕ) → first ≤ q → q < first + count →
+        AreProtected permissions (page_at pages.old.entries q) (page_at pages.new.entries q) }
     ensures below { (q : ℕ) → q < first → page_at pages.new.entries q ≡ page_at pages.old.entries q }
     ensures above { (q : ℕ) → first + count ≤ q → page_at pages.new.entries q ≡ page_at pages.old.entries q }
     ensures ordered { IsStrictlySortedBy nat_cmp (keys_of pages.new.entries) }
@@ -304,8 +311,10 @@ pub(crate) fn all_there(pages: &BTreeMap<u32, Page>, first: u32, count: u32) -> 
 #[tactic(auto, using(crate::proofs::Facts::is_mapped_in))]
 pub(crate) fn first_there(pages: &BTreeMap<u32, Page>, first: u32, count: u32) -> Option<u32>
     requires { first + count < 2 ^ 32 }
-    ensures some { IfSome result (λ number. (first ≤ number) × (number < first + count) × (is_mapped (memory_in pages.now.entries) number ≡ true)) }
-    ensures none { IfNone result ((q : ℕ) → first ≤ q → q < first + count → is_mapped (memory_in pages.now.entries) q ≡ false) }
+    ensures some { IfSome result (λ number. (first ≤ number) × (number < first + count)
+        × (is_mapped (memory_in pages.now.entries) number ≡ true)) }
+    ensures none { IfNone result ((q : ℕ) → first ≤ q → q < first + count →
+        is_mapped (memory_in pages.now.entries) q ≡ false) }
 {
     for number in first..first + count {
         if pages.contains_key(&number) {
@@ -328,8 +337,10 @@ pub(crate) fn view_page(pages: &BTreeMap<u32, Page>, number: u32) -> Option<Page
 
 /// Whether two maps have the same pages.
 pub(crate) fn same_pages(pages: &BTreeMap<u32, Page>, others: &BTreeMap<u32, Page>) -> bool
-    ensures all { result ≡ true → (q : ℕ) → q < 0x80000 → SamePage (page_at pages.now.entries q) (page_at others.now.entries q) }
-    ensures one { result ≡ false → (q : ℕ) × (SamePage (page_at pages.now.entries q) (page_at others.now.entries q) → ⊥) }
+    ensures all { result ≡ true → (q : ℕ) → q < 0x80000 →
+        SamePage (page_at pages.now.entries q) (page_at others.now.entries q) }
+    ensures one { result ≡ false → (q : ℕ)
+        × (SamePage (page_at pages.now.entries q) (page_at others.now.entries q) → ⊥) }
 {
     for number in 0..0x80000 {
         if !same_at(pages, others, number) {
@@ -347,7 +358,8 @@ pub(crate) fn list_changed(
 ) -> Result<Vec<u32>, AllocError>
     ensures listed { IfOk result (λ numbers.
         ListsOthers (SameAt pages.now.entries others.now.entries) 0x80000 numbers.items) }
-    ensures grows { OnErr result ((q : ℕ) × (SamePage (page_at pages.now.entries q) (page_at others.now.entries q) → ⊥)) }
+    ensures grows { OnErr result ((q : ℕ)
+        × (SamePage (page_at pages.now.entries q) (page_at others.now.entries q) → ⊥)) }
 {
     let mut numbers = Vec::new(alloc);
     for number in 0..0x80000 {
@@ -361,7 +373,8 @@ pub(crate) fn list_changed(
 
 fn same_at(pages: &BTreeMap<u32, Page>, others: &BTreeMap<u32, Page>, number: u32) -> bool
     ensures same { result ≡ true → SamePage (page_at pages.now.entries number) (page_at others.now.entries number) }
-    ensures differ { result ≡ false → SamePage (page_at pages.now.entries number) (page_at others.now.entries number) → ⊥ }
+    ensures differ { result ≡ false →
+        SamePage (page_at pages.now.entries number) (page_at others.now.entries number) → ⊥ }
 {
     let Some(page) = pages.get(&number) else {
         return !others.contains_key(&number);

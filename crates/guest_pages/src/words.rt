@@ -14,7 +14,8 @@ impl Space {
     /// them, or where a growth is refused at none. To store at no place is never refused.
     pub fn store_words(&mut self, places: &[u32], word: u32) -> Result<(), Memory>
         requires { IsTrue (all_writable (memory_of self.old) places.now) }
-        ensures stored { OnOk result (memory_of self.new ≡ stored_at_each places.now (to_le_bytes w32 word) (memory_of self.old)) }
+        ensures stored { OnOk result (memory_of self.new
+            ≡ stored_at_each places.now (to_le_bytes w32 word) (memory_of self.old)) }
         ensures some { OnErr result (1 ≤ length places.now) }
         ensures err { OnErr result (self.new ≡ self.old) }
         ensures snapshots { snapshots_of self.new ≡ snapshots_of self.old }

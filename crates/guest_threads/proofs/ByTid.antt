@@ -13,6 +13,7 @@ use Rattle.std.specs.Cmp.{nat_cmp_total, eq_by_cmp_equiv}
 use Rattle.std.specs.Map.{lookup, keys_of, values_of}
 use Rattle.std.specs.BTreeMap.{is_at}
 use Rattle.std.specs.FinMap.{get, insert, remove, len, find, get-from_entries, get-insert, get-remove, len-empty, len-insert, same_map, nat_cmp-IsAntisymmetric}
+use Rattle.std.proofs.Math.Bool.{or-true}
 use Rattle.rrv_model.specs.declared.machine.Thread.{Thread}
 use Rattle.rrv_model.specs.State.{IsRunning}
 use Rattle.rrv_model.proofs.ThreadRules.{same_tid, tied}
@@ -70,10 +71,6 @@ runs_is t e = none_is t.waits_at e where
 pub is_runs : (t : Thread) → t.waits_at ≡ None → runs t ≡ true
 is_runs t e = ap is_none e
 
-or_right : (b : Bool) → b || true ≡ true
-or_right true = refl
-or_right false = refl
-
 -- a thread that a later entry has
 later : (x : ℕ × Thread) (es : List (ℕ × Thread)) → IsStrictlySortedBy nat_cmp (keys_of (x ∷ es)) → (tid : ℕ) (b : Bool) → is_at (nat_cmp tid) x.0 ≡ b →
     IsRunning (entry_at es tid) → IsRunning (cond b (Some x.1) (entry_at es tid))
@@ -95,7 +92,7 @@ some_runs (x ∷ es) h e = either x es h (runs x.1) (list_any runs (values_of es
 
 joins : (x : ℕ × Thread) (o : Option Thread) (a b : Bool) → IsRunning (cond a (Some x.1) o) → (IsRunning o → b ≡ true) → runs x.1 || b ≡ true
 joins x o true b r f = ap (λ c. c || b) (is_runs x.1 r)
-joins x o false b r f = ap (λ c. runs x.1 || c) (f r) ∙ or_right (runs x.1)
+joins x o false b r f = ap (λ c. runs x.1 || c) (f r) ∙ or-true (runs x.1)
 
 pub runs_some : (es : List (ℕ × Thread)) (tid : ℕ) → IsRunning (entry_at es tid) → list_any runs (values_of es) ≡ true
 runs_some [] tid r = absurd r

@@ -2,4 +2,4 @@ pub mod ByTid
 pub mod RunningTids
 pub mod SameThreads
 pub mod Waking
-pub mod ToldThreads
+pub mod ThreadsOfParts

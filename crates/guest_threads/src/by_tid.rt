@@ -109,6 +109,7 @@ pub(crate) fn put_clear(threads: &mut BTreeMap<u32, Thread>, tid: u32, address: 
 pub(crate) fn same_threads(threads: &BTreeMap<u32, Thread>, others: &BTreeMap<u32, Thread>) -> bool
     ensures { IsTrue result ↔ (thread_map threads.now.entries ≡ thread_map others.now.entries) }
 {
+    // the tids of both rise, which a map's length tells
     let _ordered = threads.len();
     let _other_ordered = others.len();
     *threads == *others
@@ -124,6 +125,7 @@ fn any_without_wait(threads: &BTreeMap<u32, Thread>) -> bool
 pub(crate) fn some_thread_runs(threads: &BTreeMap<u32, Thread>) -> bool
     ensures { IsTrue result ↔ ((tid : ℕ) × IsRunning (get (thread_map threads.now.entries) tid)) }
 {
+    // the tids rise, which a map's length tells
     let _ordered = threads.len();
     any_without_wait(threads)
 }
@@ -154,6 +156,7 @@ pub(crate) fn running_tids(
         → Contains tids.items tid ↔ IsRunning (get (thread_map threads.now.entries) tid)) }
     ensures memory { OnErr result ((tid : ℕ) × IsRunning (get (thread_map threads.now.entries) tid)) }
 {
+    // the tids rise, which a map's length tells
     let _ordered = threads.len();
     let tids = list_running(alloc, threads)?;
     Ok(tids)

@@ -118,6 +118,7 @@ fn is_thread(thread: &Thread) -> bool
     ensures { IsTrue result ↔ IsThread thread.now }
 {
     is_place(thread.waits_at);
+    // it is below 2^32, which reading it tells
     let _clear = thread.clear;
     are_regs(&thread.regs)
 }
@@ -127,6 +128,7 @@ fn are_regs(regs: &Regs) -> bool
     ensures { IsTrue result ↔ AreRegs regs.now }
 {
     are_words(&regs.registers);
+    // it is below 2^32, which reading it tells
     let _pc = regs.pc;
     regs.registers[0] == 0
 }

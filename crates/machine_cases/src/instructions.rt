@@ -12,7 +12,7 @@ use std::alloc::Global;
 /// Where the instruction stands.
 const CODE: u32 = 0x1_0000;
 
-/// Where the word of data stands.
+/// Where the word of data stands, unless a line says so.
 const DATA: u32 = 0x1_1000;
 
 /// A hart and its word of data: before a step, or behind it.
@@ -21,6 +21,8 @@ struct State {
     pc: u32,
     /// a0 to a3.
     arguments: [u32; 4],
+    /// Where the word of data stands.
+    at: u32,
     data: u32,
     reserved: Reservation,
 }
@@ -67,6 +69,7 @@ fn with_value(mut state: State, name: &str, value: &str) -> Option<State> {
         "a1" => state.arguments[1] = number(value)?,
         "a2" => state.arguments[2] = number(value)?,
         "a3" => state.arguments[3] = number(value)?,
+        "at" => state.at = number(value)?,
         "data" => state.data = number(value)?,
         "reserved" => state.reserved = number_or_none(value)?,
         _ => return None,
@@ -79,6 +82,7 @@ fn state_of(text: &str) -> Option<State> {
     let mut state = State {
         pc: CODE,
         arguments: [0; 4],
+        at: DATA,
         data: 0,
         reserved: None,
     };
@@ -142,7 +146,7 @@ fn regs_of(state: &State) -> Regs
 }
 
 /// The pages of the instruction and the data.
-fn space_of(alloc: Global, word: u32, data: u32) -> Option<Space> {
+fn space_of(alloc: Global, word: u32, before: &State) -> Option<Space> {
     let all = Permissions {
         read: true,
         write: true,
@@ -151,20 +155,20 @@ fn space_of(alloc: Global, word: u32, data: u32) -> Option<Space> {
     let mut space = Space::new(alloc);
     space.map(CODE / 4096, 2, all).ok()?;
     space.store_word(CODE, word).ok()?;
-    space.store_word(DATA, data).ok()?;
+    space.store_word(before.at, before.data).ok()?;
     Some(space)
 }
 
 /// One step of a word; None where no memory is left.
 fn outcome_of(alloc: Global, word: u32, before: &State) -> Option<Outcome> {
-    let mut space = space_of(alloc, word, before.data)?;
+    let mut space = space_of(alloc, word, before)?;
     let mut regs = regs_of(before);
     let mut reserved = before.reserved;
     let end = step(&mut regs, &mut space, &mut reserved).ok()?;
     Some(Outcome {
         end,
         regs,
-        data: space.load_word(DATA)?,
+        data: space.load_word(before.at)?,
         reserved,
     })
 }

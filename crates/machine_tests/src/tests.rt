@@ -9,6 +9,7 @@ mod opening;
 mod pages;
 mod rows;
 mod snapshots;
+mod texts;
 mod threads;
 
 use rrv_model::machine::Permissions;

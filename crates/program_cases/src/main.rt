@@ -1,5 +1,6 @@
-//! Goes through lines of the program, which come as lines of text: `WORDS = FILES` has the words of a line, and the files whose
-//! bytes, one behind the other, it has to print. Prints each line that does not hold, and last how many there were.
+//! Goes through lines of the program, which come as lines of text: `WORDS = FILES` has the words of a line, and the
+//! files whose bytes, one behind the other, it has to print. Prints each line that does not hold, and last how many
+//! there were.
 #![tactic(auto)]
 
 use commands::run;

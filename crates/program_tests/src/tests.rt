@@ -4,4 +4,5 @@ mod kit;
 mod lines;
 mod recordings;
 mod refusals;
+mod streams;
 mod texts;

@@ -15,6 +15,9 @@ pub mod SettledLaws
 pub mod StoreCallLaws
 pub mod RecoveredLaws
 pub mod StoreLaws
+pub mod Lists
+pub mod Names
+pub mod ElfLaws
 pub mod FreePlaces
 pub mod WordValues
 pub mod MemoryRules
@@ -30,3 +33,5 @@ pub mod PageCounts
 pub mod AcceptedFile
 pub mod OpeningMemory
 pub mod OpeningState
+pub mod Threads
+pub mod Results

@@ -58,7 +58,7 @@ pages_none (suc k) n m h =
 
 -- ---- which pages are mapped
 
-is_some-with_byte : (b : ℕ) (c : Option Cell) → is_some (with_byte b c) ≡ is_some c
+pub is_some-with_byte : (b : ℕ) (c : Option Cell) → is_some (with_byte b c) ≡ is_some c
 is_some-with_byte b None = refl
 is_some-with_byte b (Some c) = refl
 
@@ -66,11 +66,14 @@ pub is_some-if : (t : Bool) (c d : Option Cell) → is_some c ≡ is_some d → 
 is_some-if true c d e = e
 is_some-if false c d e = refl
 
--- storing keeps which pages are mapped
-pub is_mapped-stored : (a : ℕ) (bytes : List ℕ) (m : Memory) (p : ℕ) → is_mapped (stored a bytes m) p ≡ is_mapped m p
-is_mapped-stored a bytes m p =
-    let x = p * page_bytes in
+-- storing keeps which bytes are there
+pub is_some-stored : (a : ℕ) (bytes : List ℕ) (m : Memory) (x : ℕ) → is_some (stored a bytes m x) ≡ is_some (m x)
+is_some-stored a bytes m x =
     is_some-if (is_within a (length bytes) x) (with_byte (slice_index bytes (x - a)) (m x)) (m x) (is_some-with_byte (slice_index bytes (x - a)) (m x))
+
+-- and which pages are mapped
+pub is_mapped-stored : (a : ℕ) (bytes : List ℕ) (m : Memory) (p : ℕ) → is_mapped (stored a bytes m) p ≡ is_mapped m p
+is_mapped-stored a bytes m p = is_some-stored a bytes m (p * page_bytes)
 
 is_some-some_if : (t : Bool) (c : Cell) (d : Option Cell) → t ≡ false → is_some (if t then Some c else d) ≡ is_some d
 is_some-some_if true c d e = cc

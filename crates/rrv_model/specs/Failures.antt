@@ -1,5 +1,5 @@
 -- Counts of failures. A device and a sink count each call that failed; the count stays at the greatest number of 64 bits.
-use Rattle.std.specs.Prelude.{◌≡◌, ℕ, ◌+◌, ◌-◌, ◌^◌, ◌≤◌, min, Result, MatchResult}
+use Rattle.std.specs.Prelude.{◌≡◌, ℕ, ◌+◌, ◌-◌, ◌^◌, min, Result, MatchResult}
 
 abbrev pub one_more : ℕ → ℕ
 one_more count = min (count + 1) (2 ^ 64 - 1)
@@ -8,6 +8,6 @@ one_more count = min (count + 1) (2 ^ 64 - 1)
 abbrev pub IsCounted : {T E : Type 0} → Result T E → ℕ → ℕ → Type 0
 IsCounted result old new = MatchResult result (λ _. new ≡ old) (λ _. new ≡ one_more old)
 
--- There was a failure in between. At the greatest number the count can't show it.
+-- One call failed in between, and no other: at the greatest number the count can't show it.
 abbrev pub HasFailed : ℕ → ℕ → Type 0
-HasFailed old new = one_more old ≤ new
+HasFailed old new = new ≡ one_more old

@@ -119,6 +119,10 @@ opening_state file name random = record {
   ended = None;
 }
 
+-- a printed byte that is no space
+abbrev pub is_graphic : ℕ → Bool
+is_graphic b = nat_le 0x21 b && nat_le b 0x7E
+
 -- a guest's name
 abbrev pub IsName : List ℕ → Type 0
 IsName name = (1 ≤ length name) × (length name ≤ MAX_NAME) × All (λ b. (0x21 ≤ b) × (b ≤ 0x7E)) name

@@ -6,6 +6,7 @@ pub mod instr;
 pub mod laws;
 pub mod limits;
 pub mod machine;
+pub mod name;
 pub mod record;
 pub mod refusal;
 pub mod sequence;

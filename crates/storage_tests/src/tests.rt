@@ -13,6 +13,7 @@ mod limits;
 mod logs;
 mod machine;
 mod rows;
+mod texts;
 mod worked;
 
 /// Ends the test where something else is found than wanted. An assertion costs its proof wherever it stands; this one stands once.

@@ -1,5 +1,6 @@
 -- A disk of which one call fails.
 use Rattle.std.specs.Prelude.{◌≡◌, ◌≢◌, ℕ, ◌-◌, Bool, true, Result, IsErr}
+use Rattle.rrv_model.specs.DiskCalls.{counted_if}
 use Rattle.rrv_model.specs.Failures.{IsCounted}
 
 -- The disk, how many device calls are left up to the one that fails, that one counted (0: none fails any more), and
@@ -9,8 +10,13 @@ pub record FailingDisk (D : Type 0) : Type 0 where
   pub calls_left : ℕ
   pub has_failed : Bool
 
+-- the failures of the disk, and its own
+abbrev pub failures_of : {D : Type 0} → (D → ℕ) → FailingDisk D → ℕ
+failures_of faults failing = counted_if failing.has_failed (faults failing.disk)
+
 -- One device call: the one that is due fails and leaves the disk alone, and any other fails only where the disk does.
 pub record IsOneCall {D T E : Type 0} (faults : D → ℕ) (old new : FailingDisk D) (result : Result T E) : Type 0 where
   pub due : old.calls_left ≡ 1 → IsErr result × (new.disk ≡ old.disk) × (new.has_failed ≡ true)
-  pub passes : old.calls_left ≢ 1 → IsCounted result (faults old.disk) (faults new.disk) × (new.has_failed ≡ old.has_failed)
+  pub passes : old.calls_left ≢ 1
+      → IsCounted result (faults old.disk) (faults new.disk) × (new.has_failed ≡ old.has_failed)
   pub one_less : new.calls_left ≡ old.calls_left - 1

@@ -12,5 +12,7 @@ empty_disk = started_with []
 -- A crash leaves so many bytes, of which each that it may change is `fill`.
 pub record IsFilledCrash (pending : Pending) (count fill : ℕ) (bytes : List ℕ) : Type 0 where
   pub size : length bytes ≡ count
-  pub kept : (place : ℕ) → place < pending.least → ¬ (IsTouched pending.touched place) → get_or bytes place 0 ≡ get_or pending.synced place 0
-  pub free : (place : ℕ) → place < count → ((pending.least ≤ place) ⊎ IsTouched pending.touched place) → get_or bytes place 0 ≡ fill
+  pub kept : (place : ℕ) → place < pending.least → ¬ (IsTouched pending.touched place)
+      → get_or bytes place 0 ≡ get_or pending.synced place 0
+  pub free : (place : ℕ) → place < count → ((pending.least ≤ place) ⊎ IsTouched pending.touched place)
+      → get_or bytes place 0 ≡ fill

@@ -1,4 +1,5 @@
--- The printed lines, without their newline. Words in hexadecimal have eight lower-case digits, other numbers are decimal.
+-- The printed lines, without their newline. Words in hexadecimal have eight lower-case digits. Other numbers are
+-- decimal.
 use Rattle.std.specs.Prelude.{ℕ, ◌-◌, ◌^◌, List, ◌++◌, length, replicate, flat_map, sum_by, min, codes, Option, Some, None, false}
 use Rattle.std.specs.Fmt.{decimal, digits}
 use Rattle.std.specs.Char.{encode_utf8}
@@ -41,8 +42,10 @@ thread_and_count tid count = codes " tid=" ++ (decimal tid ++ (codes " count=" +
 abbrev pub frame_line : End → ℕ → ℕ → List ℕ
 frame_line ends.Preempt tid count = codes "preempt" ++ thread_and_count tid count
 frame_line (ends.Call r) tid count =
-    codes "call" ++ (thread_and_count tid count ++ (codes " result=" ++ (word_text r.result ++ (codes " written=" ++ decimal (written_len r)))))
-frame_line (ends.Fault kind) tid count = codes "fault" ++ (thread_and_count tid count ++ (codes " kind=" ++ decimal (fault_number kind)))
+    codes "call" ++ (thread_and_count tid count
+    ++ (codes " result=" ++ (word_text r.result ++ (codes " written=" ++ decimal (written_len r)))))
+frame_line (ends.Fault kind) tid count =
+    codes "fault" ++ (thread_and_count tid count ++ (codes " kind=" ++ decimal (fault_number kind)))
 frame_line ends.Stuck tid count = codes "stuck"
 
 abbrev pub last_text : Option CheckpointRest → List ℕ
@@ -62,4 +65,5 @@ record_line r = decimal r.index ++ (codes " " ++ item_line r.item)
 
 abbrev pub verify_line : ℕ → ℕ → Option GuestEnd → List ℕ
 verify_line records instructions end =
-    codes "ok records=" ++ (decimal records ++ (codes " instructions=" ++ (decimal instructions ++ (codes " " ++ end_text end))))
+    codes "ok records=" ++ (decimal records
+    ++ (codes " instructions=" ++ (decimal instructions ++ (codes " " ++ end_text end))))

@@ -1,5 +1,5 @@
-//! Lines of the program as rows: the files that a line may read, its words, and what it answers. What plays a row is proved once; a row
-//! costs no proof.
+//! Lines of the program as rows: the files that a line may read, its words, and what it answers. What plays a row is
+//! proved once; a row costs no proof.
 
 use commands::run;
 use std::alloc::Global;
@@ -20,14 +20,8 @@ pub(crate) enum Content<'a> {
     Front(&'a [u32], usize),
     /// Its file with another byte at a place.
     Changed(&'a [u32], usize, u8),
-}
-
-/// What a stream is given.
-#[derive(Clone, Copy, Debug)]
-pub(crate) enum Text<'a> {
-    Just(&'a [u8]),
-    /// Not nothing.
-    Something,
+    /// Its file, filled up with zeros to so many bytes.
+    Filled(&'a [u32], usize),
 }
 
 /// A line of the program.
@@ -37,11 +31,12 @@ pub(crate) struct Row<'a> {
     pub(crate) file: Option<(&'a str, Content<'a>)>,
     pub(crate) words: &'a [&'a str],
     pub(crate) status: u8,
-    pub(crate) out: Text<'a>,
-    pub(crate) err: Text<'a>,
+    pub(crate) out: &'a [u8],
+    pub(crate) err: &'a [u8],
 }
 
-/// Ends the test where something else is found than wanted. An assertion costs its proof wherever it stands; this one stands once.
+/// Ends the test where something else is found than wanted. An assertion costs its proof wherever it stands; this one
+/// stands once.
 pub(crate) fn same<T: PartialEq + Debug + Drop>(
     rt: &impl Abort,
     what: &impl Debug,
@@ -76,13 +71,11 @@ fn bytes_of(alloc: Global, content: &Content<'_>) -> Result<Vec<u8>, Fail> {
             *elf.get_mut(*place).ok_or("there are fewer bytes")? = *byte;
             Ok(elf)
         }
-    }
-}
-
-fn says<R: Abort>(rt: &R, row: &Row<'_>, found: &[u8], want: &Text<'_>) {
-    match want {
-        Text::Just(bytes) => same(rt, row, found, *bytes),
-        Text::Something => same(rt, row, found.is_empty(), false),
+        Content::Filled(words, count) => {
+            let mut elf = file_of(alloc, words)?;
+            elf.resize(*count, 0)?;
+            Ok(elf)
+        }
     }
 }
 
@@ -99,8 +92,8 @@ pub(crate) fn play<R: Abort + AllocGlobal + Files>(rt: &R, row: &Row<'_>) -> Res
         fs::remove_file(rt, *name)?;
     }
     same(rt, row, status, row.status);
-    says(rt, row, out.as_slice(), &row.out);
-    says(rt, row, err.as_slice(), &row.err);
+    same(rt, row, out.as_slice(), row.out);
+    same(rt, row, err.as_slice(), row.err);
     Ok(())
 }
 
@@ -121,8 +114,8 @@ pub(crate) fn done<'a>(program: &'a [u32], out: &'a [u8], err: &'a [u8]) -> Row<
         file: Some(("guest", Content::Program(program))),
         words: &["try", "guest"],
         status: 0,
-        out: Text::Just(out),
-        err: Text::Just(err),
+        out,
+        err,
     }
 }
 
@@ -132,13 +125,13 @@ pub(crate) fn refused<'a>(content: Content<'a>, err: &'a [u8]) -> Row<'a> {
         file: Some(("file", content)),
         words: &["try", "file"],
         status: 1,
-        out: Text::Just(b""),
-        err: Text::Just(err),
+        out: b"",
+        err,
     }
 }
 
 /// A line without a file.
-pub(crate) fn bare<'a>(words: &'a [&'a str], status: u8, out: Text<'a>, err: Text<'a>) -> Row<'a> {
+pub(crate) fn bare<'a>(words: &'a [&'a str], status: u8, out: &'a [u8], err: &'a [u8]) -> Row<'a> {
     Row {
         file: None,
         words,

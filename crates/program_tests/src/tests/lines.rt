@@ -1,24 +1,20 @@
 //! Lines of the program, done, and what they print.
 
-use super::kit::{Content, Text, bare, done, play, play_all, refused, same};
-use commands::run;
-use std::io::{self, Write};
+use super::kit::{Content, Row, bare, done, play, play_all, refused};
 use std::test::Fail;
 use test_guests::files::EXIT_FIVE;
 
-const NOTHING: Text<'static> = Text::Just(b"");
-
 /// It stores `hi` and a newline below the stack pointer, writes these three bytes, and exits with 0.
-const HELLO: [u32; 11] = [
+pub(crate) const HELLO: [u32; 11] = [
     0xFF010593, 0x000A7537, 0x96850513, 0x00A5A023, 0x00100513, 0x00300613, 0x04000893, 0x00000073,
     0x00000513, 0x05D00893, 0x00000073,
 ];
 
 #[test]
 fn no_word_records_the_demonstration(rt: HostRuntime) -> Result<(), Fail> {
-    let want: &[u8] =
-        b"0 opening name=g0 elf=96\n1 call tid=1 count=3 result=00000000 written=0\nok records=2 instructions=3 end exited 5\n";
-    play(&rt, &bare(&[], 0, Text::Just(want), NOTHING))
+    let want: &[u8] = b"0 opening name=g0 elf=96\n1 call tid=1 count=3 result=00000000 written=0\n\
+        ok records=2 instructions=3 end exited 5\n";
+    play(&rt, &bare(&[], 0, want, b""))
 }
 
 #[test]
@@ -52,8 +48,8 @@ fn a_trial_has_zeros_for_random_bytes(rt: HostRuntime) -> Result<(), Fail> {
 
 #[test]
 fn a_trial_has_a_silent_outside(rt: HostRuntime) -> Result<(), Fail> {
-    // It fills 24 bytes with ones. Then it reads up to ten bytes of input to them, takes three random bytes, and the time
-    // to the last 16; writes the 24 bytes, and exits with 0.
+    // It fills 24 bytes with ones. Then it reads up to ten bytes of input to them, takes three random bytes, and the
+    // time to the last 16; writes the 24 bytes, and exits with 0.
     let program = [
         0x7FF00437, 0xFFF00293, 0x00542023, 0x00542223, 0x00542423, 0x00542623, 0x00542823,
         0x00542A23, 0x00000513, 0x00040593, 0x00A00613, 0x03F00893, 0x00000073, 0x00040513,
@@ -73,7 +69,7 @@ fn a_trial_has_a_silent_outside(rt: HostRuntime) -> Result<(), Fail> {
 fn bad_files_are_refused_by_name(rt: HostRuntime) -> Result<(), Fail> {
     let text: &[u8] =
         b"This is a text and no program, though it has more than the 52 bytes of a header.\n";
-    let unread = Text::Just(b"rrv: cannot read file\n");
+    let unread: &[u8] = b"rrv: cannot read file\n";
     play_all(
         &rt,
         &[
@@ -95,32 +91,86 @@ fn bad_files_are_refused_by_name(rt: HostRuntime) -> Result<(), Fail> {
                 Content::Changed(&EXIT_FIVE, 36, 1),
                 b"rrv: guest 0: elf refusal 7\n",
             ),
-            bare(&["try", "missing"], 1, NOTHING, unread),
-            bare(&["try", "."], 1, NOTHING, unread),
+            bare(&["try", "missing"], 1, b"", unread),
+            bare(&["try", "."], 1, b"", unread),
         ],
     )
 }
 
+/// A line that is none.
+fn bad<'a>(words: &'a [&'a str], err: &'a [u8]) -> Row<'a> {
+    bare(words, 2, b"", err)
+}
+
 #[test]
-fn bad_lines_end_with_two_and_help_with_zero(rt: HostRuntime) -> Result<(), Fail> {
+fn bad_lines_end_with_two(rt: HostRuntime) -> Result<(), Fail> {
     play_all(
         &rt,
         &[
-            bare(&["try"], 2, NOTHING, Text::Something),
-            bare(&["try", "one", "two"], 2, NOTHING, Text::Something),
-            bare(&["record"], 2, NOTHING, Text::Something),
-            bare(&["--help"], 0, Text::Something, NOTHING),
+            bad(
+                &["try"],
+                b"error: the following required arguments were not provided:\n  <ELF>\n\n\
+                Usage: rrv try <ELF>\n\nFor more information, try '--help'.\n",
+            ),
+            bad(
+                &["try", "one", "two"],
+                b"error: unexpected argument 'two' found\n\n\
+                Usage: rrv try <ELF>\n\nFor more information, try '--help'.\n",
+            ),
+            bad(
+                &["record"],
+                b"error: unrecognized subcommand 'record'\n\n\
+                Usage: rrv <COMMAND>\n\nFor more information, try '--help'.\n",
+            ),
+            bad(
+                &["--quiet"],
+                b"error: unexpected argument '--quiet' found\n\n\
+                Usage: rrv <COMMAND>\n\nFor more information, try '--help'.\n",
+            ),
+            bad(
+                &["--"],
+                b"error: 'rrv' requires a subcommand but one was not provided\n  [subcommands: try]\n\n\
+                Usage: rrv <COMMAND>\n\nFor more information, try '--help'.\n",
+            ),
         ],
     )
 }
 
 #[test]
-fn a_file_above_the_limit_is_not_read(rt: HostRuntime) -> Result<(), Fail> {
-    let large = vec![in rt.alloc(); 0u8; 2_097_153]?;
-    play(
+fn help_is_printed(rt: HostRuntime) -> Result<(), Fail> {
+    let program: &[u8] =
+        b"records RISC-V programs and replays them exactly\n\nUsage: rrv <COMMAND>\n\n\
+        Commands:\n  try  records a program to a disk in memory and replays it\n\n\
+        Options:\n  -h, --help  Print help\n";
+    let attempt: &[u8] =
+        b"records a program to a disk in memory and replays it\n\nUsage: rrv try <ELF>\n\n\
+        Arguments:\n  <ELF>  a static RISC-V program (ELF32, RV32IMA)\n\n\
+        Options:\n  -h, --help  Print help\n";
+    play_all(
         &rt,
-        &refused(Content::Bytes(&large), b"rrv: cannot read file\n"),
+        &[
+            bare(&["--help"], 0, program, b""),
+            bare(&["-h"], 0, program, b""),
+            bare(&["try", "--help"], 0, attempt, b""),
+        ],
     )
+}
+
+#[test]
+fn a_file_of_the_greatest_length_is_run(rt: HostRuntime) -> Result<(), Fail> {
+    let greatest = Row {
+        file: Some(("guest", Content::Filled(&EXIT_FIVE, 2_097_152))),
+        words: &["try", "guest"],
+        status: 0,
+        out: b"0 opening name=g0 elf=2097152\n1 call tid=1 count=3 result=00000000 written=0\n\
+            ok records=2 instructions=3 end exited 5\n",
+        err: b"",
+    };
+    let greater = refused(
+        Content::Filled(&EXIT_FIVE, 2_097_153),
+        b"rrv: cannot read file\n",
+    );
+    play_all(&rt, &[greatest, greater])
 }
 
 #[test]
@@ -149,37 +199,4 @@ fn frames_that_end_in_faults_and_preemptions(rt: HostRuntime) -> Result<(), Fail
             ),
         ],
     )
-}
-
-/// A sink that takes so many bytes, and then fails.
-#[derive(Drop)]
-struct Full {
-    left: usize,
-}
-
-impl Write for Full {
-    fn write(&mut self, buf: &[u8]) -> io::Result<usize> {
-        if self.left == 0 {
-            return Err(io::Error::from(io::ErrorKind::StorageFull));
-        }
-        let taken = buf.len().min(self.left);
-        self.left = self.left.saturating_sub(taken);
-        Ok(taken)
-    }
-
-    fn flush(&mut self) -> io::Result<()> {
-        Ok(())
-    }
-}
-
-#[test]
-fn output_that_fails_is_told(rt: HostRuntime) {
-    let words: [&str; 0] = [];
-    let want: &[u8] = b"rrv: output failed\n";
-    for left in [0, 1, 25, 100] {
-        let mut out = Full { left };
-        let mut err = Vec::new(rt.alloc());
-        let status = run(&rt, words.as_slice(), &mut out, &mut err);
-        same(&rt, &left, (status, err.as_slice()), (1, want));
-    }
 }

@@ -1,45 +1,71 @@
-//! How refusals are told.
+//! How refusals are told: each has its text, and those of the layers below become the program's.
 
 use super::kit::shows;
 use commands::Refusal;
 use elf_load::fault::ElfFault;
+use guest_calls::{SetPageFault, SetRestFault};
 use recorder::RecordingFault;
 use recover::{OpenFault, ReadFault};
 use replayer::ReplayFault;
+use serial_sched::{FollowFault, SliceFault};
+use std::fmt::Display;
+use std::process::Abort;
 use std::test::Fail;
 use trace_log::LogFault;
 
-#[test]
-fn texts_of_refusals(rt: HostRuntime) -> Result<(), Fail> {
-    let refusals = [
-        (Refusal::CannotReadFile, "cannot read file"),
-        (
-            Refusal::of_elf(0, ElfFault::Compressed),
-            "guest 0: elf refusal 7",
-        ),
-        (Refusal::of_elf(0, ElfFault::Memory), "out of memory"),
-        (Refusal::DeviceFailed, "device failed"),
-        (Refusal::StoreFull, "store full"),
-        (Refusal::NotAStore, "not a store"),
-        (Refusal::Damaged { segment: 0 }, "damaged segment 0"),
-        (Refusal::Mismatch { index: 1 }, "record 1 does not replay"),
-        (Refusal::BadOpening, "bad opening"),
-        (Refusal::NewerVersion, "newer version"),
-        (Refusal::Unreadable { index: 1 }, "record 1 unreadable"),
-        (Refusal::OutputFailed, "output failed"),
-        (Refusal::Memory, "out of memory"),
-    ];
-    for (refusal, want) in refusals {
-        shows(&rt, &refusal, want)?;
+/// Ends the test where one of these is shown by another text than the one beside it.
+fn show<R: Abort + AllocGlobal, T: Display>(rt: &R, rows: &[(T, &str)]) -> Result<(), Fail> {
+    for (shown, want) in rows {
+        shows(rt, shown, want)?;
     }
     Ok(())
 }
 
 #[test]
+fn texts_of_refusals(rt: HostRuntime) -> Result<(), Fail> {
+    show(
+        &rt,
+        &[
+            (Refusal::CannotReadFile, "cannot read file"),
+            (
+                Refusal::of_elf(0, ElfFault::Compressed),
+                "guest 0: elf refusal 7",
+            ),
+            (
+                Refusal::of_elf(3, ElfFault::NotElf),
+                "guest 3: elf refusal 2",
+            ),
+            (Refusal::of_elf(0, ElfFault::Memory), "out of memory"),
+            (Refusal::DeviceFailed, "device failed"),
+            (Refusal::StoreFull, "store full"),
+            (Refusal::NotAStore, "not a store"),
+            (Refusal::Damaged { segment: 0 }, "damaged segment 0"),
+            (Refusal::Mismatch { index: 1 }, "record 1 does not replay"),
+            (Refusal::BadOpening, "bad opening"),
+            (Refusal::NewerVersion, "newer version"),
+            (Refusal::Unreadable { index: 1 }, "record 1 unreadable"),
+            (Refusal::OutputFailed, "output failed"),
+            (Refusal::Memory, "out of memory"),
+            (Refusal::DeviceFailed.of_trial(), "out of memory"),
+            (Refusal::StoreFull.of_trial(), "store full"),
+        ],
+    )
+}
+
+#[test]
 fn refusals_of_a_recording(rt: HostRuntime) -> Result<(), Fail> {
+    show(
+        &rt,
+        &[
+            (RecordingFault::DeviceFailed, "device failed"),
+            (RecordingFault::StoreFull, "store full"),
+            (RecordingFault::Memory, "out of memory"),
+        ],
+    )?;
     let faults = [
         (LogFault::DeviceFailed, "device failed"),
         (LogFault::Broken, "device failed"),
+        (LogFault::NotEmpty, "device failed"),
         (LogFault::TooLong, "store full"),
         (LogFault::Memory, "out of memory"),
     ];
@@ -51,17 +77,19 @@ fn refusals_of_a_recording(rt: HostRuntime) -> Result<(), Fail> {
 
 #[test]
 fn refusals_of_a_store(rt: HostRuntime) -> Result<(), Fail> {
-    let faults = [
-        (OpenFault::NotAStore, "not a store"),
-        (OpenFault::Damaged { segment: 3 }, "damaged segment 3"),
-        (OpenFault::DeviceFailed, "device failed"),
-        (OpenFault::Memory, "out of memory"),
-        (OpenFault::NewerVersion, "newer version"),
-    ];
-    for (fault, want) in faults {
-        shows(&rt, &Refusal::from(fault), want)?;
-    }
-    Ok(())
+    show(
+        &rt,
+        &[
+            (Refusal::from(OpenFault::NotAStore), "not a store"),
+            (
+                Refusal::from(OpenFault::Damaged { segment: 3 }),
+                "damaged segment 3",
+            ),
+            (Refusal::from(OpenFault::DeviceFailed), "device failed"),
+            (Refusal::from(OpenFault::Memory), "out of memory"),
+            (Refusal::from(OpenFault::NewerVersion), "newer version"),
+        ],
+    )
 }
 
 #[test]
@@ -83,18 +111,47 @@ fn refusals_of_a_replay(rt: HostRuntime) -> Result<(), Fail> {
         (ReplayFault::BadOpening, "bad opening"),
     ];
     for (fault, want) in faults {
+        shows(&rt, &fault, want)?;
         shows(&rt, &Refusal::from(fault), want)?;
     }
     Ok(())
 }
 
 #[test]
-fn refusals_of_a_trial(rt: HostRuntime) -> Result<(), Fail> {
-    shows(
+fn refusals_of_slices_and_frames(rt: HostRuntime) -> Result<(), Fail> {
+    show(
         &rt,
-        &Refusal::of_elf(3, ElfFault::NotElf),
-        "guest 3: elf refusal 2",
+        &[
+            (SliceFault::NotRunnable, "the thread is not runnable"),
+            (SliceFault::BadQuantum, "the quantum is outside the limits"),
+            (SliceFault::Ended, "the guest has ended"),
+            (SliceFault::Memory, "out of memory"),
+        ],
     )?;
-    shows(&rt, &Refusal::DeviceFailed.of_trial(), "out of memory")?;
-    shows(&rt, &Refusal::StoreFull.of_trial(), "store full")
+    show(
+        &rt,
+        &[
+            (FollowFault::GoesNowhere, "the frame leads nowhere"),
+            (FollowFault::Memory, "out of memory"),
+        ],
+    )
+}
+
+#[test]
+fn refusals_of_parts_of_a_checkpoint(rt: HostRuntime) -> Result<(), Fail> {
+    show(
+        &rt,
+        &[
+            (SetPageFault::NoState, "no state has this page"),
+            (SetPageFault::TooManyPages, "too many pages"),
+            (SetPageFault::Memory, "out of memory"),
+        ],
+    )?;
+    show(
+        &rt,
+        &[
+            (SetRestFault::NoState, "no state has this rest"),
+            (SetRestFault::Memory, "out of memory"),
+        ],
+    )
 }

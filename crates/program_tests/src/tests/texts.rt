@@ -1,9 +1,11 @@
 //! The printed lines of records that are made by hand.
 
 use super::kit::shows;
-use rrv_model::sequence::Sequence;
 use rrv_model::machine::{FaultKind, GuestEnd};
-use rrv_model::record::{CallRecord, End, Frame, Item, PagePart, Part, Record, CheckpointRest, Written};
+use rrv_model::record::{
+    CallRecord, CheckpointRest, End, Frame, Item, PagePart, Part, Record, Written,
+};
+use rrv_model::sequence::Sequence;
 use std::alloc::{AllocError, Global};
 use std::process::Abort;
 use std::test::Fail;

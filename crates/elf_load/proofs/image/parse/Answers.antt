@@ -2,7 +2,7 @@ use Rattle.std.proofs.Common.{◌≡◌, ◌∙◌, ℕ, List, arith, Some, None
 use Rattle.std.specs.List.{list_any}
 use Rattle.std.proofs.lemmas.Result.{err_from_is_err_and}
 use Rattle.rrv_model.specs.Elf.{refusal, headers, loads, is_interp}
-use Rattle.elf_load.specs.Fault.{number_of}
+use Rattle.elf_load.specs.Fault.{refusal_number}
 use Rattle.elf_load.specs.Refusals.{has_memory, load_refusal}
 use Rattle.elf_load.proofs.Refusal.{refused_by_header, refused_by_interp, refused_by_loads, past_loads, past_each}
 use Rattle.elf_load.proofs.image.parse.Goals as goal
@@ -21,7 +21,7 @@ pub returns-in_err-check_loads-clause-refused : goal.returns-in_err-check_loads-
 returns-in_err-check_loads-clause-refused c =
     let p = err_from_is_err_and c.from_residual-in_err-check_loads.result c.from_residual-in_err-check_loads.ensures.1 in
     let interp : list_any is_interp (headers c.args.elf.now) ≡ false = cc c.in_ok-file.ensures.file in
-    let load : load_refusal c.args.elf.now ≡ Some (number_of c.in_err-check_loads.field-0.0) = ap load_refusal (sym c.in_ok-file.ensures.file) ∙ c.in_err-check_loads.ensures.refused in
+    let load : load_refusal c.args.elf.now ≡ Some (refusal_number c.in_err-check_loads.field-0.0) = ap load_refusal (sym c.in_ok-file.ensures.file) ∙ c.in_err-check_loads.ensures.refused in
     rw (p.1, p.2) (λ _. refused_by_loads c.args.elf.now _ c.in_ok-file.ensures.passes interp load)
 
 pub refusal_without_memory-requires : goal.refusal_without_memory-requires

@@ -1,5 +1,5 @@
 use Rattle.std.proofs.Common.{◌-◌, ◌∙◌, arith, sym}
-use Rattle.elf_load.proofs.Shares.{any_share-at, any_share-neighbours}
+use Rattle.elf_load.proofs.SharedBytes.{any_share-at, any_share-neighbours}
 use Rattle.elf_load.proofs.overlap.any_neighbours_share.Goals as goal
 
 pub returns-then-shares : goal.returns-then-shares

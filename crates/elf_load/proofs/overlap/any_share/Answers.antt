@@ -2,7 +2,7 @@ use Rattle.std.proofs.Common.{◌<◌, ◌∙◌, rules, ap}
 use Rattle.std.specs.Prelude.{All}
 use Rattle.std.proofs.lemmas.List.Sorted.{IsNonDecreasingBy-from_sort_by_key, All-permutation}
 use Rattle.rrv_model.specs.Elf.{Header, any_share}
-use Rattle.elf_load.proofs.Shares.{any_share-permutation, any_share-filter, All-has_memory}
+use Rattle.elf_load.proofs.SharedBytes.{any_share-permutation, any_share-filter, All-has_memory}
 use Rattle.elf_load.proofs.overlap.any_share.Goals as goal
 
 pub any_neighbours_share-requires-clause-rising : goal.any_neighbours_share-requires-clause-rising

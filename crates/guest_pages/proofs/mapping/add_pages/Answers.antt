@@ -4,7 +4,7 @@ use Rattle.std.proofs.lemmas.Map.Lookups.{btree_map_from_get, exact_unsigned}
 use Rattle.guest_pages.specs.declared.page.Page.{Page}
 use Rattle.guest_pages.specs.Space.{page_at}
 use Rattle.guest_pages.specs.Mapping.{has_number}
-use Rattle.guest_pages.proofs.Missing.{has_number_take, added_more, kept_added}
+use Rattle.guest_pages.proofs.MissingPages.{has_number_take, added_more, kept_added}
 use Rattle.guest_pages.proofs.mapping.add_pages.Goals as goal
 
 pub returns-in-Err-clause-err : goal.returns-in-Err-clause-err

@@ -1,5 +1,5 @@
 use Rattle.std.proofs.Common.{◌∙◌, ℕ, List, ap, refl, length, slice_index}
-use Rattle.guest_pages.proofs.Missing.{zeros_at, zeros_full}
+use Rattle.guest_pages.proofs.MissingPages.{zeros_at, zeros_full}
 use Rattle.guest_pages.proofs.mapping.clear_page.Goals as goal
 
 pub returns : goal.returns

@@ -1,7 +1,7 @@
 use Rattle.std.proofs.Common.{◌≡◌, ◌∙◌, ℕ, ◌+◌, ◌-◌, List, [], ◌∷◌, length, length-append, is_some, true, false, sym, ap, arith}
 use Rattle.guest_pages.specs.Space.{page_at}
 use Rattle.guest_pages.specs.Mapping.{missing}
-use Rattle.guest_pages.proofs.Missing.{missing_there, missing_absent}
+use Rattle.guest_pages.proofs.MissingPages.{missing_there, missing_absent}
 use Rattle.guest_pages.proofs.mapping.count_missing.Goals as goal
 
 pub loop-number-preserved-then-contains_key : goal.loop-number-preserved-then-contains_key

@@ -1,6 +1,6 @@
 use Rattle.std.proofs.Common.{◌≡◌, ◌∙◌, is_some, true, sym}
 use Rattle.guest_pages.specs.Space.{page_at}
-use Rattle.guest_pages.proofs.Missing.{missing_there}
+use Rattle.guest_pages.proofs.MissingPages.{missing_there}
 use Rattle.guest_pages.proofs.mapping.list_missing.Goals as goal
 
 pub loop-number-preserved-then-contains_key : goal.loop-number-preserved-then-contains_key

@@ -1,4 +1,4 @@
-use Rattle.guest_pages.proofs.Missing.{removed_more, kept_more}
+use Rattle.guest_pages.proofs.MissingPages.{removed_more, kept_more}
 use Rattle.guest_pages.proofs.mapping.remove_pages.Goals as goal
 
 pub loop-number-preserved : goal.loop-number-preserved

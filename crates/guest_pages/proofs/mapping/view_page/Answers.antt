@@ -2,7 +2,7 @@ use Rattle.std.proofs.Common.{◌∙◌, ℕ, List, Some, ap, sym, slice_index}
 use Rattle.std.specs.Option.{option_map}
 use Rattle.rrv_model.specs.Memory.{Cell}
 use Rattle.guest_pages.specs.Space.{cell_in}
-use Rattle.guest_pages.proofs.Same.{in_page}
+use Rattle.guest_pages.proofs.SameMemory.{in_page}
 use Rattle.guest_pages.proofs.mapping.view_page.Goals as goal
 
 pub returns-in_err-page : goal.returns-in_err-page

@@ -1,6 +1,6 @@
 use Rattle.std.proofs.Common.{◌∙◌, sym, arith}
 use Rattle.std.proofs.lemmas.Bool.{false≢true}
-use Rattle.guest_threads.proofs.ToldThreads.{makes, few, rise, all_fit, ordered}
+use Rattle.guest_threads.proofs.ThreadsOfParts.{makes, few, rise, all_fit, ordered}
 use Rattle.guest_threads.proofs.parts.make_threads.Goals as goal
 
 pub returns-then-threads : goal.returns-then-threads

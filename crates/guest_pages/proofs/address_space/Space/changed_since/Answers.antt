@@ -6,7 +6,7 @@ use Rattle.guest_pages.specs.Space.{SpaceValue, memory_of, memory_in}
 use Rattle.guest_pages.specs.Mapping.{SameAt, ListsOthers}
 use Rattle.guest_pages.specs.Snapshots.{AreChanges}
 use Rattle.guest_pages.proofs.Changes.{lists_changes}
-use Rattle.guest_pages.proofs.Same.{pages_of_same}
+use Rattle.guest_pages.proofs.SameMemory.{pages_of_same}
 use Rattle.guest_pages.proofs.address_space.Space.changed_since.Goals as goal
 
 pub returns-clause-changes : goal.returns-clause-changes

@@ -3,7 +3,7 @@ use Rattle.rrv_model.specs.Memory.{page_count, is_mapped}
 use Rattle.guest_pages.specs.Space.{SpaceValue, memory_of, page_at}
 use Rattle.guest_pages.specs.Mapping.{covered}
 use Rattle.guest_pages.proofs.Facts.{is_mapped_in}
-use Rattle.guest_pages.proofs.Missing.{found_page, no_page, joined_pages, covered_joined, page_count_covered, added_pages, covered_added}
+use Rattle.guest_pages.proofs.MissingPages.{found_page, no_page, joined_pages, covered_joined, page_count_covered, added_pages, covered_added}
 use Rattle.guest_pages.proofs.address_space.Space.cover.Goals as goal
 
 pub invariant_of-self : goal.invariant_of-self

@@ -1,6 +1,6 @@
 use Rattle.std.proofs.Common.{ℕ, None, IsSome, ◌∙◌, ap, sym, subst}
 use Rattle.guest_pages.specs.Space.{SpaceValue, snapshots_of, kept_at}
-use Rattle.guest_pages.proofs.Kept.{live_kept, memory_kept, still_kept}
+use Rattle.guest_pages.proofs.SnapshotPages.{live_kept, memory_kept, still_kept}
 use Rattle.guest_pages.proofs.address_space.Space.drop_snapshot.Goals as goal
 
 pub release-requires : goal.release-requires

@@ -1,6 +1,6 @@
 use Rattle.std.proofs.Common.{◌∙◌, ap, sym, subst, IsSome, ℕ, Some}
 use Rattle.guest_pages.specs.Space.{SpaceValue, snapshots_of, kept_at}
-use Rattle.guest_pages.proofs.Kept.{live_kept, memory_kept}
+use Rattle.guest_pages.proofs.SnapshotPages.{live_kept, memory_kept}
 use Rattle.guest_pages.proofs.address_space.Space.kept.Goals as goal
 
 pub kept_under-requires : goal.kept_under-requires

@@ -2,7 +2,7 @@ use Rattle.std.proofs.Common.{ℕ, List, Option, None, ap, ◌∙◌}
 use Rattle.guest_pages.specs.declared.page.Page.{Page}
 use Rattle.guest_pages.specs.Space.{memory_in, kept_at}
 use Rattle.guest_pages.proofs.Facts.{nothing_in_none}
-use Rattle.guest_pages.proofs.Kept.{memory_kept}
+use Rattle.guest_pages.proofs.SnapshotPages.{memory_kept}
 use Rattle.guest_pages.proofs.address_space.Space.new.Goals as goal
 
 pub returns-clause-memory : goal.returns-clause-memory

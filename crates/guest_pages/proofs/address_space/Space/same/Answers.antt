@@ -1,6 +1,6 @@
 use Rattle.std.proofs.Common.{◌∙◌, ap, sym}
 use Rattle.guest_pages.specs.Space.{SpaceValue, memory_of}
-use Rattle.guest_pages.proofs.Same.{decides_same}
+use Rattle.guest_pages.proofs.SameMemory.{decides_same}
 use Rattle.guest_pages.proofs.address_space.Space.same.Goals as goal
 
 pub returns : goal.returns

@@ -1,10 +1,11 @@
-use Rattle.std.proofs.Common.{◌≡◌, ◌∙◌, ◌+◌, Some, None, Option, length, sym, ap, subst, arith}
-use Rattle.rrv_model.specs.Memory.{page_count, is_mapped}
+use Rattle.std.proofs.Common.{◌≡◌, ◌∙◌, ℕ, false, ◌+◌, List, Some, None, Option, is_some, length, sym, ap, subst, arith}
+use Rattle.rrv_model.specs.Memory.{Memory, page_count, is_mapped}
+use Rattle.guest_pages.specs.declared.page.Page.{Page}
 use Rattle.guest_pages.specs.declared.page.PageView.{PageView}
-use Rattle.guest_pages.specs.Space.{SpaceValue, memory_of, page_at}
+use Rattle.guest_pages.specs.Space.{SpaceValue, ArePages, memory_in, memory_of, page_at}
 use Rattle.guest_pages.specs.WholePages.{with_page, MayHave}
 use Rattle.guest_pages.proofs.Facts.{is_mapped_in}
-use Rattle.guest_pages.proofs.Missing.{no_page}
+use Rattle.guest_pages.proofs.MissingPages.{no_page}
 use Rattle.guest_pages.proofs.WholePages.{page_count_put, put_in, pages_put, page_added}
 use Rattle.guest_pages.proofs.address_space.Space.set_page.Goals as goal
 
@@ -35,35 +36,27 @@ returns-then-contains_key-clause-set c =
     ∙ ap (λ (s : SpaceValue). with_page c.args.number (Some c.in-Some.page) (memory_of s)) c.self.view_is
     ∙ ap (λ (p : Option PageView). with_page c.args.number p (memory_of c.args.self.now)) (sym c.in-Some.is)
 
+-- how many pages are mapped once a page stands where none was
+count_after : (pages : List (ℕ × Page)) (s : SpaceValue) (n : ℕ) (o : Option PageView) (v : PageView) → ArePages pages →
+    memory_in pages ≡ memory_of s → o ≡ Some v → MayHave n o → is_some (page_at pages n) ≡ false →
+    page_count (with_page n o (memory_of s)) ≡ length pages + 1
+count_after pages s n o v h same is may absent =
+    ap (λ (p : Option PageView). page_count (with_page n p (memory_of s))) is
+    ∙ ap (λ (m : Memory). page_count (with_page n (Some v) m)) (sym same)
+    ∙ page_count_put pages v n h (subst (λ (p : Option PageView). MayHave n p) is may).1 (no_page (page_at pages n) absent)
+
 pub returns-then-len-clause-refused : goal.returns-then-len-clause-refused
-returns-then-len-clause-refused c =
-    let pages = c.self.inside.pages.entries in
-    let may : MayHave c.args.number (Some c.in-Some.page) = subst (λ (p : Option PageView). MayHave c.args.number p) c.in-Some.is c.requires in
-    let absent : page_at pages c.args.number ≡ None = no_page (page_at pages c.args.number) (sym c.contains_key.ensures ∙ c.if-contains_key.false) in
-    let total : page_count (with_page c.args.number c.args.page (memory_of c.args.self.now)) ≡ length pages + 1 =
-    ap (λ (p : Option PageView). page_count (with_page c.args.number p (memory_of c.args.self.now))) c.in-Some.is
-    ∙ ap (λ (s : SpaceValue). page_count (with_page c.args.number (Some c.in-Some.page) (memory_of s))) (sym c.self.view_is)
-    ∙ page_count_put pages c.in-Some.page c.args.number c.self.invariant may.1 absent in
-    omega (arith, total, c.len.ensures.len)
+returns-then-len-clause-refused c = omega (arith, c.len.ensures.len,
+    count_after c.self.inside.pages.entries c.args.self.now c.args.number c.args.page c.in-Some.page c.self.invariant
+    (ap memory_of c.self.view_is) c.in-Some.is c.requires (sym c.contains_key.ensures ∙ c.if-contains_key.false))
 
 pub returns-in_default-insert_page-clause-refused : goal.returns-in_default-insert_page-clause-refused
-returns-in_default-insert_page-clause-refused c =
-    let pages = c.self.inside.pages.entries in
-    let may : MayHave c.args.number (Some c.in-Some.page) = subst (λ (p : Option PageView). MayHave c.args.number p) c.in-Some.is c.requires in
-    let absent : page_at pages c.args.number ≡ None = no_page (page_at pages c.args.number) (sym c.contains_key.ensures ∙ c.if-contains_key.false) in
-    let total : page_count (with_page c.args.number c.args.page (memory_of c.args.self.now)) ≡ length pages + 1 =
-    ap (λ (p : Option PageView). page_count (with_page c.args.number p (memory_of c.args.self.now))) c.in-Some.is
-    ∙ ap (λ (s : SpaceValue). page_count (with_page c.args.number (Some c.in-Some.page) (memory_of s))) (sym c.self.view_is)
-    ∙ page_count_put pages c.in-Some.page c.args.number c.self.invariant may.1 absent in
-    omega (arith, total, c.len.ensures.len)
+returns-in_default-insert_page-clause-refused c = omega (arith, c.len.ensures.len,
+    count_after c.self.inside.pages.entries c.args.self.now c.args.number c.args.page c.in-Some.page c.self.invariant
+    (ap memory_of c.self.view_is) c.in-Some.is c.requires (sym c.contains_key.ensures ∙ c.if-contains_key.false))
 
-pub returns-then-len-clause-grows : goal.returns-then-len-clause-grows
-returns-then-len-clause-grows c =
-    ap (λ (s : SpaceValue). is_mapped (memory_of s) c.args.number) (sym c.self.view_is)
-    ∙ is_mapped_in c.self.inside.pages.entries c.args.number ∙ sym c.contains_key.ensures ∙ c.if-contains_key.false
-
-pub returns-in_default-insert_page-clause-grows : goal.returns-in_default-insert_page-clause-grows
-returns-in_default-insert_page-clause-grows c =
+pub returns-then-len-clause-too_many : goal.returns-then-len-clause-too_many
+returns-then-len-clause-too_many c = λ e.
     ap (λ (s : SpaceValue). is_mapped (memory_of s) c.args.number) (sym c.self.view_is)
     ∙ is_mapped_in c.self.inside.pages.entries c.args.number ∙ sym c.contains_key.ensures ∙ c.if-contains_key.false
 

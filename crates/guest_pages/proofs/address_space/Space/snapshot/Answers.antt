@@ -1,6 +1,6 @@
 use Rattle.std.proofs.Common.{Some, None, ◌∙◌, ap, sym}
 use Rattle.guest_pages.specs.Space.{SpaceValue, memory_of, snapshots_of, kept_at}
-use Rattle.guest_pages.proofs.Kept.{memory_kept, still_kept}
+use Rattle.guest_pages.proofs.SnapshotPages.{memory_kept, still_kept}
 use Rattle.guest_pages.proofs.address_space.Space.snapshot.Goals as goal
 
 pub returns-clause-kept : goal.returns-clause-kept

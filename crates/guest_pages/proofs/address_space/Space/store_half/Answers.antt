@@ -1,16 +1,13 @@
-use Rattle.std.proofs.Common.{ℕ, refl, ◌∙◌, ap, ◌/◌, List, arith}
+use Rattle.std.proofs.Common.{refl, ◌∙◌, ap, ◌/◌, arith}
 use Rattle.std.specs.Int.{w16, to_le_bytes}
 use Rattle.rrv_model.specs.Memory.{stored}
-use Rattle.guest_pages.specs.declared.page.Page.{Page}
 use Rattle.guest_pages.specs.Space.{SpaceValue, memory_of}
-use Rattle.guest_pages.proofs.Stores.{written_back, stored_through, kept_through, all_small}
+use Rattle.guest_pages.proofs.Stores.{same_space, stored_through, kept_through, all_small}
 use Rattle.guest_pages.proofs.address_space.Space.store_half.Goals as goal
 
 pub returns-then-not-page-clause-err : goal.returns-then-not-page-clause-err
 returns-then-not-page-clause-err c =
-    ap (λ (pages : List (ℕ × Page)). let s : SpaceValue = record { pages = pages; snapshots = c.self.inside.snapshots.items } in s)
-    (written_back c.self.inside.pages.entries _ (c.args.address / 4096) c.in-Some.page.now (c.get_mut.follows.holds _).0 c.in-Some.ensures.value)
-    ∙ c.self.view_is
+    same_space _ _ _ _ (c.args.address / 4096) c.in-Some.page.now (c.get_mut.follows.holds _).0 c.in-Some.ensures.value c.self.view_is
 
 pub invariant_of-self-2 : goal.invariant_of-self-2
 invariant_of-self-2 c =

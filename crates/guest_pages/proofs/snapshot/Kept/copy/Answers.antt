@@ -1,4 +1,4 @@
-use Rattle.guest_pages.proofs.Kept.{copied_pages, copied_memory}
+use Rattle.guest_pages.proofs.SnapshotPages.{copied_pages, copied_memory}
 use Rattle.guest_pages.proofs.snapshot.Kept.copy.Goals as goal
 
 pub invariant_of-result : goal.invariant_of-result

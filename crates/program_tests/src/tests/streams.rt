@@ -1,0 +1,222 @@
+//! Readers that fail, and writers that take parts.
+
+use super::kit::same;
+use super::lines::HELLO;
+use commands::{Refusal, read_program, report, report_unread, run};
+use std::alloc::{AllocError, Global};
+use std::fs;
+use std::io::{self, ErrorKind, Read, Write};
+use std::process::Abort;
+use std::rt::Files;
+use std::test::Fail;
+use test_guests::files::{EXIT_FIVE, file_of};
+
+/// What is printed of a guest that writes `hi`.
+const HI: &[u8] = b"hi\n0 opening name=g0 elf=128\n1 call tid=1 count=8 result=00000003 written=0\n\
+    2 call tid=1 count=3 result=00000000 written=0\nok records=3 instructions=11 end exited 0\n";
+
+/// A writer that takes so many bytes of a write, and fails where it has so many.
+#[derive(Drop)]
+struct Sink {
+    taken: Vec<u8>,
+    most: usize,
+    room: usize,
+}
+
+impl Write for Sink {
+    fn write(&mut self, buf: &[u8]) -> io::Result<usize> {
+        let left = self.room.saturating_sub(self.taken.len());
+        if left == 0 {
+            return Err(io::Error::from(ErrorKind::StorageFull));
+        }
+        let count = buf.len().min(self.most).min(left);
+        match buf.get(..count) {
+            Some(front) => self.taken.extend_from_slice(front)?,
+            None => return Ok(0),
+        }
+        Ok(count)
+    }
+
+    fn flush(&mut self) -> io::Result<()> {
+        Ok(())
+    }
+}
+
+/// What a line returns, what its output took, and its errors, where the output takes so many bytes of a write, and so
+/// many in all.
+fn printed<R: Abort + AllocGlobal + Files>(
+    rt: &R,
+    words: &[&str],
+    most: usize,
+    room: usize,
+) -> (u8, Vec<u8>, Vec<u8>) {
+    let mut out = Sink {
+        taken: Vec::new(rt.alloc()),
+        most,
+        room,
+    };
+    let mut err = Vec::new(rt.alloc());
+    let status = run(rt, words, &mut out, &mut err);
+    (status, out.taken, err)
+}
+
+/// Ends the test where a guest that writes `hi` is printed otherwise by an output that takes so many bytes of a write,
+/// and so many in all.
+fn prints_hi<R: Abort + AllocGlobal + Files>(
+    rt: &R,
+    rows: &[(usize, usize)],
+    status: u8,
+    errors: &[u8],
+) -> Result<(), Fail> {
+    let elf = file_of(rt.alloc(), &HELLO)?;
+    fs::write(rt, "hello", elf.as_slice())?;
+    for (most, room) in rows {
+        let (ended, out, err) = printed(rt, &["try", "hello"], *most, *room);
+        let front = HI.get(..*room).unwrap_or(HI);
+        same(
+            rt,
+            &(*most, *room),
+            (ended, out.as_slice(), err.as_slice()),
+            (status, front, errors),
+        );
+    }
+    fs::remove_file(rt, "hello")?;
+    Ok(())
+}
+
+#[test]
+fn output_that_is_taken_in_parts_is_whole(rt: HostRuntime) -> Result<(), Fail> {
+    let whole = HI.len();
+    prints_hi(
+        &rt,
+        &[(1, whole), (2, whole), (7, whole), (1000, 1000)],
+        0,
+        b"",
+    )
+}
+
+#[test]
+fn output_that_fails_is_told(rt: HostRuntime) -> Result<(), Fail> {
+    let rows = [(1, 0), (1, 1), (1000, 0), (1000, 3), (1, 29), (1000, 100)];
+    prints_hi(&rt, &rows, 1, b"rrv: output failed\n")
+}
+
+/// A writer that fails.
+#[derive(Drop)]
+struct Closed;
+
+impl Write for Closed {
+    fn write(&mut self, _buf: &[u8]) -> io::Result<usize> {
+        Err(io::Error::from(ErrorKind::BrokenPipe))
+    }
+
+    fn flush(&mut self) -> io::Result<()> {
+        Ok(())
+    }
+}
+
+#[test]
+fn errors_that_fail_change_no_status(rt: HostRuntime) {
+    let mut out = Vec::new(rt.alloc());
+    let refused = run(&rt, &["try", "missing"], &mut out, &mut Closed);
+    let bad = run(&rt, &["try"], &mut out, &mut Closed);
+    same(
+        &rt,
+        &"errors fail",
+        (refused, bad, out.is_empty()),
+        (1, 2, true),
+    );
+}
+
+/// A reader that gives so many bytes a call, and fails where so many are left.
+#[derive(Drop)]
+struct Failing<'a> {
+    bytes: &'a [u8],
+    most: usize,
+    rest: usize,
+    kind: ErrorKind,
+}
+
+impl<'a> Read for Failing<'a> {
+    fn read(&mut self, buf: &mut [u8]) -> io::Result<usize> {
+        if self.bytes.len() <= self.rest {
+            return Err(io::Error::from(self.kind));
+        }
+        let many = self
+            .most
+            .min(self.bytes.len().saturating_sub(self.rest))
+            .min(buf.len());
+        let (front, behind) = self
+            .bytes
+            .split_at_checked(many)
+            .ok_or(io::Error::from(self.kind))?;
+        let room = buf.get_mut(..many).ok_or(io::Error::from(self.kind))?;
+        room.copy_from_slice(front);
+        self.bytes = behind;
+        Ok(many)
+    }
+}
+
+/// What is told of a program's file whose reads fail before so many of its bytes.
+fn told<R: Abort + AllocGlobal>(rt: &R, rest: usize, kind: ErrorKind) -> Result<String, Fail> {
+    let elf = file_of(rt.alloc(), &EXIT_FIVE)?;
+    let reader = Failing {
+        bytes: elf.as_slice(),
+        most: 20,
+        rest,
+        kind,
+    };
+    match read_program(rt.alloc(), reader) {
+        Ok(bytes) => Ok(format!(in rt.alloc(); "{} bytes", bytes.len())?),
+        Err(refusal) => Ok(format!(in rt.alloc(); "{refusal}")?),
+    }
+}
+
+#[test]
+fn a_read_that_fails_is_told(rt: HostRuntime) -> Result<(), Fail> {
+    // The file has 96 bytes: no byte is read, 60 are, and all are.
+    for rest in [96, 36, 0] {
+        let other = told(&rt, rest, ErrorKind::TimedOut)?;
+        same(&rt, &rest, other.as_str(), "cannot read file");
+        let memory = told(&rt, rest, ErrorKind::OutOfMemory)?;
+        same(&rt, &rest, memory.as_str(), "out of memory");
+    }
+    let read = read_program(rt.alloc(), EXIT_BYTES)?;
+    same(&rt, &"all bytes", read.as_slice(), EXIT_BYTES);
+    Ok(())
+}
+
+/// Some bytes.
+const EXIT_BYTES: &[u8] = b"bytes of a file";
+
+/// What is printed of words that could not be read, and the status.
+fn unread<R: Abort + AllocGlobal>(rt: &R, kind: ErrorKind, want: (u8, &[u8])) {
+    let mut err = Vec::new(rt.alloc());
+    let status = report_unread(&io::Error::from(kind), &mut err);
+    same(rt, &want, (status, err.as_slice()), want);
+}
+
+#[test]
+fn words_that_are_no_text_are_told(rt: HostRuntime) {
+    let want: &[u8] = b"rrv: cannot read the command line: invalid data\n";
+    unread(&rt, ErrorKind::InvalidData, (2, want));
+}
+
+#[test]
+fn words_that_find_no_memory_are_told(rt: HostRuntime) {
+    unread(&rt, ErrorKind::OutOfMemory, (1, b"rrv: out of memory\n"));
+}
+
+#[test]
+fn a_parser_that_is_out_of_memory_is_told(rt: HostRuntime) {
+    let want: &[u8] = b"rrv: out of memory\n";
+    let mut out = Vec::new(rt.alloc());
+    let mut err = Vec::new(rt.alloc());
+    let status = report(&clap::Error::from(AllocError), &mut out, &mut err);
+    same(
+        &rt,
+        &want,
+        (status, out.is_empty(), err.as_slice()),
+        (1, true, want),
+    );
+}
