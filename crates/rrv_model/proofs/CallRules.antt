@@ -12,8 +12,9 @@ use Rattle.rrv_model.specs.declared.record.CallRecord.{CallRecord}
 use Rattle.rrv_model.specs.Memory.{Memory, IsMemory, mapped, unmapped, protected, page_count, page_bytes, pages_for, highest_free_up_to, readable, writable, all_mapped, all_free}
 use Rattle.rrv_model.specs.State.{State, IsState, IsThread, IsRunning, thread_at, register}
 use Rattle.rrv_model.specs.Step.{word_at}
-use Rattle.rrv_model.specs.CallRows.{Row, Returns, NoResult, AsksInput, AsksRandom, AsksTime, Call, argument, set_register, fails, only_returns, unchanged, range, transfer, is_output, read_row, write_row, writev_row, buffers_at, clipped, all_readable, total_len, exit_row, exit_group_row, clears, leaves, ends, wakes, waits, waiters, change_thread, set_tid_address_row, futex_row, clone_row, child_of, tid_places, are_clone_flags, has_flag, all_writable, permissions_of, page_limit, brk_row, munmap_row, mmap_place, maps_at, mmap_row, mprotect_row, getrandom_row, clock_gettime_row, row_of, call_of}
-use Rattle.rrv_model.specs.CallRows as calls
+use Rattle.rrv_model.specs.CallRows.{Row, Returns, NoResult, AsksInput, AsksRandom, AsksTime, argument, set_register, fails, only_returns, unchanged, range, transfer, is_output, read_row, write_row, writev_row, buffers_at, clipped, all_readable, total_len, exit_row, exit_group_row, clears, leaves, ends, wakes, waits, waits_at, waiters, change_thread, set_tid_address_row, futex_row, clone_row, child_of, tid_places, are_clone_flags, has_flag, all_writable, permissions_of, page_limit, brk_row, munmap_row, mmap_place, maps_at, mmap_row, mprotect_row, getrandom_row, clock_gettime_row, row_of, syscall_of}
+use Rattle.rrv_model.specs.declared.syscall.Syscall.{Syscall}
+use Rattle.rrv_model.specs.declared.syscall.Syscall.TheVariants as calls
 use Rattle.rrv_model.specs.Calls.{Answer, Silence, Bytes, Time, Calls, HasRecord, after_call, call_row, writes, results}
 use Rattle.rrv_model.proofs.FreePlaces.{highest_free_is_found}
 use Rattle.rrv_model.proofs.MemoryRules.{AreWritten, all-low_first, memory-mapped, memory-unmapped, memory-protected}
@@ -133,7 +134,7 @@ set_tid_address_keeps tid s t there h =
     (small-tid s tid t there h, tt, keeps-clear tid (argument t 0) s (small-argument t 0 (thread_of_state s tid t there h)) h)
 
 few_waiters : (s : State) (a count : ℕ) → count < 2 ^ 32 → length (waiters s a count) < 2 ^ 32
-few_waiters s a count low = let few = length-take count (filter (calls.waits_at s a) s.waiting) in omega (arith, few)
+few_waiters s a count low = let few = length-take count (filter (waits_at s a) s.waiting) in omega (arith, few)
 
 futex_keeps : (tid : ℕ) (s : State) (t : Thread) → thread_at s tid ≡ Some t → IsRunning (thread_at s tid) → IsState s → RowKeeps (futex_row tid s t) s
 futex_keeps tid s t there runs h =
@@ -320,7 +321,7 @@ clock_gettime_keeps s t h =
 
 -- ---- all rows
 
-row_keeps : (call : Call) (tid : ℕ) (s : State) (t : Thread) → thread_at s tid ≡ Some t → t.waits_at ≡ None → IsRunning (thread_at s tid) → IsState s → RowKeeps (row_of call tid s t) s
+row_keeps : (call : Syscall) (tid : ℕ) (s : State) (t : Thread) → thread_at s tid ≡ Some t → t.waits_at ≡ None → IsRunning (thread_at s tid) → IsState s → RowKeeps (row_of call tid s t) s
 unfolding row_of
 row_keeps calls.Read tid s t there waits runs h = read_keeps s t h
 row_keeps calls.Write tid s t there waits runs h = write_keeps s t h
@@ -346,4 +347,4 @@ pub call_keeps_state : (s : State) (tid : ℕ) (answer : Answer) (r : CallRecord
 call_keeps_state s tid answer r after p h =
     let runs : IsRunning (thread_at s tid) = subst (λ (o : Option Thread). IsRunning o) (sym p.there) p.running in
     subst IsState (sym p.leaves)
-    (after_keeps (call_row s tid p.thread) tid answer r s p.records (row_keeps (call_of (register p.thread.regs 17)) tid s p.thread p.there p.running runs h) h)
+    (after_keeps (call_row s tid p.thread) tid answer r s p.records (row_keeps (syscall_of (register p.thread.regs 17)) tid s p.thread p.there p.running runs h) h)
