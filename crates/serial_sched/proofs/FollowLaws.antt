@@ -9,7 +9,7 @@ use Rattle.rrv_model.specs.declared.record.Frame.{Frame}
 use Rattle.rrv_model.specs.State.{State, thread_at}
 use Rattle.rrv_model.specs.Calls.{Answer, Calls}
 use Rattle.rrv_model.specs.FrameStep.{Steps, FrameStep, FrameStepBy, EndsInCall, EndsInFault, closed}
-use Rattle.rrv_model.specs.Output.{Chunk, put_out_by}
+use Rattle.rrv_model.specs.Output.{CallPutsAt, Chunk, put_out_by}
 use Rattle.rv_machine.specs.declared.run.RunEnd.{RunEnd}
 use Rattle.rv_machine.specs.declared.run.RunEnd.TheVariants as ends
 use Rattle.guest_calls.specs.Asking.{Question, CallIsAnswered}
@@ -17,7 +17,7 @@ use Rattle.guest_calls.specs.Growth.{CallMayGrow}
 use Rattle.guest_calls.specs.Runs.{RunsTo, RunsToCall}
 use Rattle.serial_sched.specs.Answered.{answered, Recalls}
 use Rattle.serial_sched.specs.Slices.{CallPuts}
-use Rattle.serial_sched.specs.Follows.{CallMeetsNoMemory, CallPutsAt, EndMeetsNoMemory, FrameMeetsNoMemory, Reaches, ReachesCall, ReachesFault}
+use Rattle.serial_sched.specs.Follows.{CallMeetsNoMemory, EndMeetsNoMemory, FrameMeetsNoMemory, Reaches, ReachesCall, ReachesFault}
 use Rattle.serial_sched.proofs.Ways.{reached, one_run_end, one_called}
 use Rattle.serial_sched.proofs.Determined.{told_again}
 use Rattle.serial_sched.proofs.SliceLaws.{call_puts}
