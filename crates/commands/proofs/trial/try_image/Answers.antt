@@ -13,16 +13,16 @@ use Rattle.commands.proofs.trial.try_image.Goals as goal
 pub returns-in_err-recorded-clause-refused : goal.returns-in_err-recorded-clause-refused
 returns-in_err-recorded-clause-refused c =
     let p = err_from_is_err_and c.from_residual.result c.from_residual.ensures.1 in
-    rw (p.1, p.2) (recording_refused ghosts.honest ghosts.faults c.in_err-recorded.field-0.0 c.args.quantum (opening_of 0 c.args.image c.args.name.now c.args.random) c.in-Ok.log c.record_guest.new.log tt (c.in-Ok.ensures.kept tt)
-    (subst (λ n. HasStopped ghosts.honest ghosts.state ghosts.faults n c.args.quantum (opening_of n c.args.image c.args.name.now c.args.random) c.in_err-recorded.field-0.0 c.in-Ok.log c.record_guest.new.log)
+    rw (p.1, p.2) (recording_refused c.in_err-recorded.field-0.0 c.args.quantum (opening_of 0 c.args.image c.args.name.now c.args.random) c.in-Ok.log c.record_guest.new.log (c.in-Ok.ensures.kept tt)
+    (subst (λ n. HasStopped ghosts n c.args.quantum (opening_of n c.args.image c.args.name.now c.args.random) c.in_err-recorded.field-0.0 c.in-Ok.log c.record_guest.new.log)
     c.in-Ok.ensures.next_guest c.in_err-recorded.ensures.stopped))
 
 pub returns-in-Err-open-clause-refused : goal.returns-in-Err-open-clause-refused
 returns-in-Err-open-clause-refused c =
     let first = opening_of 0 c.args.image c.args.name.now c.args.random in
     let s = state_of c.in_ok-recorded.recorded in
-    let gained : HasGained ghosts.honest ghosts.state 0 c.args.quantum first c.in-Ok.log c.record_guest.new.log s =
-    subst (λ n. HasGained ghosts.honest ghosts.state n c.args.quantum (opening_of n c.args.image c.args.name.now c.args.random) c.in-Ok.log c.record_guest.new.log s) c.in-Ok.ensures.next_guest c.in_ok-recorded.ensures.recorded in
+    let gained : HasGained ghosts 0 c.args.quantum first c.in-Ok.log c.record_guest.new.log s =
+    subst (λ n. HasGained ghosts n c.args.quantum (opening_of n c.args.image c.args.name.now c.args.random) c.in-Ok.log c.record_guest.new.log s) c.in-Ok.ensures.next_guest c.in_ok-recorded.ensures.recorded in
     let store = kept_store (ghosts.state) c.record_guest.new.log c.close.result (texts_of gained.records) c.close.ensures (gained.keeps [] tt (c.in-Ok.ensures.kept tt)) in
     open_refused c.from-in-Err-open.result c.in-Err-open.fault c.args.quantum first c.from-in-Err-open.ensures
     (c.in-Err-open.ensures.only_if_refused (texts_of gained.records) gained.records tt store (whole_recovery c.args.quantum first gained.records s gained.recorded))
@@ -32,8 +32,8 @@ returns-in_err-replayed-clause-refused c =
     let p = err_from_is_err_and c.from_residual-in_err-replayed.result c.from_residual-in_err-replayed.ensures.1 in
     let first = opening_of 0 c.args.image c.args.name.now c.args.random in
     let s = state_of c.in_ok-recorded.recorded in
-    let gained : HasGained ghosts.honest ghosts.state 0 c.args.quantum first c.in-Ok.log c.record_guest.new.log s =
-    subst (λ n. HasGained ghosts.honest ghosts.state n c.args.quantum (opening_of n c.args.image c.args.name.now c.args.random) c.in-Ok.log c.record_guest.new.log s) c.in-Ok.ensures.next_guest c.in_ok-recorded.ensures.recorded in
+    let gained : HasGained ghosts 0 c.args.quantum first c.in-Ok.log c.record_guest.new.log s =
+    subst (λ n. HasGained ghosts n c.args.quantum (opening_of n c.args.image c.args.name.now c.args.random) c.in-Ok.log c.record_guest.new.log s) c.in-Ok.ensures.next_guest c.in_ok-recorded.ensures.recorded in
     let store = kept_store (ghosts.state) c.record_guest.new.log c.close.result (texts_of gained.records) c.close.ensures (gained.keeps [] tt (c.in-Ok.ensures.kept tt)) in
     let opened = c.in-Ok-open.ensures.exact (texts_of gained.records) tt store in
     let again = found_again c.args.quantum first gained.records c.in-Ok-open.opened.1 c.in_ok-records.records.items s gained.recorded opened.1 c.in_ok-records.ensures.records in
@@ -44,8 +44,8 @@ pub returns-clause-program : goal.returns-clause-program
 returns-clause-program c =
     let first = opening_of 0 c.args.image c.args.name.now c.args.random in
     let s = state_of c.in_ok-recorded.recorded in
-    let gained : HasGained ghosts.honest ghosts.state 0 c.args.quantum first c.in-Ok.log c.record_guest.new.log s =
-    subst (λ n. HasGained ghosts.honest ghosts.state n c.args.quantum (opening_of n c.args.image c.args.name.now c.args.random) c.in-Ok.log c.record_guest.new.log s) c.in-Ok.ensures.next_guest c.in_ok-recorded.ensures.recorded in
+    let gained : HasGained ghosts 0 c.args.quantum first c.in-Ok.log c.record_guest.new.log s =
+    subst (λ n. HasGained ghosts n c.args.quantum (opening_of n c.args.image c.args.name.now c.args.random) c.in-Ok.log c.record_guest.new.log s) c.in-Ok.ensures.next_guest c.in_ok-recorded.ensures.recorded in
     let store = kept_store (ghosts.state) c.record_guest.new.log c.close.result (texts_of gained.records) c.close.ensures (gained.keeps [] tt (c.in-Ok.ensures.kept tt)) in
     let opened = c.in-Ok-open.ensures.exact (texts_of gained.records) tt store in
     (found_again c.args.quantum first gained.records c.in-Ok-open.opened.1 c.in_ok-records.records.items s gained.recorded opened.1 c.in_ok-records.ensures.records).opens
@@ -54,8 +54,8 @@ pub returns-clause-turns : goal.returns-clause-turns
 returns-clause-turns c =
     let first = opening_of 0 c.args.image c.args.name.now c.args.random in
     let s = state_of c.in_ok-recorded.recorded in
-    let gained : HasGained ghosts.honest ghosts.state 0 c.args.quantum first c.in-Ok.log c.record_guest.new.log s =
-    subst (λ n. HasGained ghosts.honest ghosts.state n c.args.quantum (opening_of n c.args.image c.args.name.now c.args.random) c.in-Ok.log c.record_guest.new.log s) c.in-Ok.ensures.next_guest c.in_ok-recorded.ensures.recorded in
+    let gained : HasGained ghosts 0 c.args.quantum first c.in-Ok.log c.record_guest.new.log s =
+    subst (λ n. HasGained ghosts n c.args.quantum (opening_of n c.args.image c.args.name.now c.args.random) c.in-Ok.log c.record_guest.new.log s) c.in-Ok.ensures.next_guest c.in_ok-recorded.ensures.recorded in
     let store = kept_store (ghosts.state) c.record_guest.new.log c.close.result (texts_of gained.records) c.close.ensures (gained.keeps [] tt (c.in-Ok.ensures.kept tt)) in
     let opened = c.in-Ok-open.ensures.exact (texts_of gained.records) tt store in
     (found_again c.args.quantum first gained.records c.in-Ok-open.opened.1 c.in_ok-records.records.items s gained.recorded opened.1 c.in_ok-records.ensures.records).turns
@@ -64,8 +64,8 @@ pub returns-clause-same : goal.returns-clause-same
 returns-clause-same c =
     let first = opening_of 0 c.args.image c.args.name.now c.args.random in
     let s = state_of c.in_ok-recorded.recorded in
-    let gained : HasGained ghosts.honest ghosts.state 0 c.args.quantum first c.in-Ok.log c.record_guest.new.log s =
-    subst (λ n. HasGained ghosts.honest ghosts.state n c.args.quantum (opening_of n c.args.image c.args.name.now c.args.random) c.in-Ok.log c.record_guest.new.log s) c.in-Ok.ensures.next_guest c.in_ok-recorded.ensures.recorded in
+    let gained : HasGained ghosts 0 c.args.quantum first c.in-Ok.log c.record_guest.new.log s =
+    subst (λ n. HasGained ghosts n c.args.quantum (opening_of n c.args.image c.args.name.now c.args.random) c.in-Ok.log c.record_guest.new.log s) c.in-Ok.ensures.next_guest c.in_ok-recorded.ensures.recorded in
     let store = kept_store (ghosts.state) c.record_guest.new.log c.close.result (texts_of gained.records) c.close.ensures (gained.keeps [] tt (c.in-Ok.ensures.kept tt)) in
     let opened = c.in-Ok-open.ensures.exact (texts_of gained.records) tt store in
     let again = found_again c.args.quantum first gained.records c.in-Ok-open.opened.1 c.in_ok-records.records.items s gained.recorded opened.1 c.in_ok-records.ensures.records in
