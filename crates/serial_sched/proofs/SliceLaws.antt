@@ -12,7 +12,7 @@ use Rattle.rrv_model.specs.State.{State, thread_at, with_thread, IsRunning}
 use Rattle.rrv_model.specs.Step.{ThreadMayStore, ThreadMayTakeMemory}
 use Rattle.rrv_model.specs.CallRows.{change_thread}
 use Rattle.rrv_model.specs.Calls.{Answer, Calls}
-use Rattle.rrv_model.specs.FrameStep.{FrameStep, Steps, closed, closed_at_end}
+use Rattle.rrv_model.specs.FrameStep.{EndsInCall, FrameStep, Steps, closed, closed_at_end}
 use Rattle.rrv_model.specs.Output.{CallPutsAt, Chunk, put_out_by}
 use Rattle.rrv_model.specs.RecordText.{HasCallText}
 use Rattle.guest_calls.specs.Guest.{GuestValue, chunks_of, counted, state_of}
@@ -23,8 +23,7 @@ use Rattle.guest_calls.specs.Carries.{CallAsks}
 use Rattle.guest_calls.specs.Growth.{CallMayGrow}
 use Rattle.serial_sched.specs.Asking.{Gives}
 use Rattle.serial_sched.specs.Slices.{CanRun, CallsToGrow, IsSliceOf, IsUntouched, IsWhole, NextMayGrow}
-use Rattle.serial_sched.specs.Follows.{ReachesCall}
-use Rattle.serial_sched.proofs.Ways.{get-insert_same, running_behind, steps_end_none}
+use Rattle.serial_sched.proofs.OneStep.{call_reached, get-insert_same, running_behind, steps_end_none}
 use Rattle.serial_sched.proofs.Ecalls.{call_may_take, store_may_take}
 
 -- ---- what a call puts out
@@ -92,6 +91,21 @@ pub refused_call_grows : {E : Type 0} (r : Result Frame E) (limit tid count : �
     CallMayGrow called tid (thread_at called tid) → OnErr r (count - 1 ≡ 0) → OnErr r (NextMayGrow s tid)
 refused_call_grows r limit tid count s called p grows first =
     none_ran (λ (x : State). NextMayGrow x tid) r tid (count - 1) s p.before p.steps (inr (calls_to_grow limit tid count s called p grows)) first
+
+-- a run to a call and what the call does end a slice
+pub ends_in_call : (limit tid count : ℕ) (s called after new : State) (answer : Answer) (r : CallRecord) → RunsToCall limit tid count s called →
+    Calls called tid answer r after → new ≡ closed after → EndsInCall s tid count r new
+ends_in_call limit tid count s called after new answer r p calls closes = record {
+  some = p.some;
+  before = p.before;
+  steps = p.steps;
+  called = called;
+  calls = p.calls;
+  answer = answer;
+  after = after;
+  answered = calls;
+  new_is = closes;
+}
 
 -- ---- slices
 
@@ -200,23 +214,12 @@ module _ {O : Type 0} (gives : Gives O) (old new : GuestValue) (choice : Choice)
       new.ran ≡ counted old.ran count → guest_snapshots new ≡ guest_snapshots old → IsSliceOf gives old choice f new before after
   call_slice f count called after_call answer r is p calls text puts answered unasked closes ran snapshots =
       let most = can.quantum.1 in let some = p.some in let within = p.within in
-      let reaches : ReachesCall count choice.tid (state_of old) called =
-      record { some = p.some; before = p.before; steps = p.steps; calls = p.calls } in
+      let reaches = call_reached choice.quantum count choice.tid (state_of old) called p in
       same_frame gives old new choice before after (record { tid = choice.tid; count = count; end = ends.Call r }) f is (record {
         frame = record {
           runs = can.runs;
           limit = omega arith;
-          goes = record {
-            some = p.some;
-            before = p.before;
-            steps = p.steps;
-            called = called;
-            calls = p.calls;
-            answer = answer;
-            after = after_call;
-            answered = calls;
-            new_is = closes;
-          };
+          goes = ends_in_call choice.quantum choice.tid count (state_of old) called after_call (state_of new) answer r p calls closes;
         };
         text = (record { tid_low = can.tid.0; tid_high = can.tid.1; count_low = p.some; count_high = omega arith }, text);
         fits = (refl, p.within);
