@@ -28,8 +28,8 @@ pub record IsRecorded (guest : ℕ) (records : List Record) (s : State) : Type 0
 abbrev pub IsFirst : Record → List Record → Type 0
 IsFirst r records = (rest : List Record) × (records ≡ r ∷ rest)
 
--- The records of this guest, its opening's first, are a recording that ends in this state, and each has a text. Its threads
--- take turns by this quantum.
+-- The records of this guest, its opening's first, are a recording that ends in this state, and each has a text. Its
+-- threads take turns by this quantum.
 pub record IsRecordedBy (guest quantum : ℕ) (opening : Record) (records : List Record) (s : State) : Type 0 where
   pub opens : IsFirst opening records
   pub recorded : IsRecorded guest records s

@@ -11,8 +11,8 @@ use Rattle.serial_sched.specs.Slices.{FitsChoice}
 use Rattle.serial_sched.specs.Turns.{turn}
 use Rattle.recorder.specs.Silent.{IsSilentFrame}
 
--- The frame is the slice, by this quantum, of the thread whose turn it is: of those that run the first above the one that
--- ran last, else the first. Where no thread runs it is the guest's end. Its call is answered by a silent environment.
+-- The frame is the slice, by this quantum, of the thread whose turn it is: of those that run the first above the one
+-- that ran last, else the first. Where no thread runs it is the guest's end. Its call is answered by a silent environment.
 pub record IsTurn (quantum last : ℕ) (s : State) (f : Frame) : Type 0 where
   pub fits : FitsChoice f.end s f (record { tid = f.tid; quantum = quantum })
   pub first : f.end ≢ ends.Stuck → (tid : ℕ) → IsRunning (thread_at s tid) → turn last f.tid ≤ turn last tid

@@ -75,8 +75,8 @@ pub record LacksMemoryAt (index : ℕ) (records : List Record) : Type 0 where
   pub ends : EndsIn (items_of (take index records)) last
   pub there : IsSomeAnd (slice_get records index) (λ r. LacksMemory guest index r last)
 
--- A replay is refused where no recording begins, by the index of the first record that doesn't follow, or where memory runs
--- out.
+-- A replay is refused where no recording begins, by the index of the first record that doesn't follow, or where memory
+-- runs out.
 abbrev pub RefusesReplay : ReplayFault → List Record → Type 0
 RefusesReplay refusals.BadOpening records = IsRecording (take 1 records) → ⊥
 RefusesReplay (refusals.Mismatch index) records = StopsAt index records

@@ -24,8 +24,8 @@ abbrev pub Gives : Type 0 → Type 1
 Gives O = O → Question → Answer → O → Type 0
 
 -- the last of so many instructions is a call, whose record is that of an answer that the environment gave
-pub record CallIsAnsweredAt {O : Type 0} (gives : Gives O) (old : State) (tid count : ℕ) (r : CallRecord) (before after : O)
-    : Type 0 where
+pub record CallIsAnsweredAt {O : Type 0} (gives : Gives O) (old : State) (tid count : ℕ) (r : CallRecord)
+    (before after : O) : Type 0 where
   pub called : State
   pub reaches : ReachesCall count tid old called
   pub answered : CallIsAnswered gives called tid (thread_at called tid) r before after

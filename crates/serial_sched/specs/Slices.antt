@@ -66,8 +66,8 @@ pub record CanRun (old : State) (choice : Choice) : Type 0 where
   pub running : IsRunning (thread_at old choice.tid)
   pub quantum : IsQuantum choice.quantum
 
--- The frame is the slice of this choice. It leads from one guest to the other, whose snapshots stay, and from one state of
--- the environment to another, which is asked by the frame's call alone.
+-- The frame is the slice of this choice. It leads from one guest to the other, whose snapshots stay, and from one state
+-- of the environment to another, which is asked by the frame's call alone.
 pub record IsSliceOf {O : Type 0} (gives : Gives O) (old : GuestValue) (choice : Choice) (f : Frame) (new : GuestValue)
     (before after : O) : Type 0 where
   pub frame : FrameStep (state_of old) f (state_of new)

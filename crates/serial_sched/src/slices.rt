@@ -17,8 +17,8 @@ use rrv_model::refusal::Memory;
 use std::alloc::Global;
 
 /// Runs the chosen thread until it has run the quantum, makes a call or faults, or its next instruction finds no
-/// memory. Where no thread runs, whatever the choice, the guest is stuck, which ends it. The environment is asked by calls
-/// alone, and its answer is what the frame tells. A refusal changes nothing.
+/// memory. Where no thread runs, whatever the choice, the guest is stuck, which ends it. The environment is asked by
+/// calls alone, and its answer is what the frame tells. A refusal changes nothing.
 pub fn slice<O: Outside>(
     alloc: Global,
     guest: &mut Guest,

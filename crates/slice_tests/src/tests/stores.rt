@@ -13,6 +13,7 @@ const A1_PAGE: u32 = 0x7FF0_15B7;
 const A1_FOUR_BEFORE: u32 = 0xFFC5_8593;
 /// `lui a2, 0x12345`, `addi a2, a2, 0x678`
 const A2_HIGH: u32 = 0x1234_5637;
+
 const A2_LOW: u32 = 0x6786_0613;
 /// `li a3, 0x5A5`
 const A3_VALUE: u32 = 0x5A50_0693;
@@ -23,6 +24,7 @@ const STORE_WORD: u32 = 0xFEC5_AF23;
 
 /// The last word of the page before, and the first one of the page.
 const LAST: u32 = 0x7FF0_0FFC;
+
 const NEXT: u32 = 0x7FF0_1000;
 
 /// A file of 64 instructions, of which these are the first.
