@@ -1,12 +1,13 @@
 -- A clone that makes a thread.
-use Rattle.std.specs.Prelude.{ℕ, ◌+◌, List, flat_map}
+use Rattle.std.specs.Prelude.{◌≡◌, ℕ, ◌+◌, ◌≤◌, true, false, List, None, flat_map, length}
 use Rattle.std.specs.Int.{w32, to_le_bytes}
 use Rattle.rrv_model.specs.declared.machine.Thread.{Thread}
 use Rattle.rrv_model.specs.declared.record.Written.{Written}
-use Rattle.rrv_model.specs.State.{State, with_thread}
-use Rattle.rrv_model.specs.CallRows.{Row, Returns, child_of, range, with_memory}
+use Rattle.rrv_model.specs.State.{State, with_thread, IsThread}
+use Rattle.rrv_model.specs.CallRows.{Row, Returns, all_writable, child_of, range, with_memory}
 use Rattle.guest_pages.specs.Stores.{stored_at_each}
-use Rattle.guest_threads.specs.Threads.{spawned}
+use Rattle.guest_threads.specs.Threads.{is_full, spawned}
+use Rattle.guest_calls.specs.Guest.{GuestValue, state_of}
 
 -- a word, written at each place
 abbrev pub words_at : List ℕ → ℕ → List Written
@@ -21,3 +22,11 @@ makes_child s t places = Returns s.next_tid (words_at places s.next_tid)
 abbrev pub with_child_at : List ℕ → Thread → State → State
 with_child_at places t s =
     with_memory (stored_at_each places (to_le_bytes w32 s.next_tid) s.memory) (spawned (child_of t) s)
+
+-- the thread may have a child, whose tid is written at two places at most
+pub record MayHaveChild (g : GuestValue) (t : Thread) (places : List ℕ) : Type 0 where
+  pub fits : IsThread t
+  pub running : t.waits_at ≡ None
+  pub room : is_full g.threads ≡ false
+  pub few : length places ≤ 2
+  pub allowed : all_writable (state_of g).memory places ≡ true

@@ -11,7 +11,7 @@ ghost use Rattle.rrv_model.specs.RecordText.{HasCallText, HasWrittenText};
 ghost use Rattle.guest_threads.specs.Threads.{is_full, spawned, with_threads};
 ghost use Rattle.guest_calls.specs.Guest.{state_of};
 ghost use Rattle.guest_calls.specs.Carries.{KeepsRest, Makes};
-ghost use Rattle.guest_calls.specs.Clones.{makes_child, with_child_at, words_at};
+ghost use Rattle.guest_calls.specs.Clones.{MayHaveChild, makes_child, with_child_at, words_at};
 ghost use Rattle.guest_calls.specs.Growth.{Succeeds};
 
 use crate::calls::{BAD_ADDRESS, INVALID, TRY_AGAIN, failure};
@@ -209,11 +209,7 @@ impl Guest {
         thread: &Thread,
         places: &[u32],
     ) -> Result<CallRecord, Memory>
-        requires fits { IsThread thread.now }
-        requires running { thread.now.waits_at ≡ None }
-        requires room { is_full self.old.threads ≡ false }
-        requires few { length places.now ≤ 2 }
-        requires allowed { all_writable (state_of self.old).memory places.now ≡ true }
+        requires { MayHaveChild self.old thread.now places.now }
         ensures makes { IfOk result (λ r.
             Makes (makes_child (state_of self.old) thread.now places.now) [] tid self.old r self.new) }
         ensures refused { OnErr result (self.new ≡ self.old) }
@@ -232,11 +228,7 @@ impl Guest {
         thread: &Thread,
         places: &[u32],
     ) -> Result<CallRecord, Memory>
-        requires fits { IsThread thread.now }
-        requires running { thread.now.waits_at ≡ None }
-        requires room { is_full self.old.threads ≡ false }
-        requires few { length places.now ≤ 2 }
-        requires allowed { all_writable (state_of self.old).memory places.now ≡ true }
+        requires { MayHaveChild self.old thread.now places.now }
         ensures state { OnOk result (state_of self.new ≡ with_child_at places.now thread.now (state_of self.old)) }
         ensures record_is { IfOk result (λ r. let tid = (state_of self.old).next_tid in
             r ≡ record { result = tid; written = words_at places.now tid }) }
