@@ -11,6 +11,7 @@ use Rattle.rrv_model.proofs.RunLaws.{one_end_state}
 use Rattle.rrv_model.specs.Settled.{IsSettled}
 use Rattle.trace_disk.specs.declared.mem_disk.MemDisk.{MemDisk}
 use Rattle.trace_disk.specs.MemDisk.{memory_state}
+use Rattle.trace_disk.specs.contracts.mem_disk.MemDiskDisk.TheImpl.{ghosts}
 use Rattle.trace_log.specs.Kept.{Keeps, LogValue}
 use Rattle.trace_log.specs.declared.log.LogFault.{LogFault}
 use Rattle.trace_log.specs.declared.log.LogFault.TheVariants as log_faults
@@ -27,7 +28,7 @@ use Rattle.recorder.specs.Told.{log_told}
 use Rattle.replayer.specs.declared.fault.ReplayFault.{ReplayFault}
 use Rattle.commands.specs.Told.{open_told, recording_told, replay_told}
 use Rattle.commands.specs.Tried.{RefusesTrial}
-use Rattle.replayer.proofs.Stopped.{refuses_recording}
+use Rattle.replayer.proofs.ReplayRefusals.{refuses_recording}
 use Rattle.commands.proofs.NoPart.{no_part}
 use Rattle.commands.proofs.RecoveredRecordings.{recording_recovered, of_guest_all}
 
@@ -76,12 +77,12 @@ open_refused e fault quantum first is which = elim which [
   | inr memory ↦ refused_for_memory e quantum first (is ∙ ap open_told memory)
 ]
 
-pub recording_refused : (honest : MemDisk → Type 0) (faults : MemDisk → ℕ) (e : RecordingFault) (quantum : ℕ) (first : Record) (old new : LogValue MemDisk) → honest old.disk → Keeps memory_state old [] →
-    HasStopped honest memory_state faults 0 quantum first e old new → RefusesTrial (recording_told e) quantum first
-recording_refused honest faults recording_faults.Memory quantum first old new is_honest kept h = tt
-recording_refused honest faults recording_faults.DeviceFailed quantum first old new is_honest kept h = tt
-recording_refused honest faults recording_faults.StoreFull quantum first old new is_honest kept h =
-    record { records = h.records; unfinished = h.unfinished; log = new; keeps = h.keeps (λ e. cc) [] is_honest kept; past = h.refuses }
+pub recording_refused : (e : RecordingFault) (quantum : ℕ) (first : Record) (old new : LogValue MemDisk) → Keeps memory_state old [] →
+    HasStopped ghosts 0 quantum first e old new → RefusesTrial (recording_told e) quantum first
+recording_refused recording_faults.Memory quantum first old new kept h = tt
+recording_refused recording_faults.DeviceFailed quantum first old new kept h = tt
+recording_refused recording_faults.StoreFull quantum first old new kept h =
+    record { records = h.records; unfinished = h.unfinished; log = new; keeps = h.keeps (λ e. cc) [] tt kept; past = h.refuses }
 
 -- what was recorded replays, unless memory is lacking
 pub replay_refused : (e : ReplayFault) (quantum : ℕ) (first : Record) (records : List Record) (s : State) → IsRecordedBy 0 quantum first records s → RefusesReplay e records → RefusesTrial (replay_told e) quantum first

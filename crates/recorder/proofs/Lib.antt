@@ -1,6 +1,6 @@
 pub mod Sizes
 pub mod Outcomes
-pub mod Silent
-pub mod Turned
-pub mod Gained
-pub mod Halted
+pub mod Silence
+pub mod Turns
+pub mod Growth
+pub mod RecordingRefusals

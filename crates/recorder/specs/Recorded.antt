@@ -14,7 +14,8 @@ texts_of records = map record_text records
 
 -- the record of an opening
 abbrev pub opening_of : ℕ → List ℕ → List ℕ → List ℕ → Record
-opening_of guest elf name random = record { guest = guest; index = 0; item = items.Opening (record { elf = elf; name = name; random = random }) }
+opening_of guest elf name random =
+    record { guest = guest; index = 0; item = items.Opening (record { elf = elf; name = name; random = random }) }
 
 -- the records of this guest are a recording that ends in this state, and each has a text
 pub record IsRecorded (guest : ℕ) (records : List Record) (s : State) : Type 0 where
@@ -25,11 +26,11 @@ pub record IsRecorded (guest : ℕ) (records : List Record) (s : State) : Type 0
 
 -- this is the first of the records
 abbrev pub IsFirst : Record → List Record → Type 0
-IsFirst first records = (rest : List Record) × (records ≡ first ∷ rest)
+IsFirst r records = (rest : List Record) × (records ≡ r ∷ rest)
 
--- The records of this guest, the first of them this one, are a recording that ends in this state, and each has a text. Its
+-- The records of this guest, its opening's first, are a recording that ends in this state, and each has a text. Its
 -- threads take turns by this quantum.
-pub record IsRecordedBy (guest quantum : ℕ) (first : Record) (records : List Record) (s : State) : Type 0 where
-  pub opens : IsFirst first records
+pub record IsRecordedBy (guest quantum : ℕ) (opening : Record) (records : List Record) (s : State) : Type 0 where
+  pub opens : IsFirst opening records
   pub recorded : IsRecorded guest records s
   pub turns : TakesTurns quantum (items_of records)

@@ -1,4 +1,4 @@
--- The outside of a guest that is given nothing.
+-- The environment of a guest that is given nothing.
 use Rattle.std.specs.Prelude.{◌≡◌, [], replicate}
 use Rattle.rrv_model.specs.declared.record.Frame.{Frame}
 use Rattle.rrv_model.specs.Calls.{Answer, Bytes, Time}

@@ -15,8 +15,8 @@ use Rattle.serial_sched.specs.Follows.{FrameMeetsNoMemory}
 use Rattle.replayer.specs.declared.fault.ReplayFault.{ReplayFault}
 use Rattle.replayer.specs.declared.fault.ReplayFault.TheVariants as refusals
 
--- An opening is refused where no state is its opening state. Memory is taken for it only where its name is one, and its file
--- is refused by none of the first twelve tests.
+-- An opening is refused where no state is its opening state. Memory is taken for it only where its name is one, and its
+-- file is refused by none of the first twelve tests.
 abbrev pub RefusesOpening : ReplayFault → Opening → Type 0
 RefusesOpening refusals.BadOpening o = (s : State) → Opens o.elf o.name o.random s → ⊥
 RefusesOpening refusals.Memory o = IsName o.name × IsPastRefusal 12 o.elf
@@ -25,16 +25,19 @@ RefusesOpening _ o = ⊥
 -- a first record is refused where it is no recording alone
 abbrev pub RefusesFirst : ReplayFault → Record → Type 0
 RefusesFirst refusals.BadOpening first = IsRecording (first ∷ []) → ⊥
-RefusesFirst refusals.Memory first = (first.index ≡ 0) × ((o : Opening) × (first.item ≡ items.Opening o) × RefusesOpening refusals.Memory o)
+RefusesFirst refusals.Memory first =
+    (first.index ≡ 0) × ((o : Opening) × (first.item ≡ items.Opening o) × RefusesOpening refusals.Memory o)
 RefusesFirst _ first = ⊥
 
 -- the record isn't this guest's frame of this index, or its frame leads nowhere from the state
 abbrev pub LeadsNowhere : ℕ → ℕ → Record → State → Type 0
-LeadsNowhere guest index r s = (f : Frame) (new : State) → r.guest ≡ guest → r.index ≡ index → r.item ≡ items.Frame f → FrameStep s f new → ⊥
+LeadsNowhere guest index r s =
+    (f : Frame) (new : State) → r.guest ≡ guest → r.index ≡ index → r.item ≡ items.Frame f → FrameStep s f new → ⊥
 
 -- a frame takes memory for its instructions, or to keep what it puts out
 abbrev pub TakesMemory : State → Frame → Type 0
-TakesMemory s f = FrameMeetsNoMemory s f ⊎ ((new : State) × (chunks : List Chunk) × FrameStep s f new × FramePuts s f f.end chunks × (1 ≤ length chunks))
+TakesMemory s f = FrameMeetsNoMemory s f
+    ⊎ ((new : State) × (chunks : List Chunk) × FrameStep s f new × FramePuts s f f.end chunks × (1 ≤ length chunks))
 
 -- the record is this guest's frame of this index, and its frame takes memory
 pub record LacksMemory (guest index : ℕ) (r : Record) (s : State) : Type 0 where
@@ -72,9 +75,11 @@ pub record LacksMemoryAt (index : ℕ) (records : List Record) : Type 0 where
   pub ends : EndsIn (items_of (take index records)) last
   pub there : IsSomeAnd (slice_get records index) (λ r. LacksMemory guest index r last)
 
--- a replay is refused where no recording begins, by the index of the first record that doesn't follow, or for want of memory
+-- A replay is refused where no recording begins, by the index of the first record that doesn't follow, or where memory
+-- runs out.
 abbrev pub RefusesReplay : ReplayFault → List Record → Type 0
 RefusesReplay refusals.BadOpening records = IsRecording (take 1 records) → ⊥
 RefusesReplay (refusals.Mismatch index) records = StopsAt index records
-RefusesReplay refusals.Memory records = IsSomeAnd (slice_get records 0) (RefusesFirst refusals.Memory) ⊎ ((index : ℕ) × LacksMemoryAt index records)
+RefusesReplay refusals.Memory records =
+    IsSomeAnd (slice_get records 0) (RefusesFirst refusals.Memory) ⊎ ((index : ℕ) × LacksMemoryAt index records)
 RefusesReplay _ records = ⊥

@@ -1,7 +1,6 @@
 -- What it means that a guest has been replayed: the state that its records end in, and what they put out.
-use Rattle.std.specs.Prelude.{◌≡◌, ℕ, ◌≤◌, List, [], ◌∷◌, length, map, Option, None}
+use Rattle.std.specs.Prelude.{◌≡◌, ℕ, ◌≤◌, List, [], ◌∷◌, length, map, Option, None, IsSomeAnd, MatchOption}
 use Rattle.rrv_model.specs.declared.record.End.{End}
-use Rattle.rrv_model.specs.declared.record.End.TheVariants as ends
 use Rattle.rrv_model.specs.declared.record.Frame.{Frame}
 use Rattle.rrv_model.specs.declared.record.Item.{Item}
 use Rattle.rrv_model.specs.declared.record.Item.TheVariants as items
@@ -9,7 +8,7 @@ use Rattle.rrv_model.specs.declared.record.Record.{Record}
 use Rattle.rrv_model.specs.State.{State}
 use Rattle.rrv_model.specs.FrameStep.{FrameStep}
 use Rattle.rrv_model.specs.Recording.{IsRecording, IsNumbered, EndsIn, items_of, frames_of}
-use Rattle.rrv_model.specs.Output.{Chunk, FramePuts, Output}
+use Rattle.rrv_model.specs.Output.{Chunk, FramePuts, Output, call_in}
 use Rattle.guest_calls.specs.declared.put.Put.{Put}
 use Rattle.guest_calls.specs.Guest.{chunks_of}
 
@@ -42,14 +41,8 @@ pub record IsReplayed (guest : ℕ) (records : List Record) (s : State) (chunks 
 
 -- of a frame that ends in a call, the put is what the guest keeps as put out; of another frame there is none
 abbrev pub PutsByCall : End → List Chunk → Option Put → Type 0
-PutsByCall (ends.Call r) kept put = chunks_of put ≡ kept
-PutsByCall ends.Preempt kept put = put ≡ None
-PutsByCall (ends.Fault kind) kept put = put ≡ None
-PutsByCall ends.Stuck kept put = put ≡ None
+PutsByCall end kept put = MatchOption (call_in end) (put ≡ None) (λ _. chunks_of put ≡ kept)
 
 -- the frame ends in a call that put something out
 abbrev pub HasPut : End → List Chunk → Type 0
-HasPut (ends.Call r) kept = 1 ≤ length kept
-HasPut ends.Preempt kept = ⊥
-HasPut (ends.Fault kind) kept = ⊥
-HasPut ends.Stuck kept = ⊥
+HasPut end kept = IsSomeAnd (call_in end) (λ _. 1 ≤ length kept)

@@ -1,7 +1,8 @@
 -- What a recorded guest puts out.
 use Rattle.std.specs.Prelude.{◌≡◌, ℕ, ◌-◌, nat_le, ◌&&◌, if◌then◌else◌, List, [], ◌∷◌, ◌++◌, flat_map, map, Option}
-use Rattle.std.specs.Prelude.{Some, None}
+use Rattle.std.specs.Prelude.{Some, None, MatchOption}
 use Rattle.rrv_model.specs.declared.machine.Thread.{Thread}
+use Rattle.rrv_model.specs.declared.record.CallRecord.{CallRecord}
 use Rattle.rrv_model.specs.declared.record.End.{End}
 use Rattle.rrv_model.specs.declared.record.End.TheVariants.{Preempt, Call, Fault, Stuck}
 use Rattle.rrv_model.specs.declared.record.Frame.{Frame}
@@ -49,14 +50,22 @@ abbrev pub put_out_by : Option Thread → Memory → ℕ → List Chunk
 put_out_by None m count = []
 put_out_by (Some t) m count = put_out m t count
 
--- what a frame from s on puts out: of a call, the bytes before its ECALL
+-- the call that a frame ends in, if it ends in one
+abbrev pub call_in : End → Option CallRecord
+call_in (Call r) = Some r
+call_in Preempt = None
+call_in (Fault kind) = None
+call_in Stuck = None
+
+-- what the call behind so many instructions puts out, with this result: the bytes before its ECALL
+abbrev pub CallPutsAt : State → ℕ → ℕ → ℕ → List Chunk → Type 0
+CallPutsAt s tid count result chunks =
+    (before : State) × Steps (count - 1) tid s before
+    × (chunks ≡ put_out_by (thread_at before tid) before.memory result)
+
+-- what a frame from s on puts out: what its call does, if it ends in one
 abbrev pub FramePuts : State → Frame → End → List Chunk → Type 0
-FramePuts s f (Call r) chunks =
-    (before : State) × Steps (f.count - 1) f.tid s before
-    × (chunks ≡ put_out_by (thread_at before f.tid) before.memory r.result)
-FramePuts s f Preempt chunks = chunks ≡ []
-FramePuts s f (Fault kind) chunks = chunks ≡ []
-FramePuts s f Stuck chunks = chunks ≡ []
+FramePuts s f end chunks = MatchOption (call_in end) (chunks ≡ []) (λ r. CallPutsAt s f.tid f.count r.result chunks)
 
 -- what the frames from s on put out, in order
 abbrev pub PutFrom : State → List Frame → List Chunk → Type 0

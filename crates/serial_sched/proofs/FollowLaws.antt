@@ -9,7 +9,7 @@ use Rattle.rrv_model.specs.declared.record.Frame.{Frame}
 use Rattle.rrv_model.specs.State.{State, thread_at}
 use Rattle.rrv_model.specs.Calls.{Answer, Calls}
 use Rattle.rrv_model.specs.FrameStep.{Steps, FrameStep, FrameStepBy, EndsInCall, EndsInFault, closed}
-use Rattle.rrv_model.specs.Output.{Chunk, put_out_by}
+use Rattle.rrv_model.specs.Output.{CallPutsAt, Chunk, put_out_by}
 use Rattle.rv_machine.specs.declared.run.RunEnd.{RunEnd}
 use Rattle.rv_machine.specs.declared.run.RunEnd.TheVariants as ends
 use Rattle.guest_calls.specs.Asking.{Question, CallIsAnswered}
@@ -17,10 +17,10 @@ use Rattle.guest_calls.specs.Growth.{CallMayGrow}
 use Rattle.guest_calls.specs.Runs.{RunsTo, RunsToCall}
 use Rattle.serial_sched.specs.Answered.{answered, Recalls}
 use Rattle.serial_sched.specs.Slices.{CallPuts}
-use Rattle.serial_sched.specs.Follows.{CallMeetsNoMemory, CallPutsAt, EndMeetsNoMemory, FrameMeetsNoMemory, Reaches, ReachesCall, ReachesFault}
-use Rattle.serial_sched.proofs.Ways.{reached, one_run_end, one_called}
-use Rattle.serial_sched.proofs.Determined.{told_again}
-use Rattle.serial_sched.proofs.SliceLaws.{call_puts}
+use Rattle.serial_sched.specs.Follows.{CallMeetsNoMemory, EndMeetsNoMemory, FrameMeetsNoMemory, Reaches, ReachesCall, ReachesFault}
+use Rattle.serial_sched.proofs.OneStep.{call_reached, reached, one_run_end, one_called}
+use Rattle.serial_sched.proofs.RecordedAnswers.{told_again}
+use Rattle.serial_sched.proofs.SliceLaws.{call_puts, ends_in_call}
 
 reaches_call : (old new : State) (tid count : ℕ) (r : CallRecord) (p : EndsInCall old tid count r new) → ReachesCall count tid old p.called
 reaches_call old new tid count r p = record { some = p.some; before = p.before; steps = p.steps; calls = p.calls }
@@ -61,7 +61,7 @@ pub other_record : {O : Type 0} (gives : O → Question → Answer → O → Typ
 other_record gives tid count q r old called before after recalls other run found new p =
     let e : p.called ≡ called =
     one_called count tid old p.called called (reaches_call old new tid count r p)
-    (record { some = run.some; before = run.before; steps = run.steps; calls = run.calls }) in
+    (call_reached count count tid old called run) in
     let was : Calls called tid p.answer r p.after = subst (λ (s : State). Calls s tid p.answer r p.after) e p.answered in
     other (told_again gives called tid p.answer r q p.after before after recalls was found)
 
@@ -69,23 +69,14 @@ other_record gives tid count q r old called before after recalls other run found
 
 pub call_followed : (tid count : ℕ) (q r : CallRecord) (answer : Answer) (old called after : State) → q ≡ r → RunsToCall count tid count old called →
     Calls called tid answer q after → EndsInCall old tid count r (closed after)
-call_followed tid count q r answer old called after e run calls = record {
-  some = run.some;
-  before = run.before;
-  steps = run.steps;
-  called = called;
-  calls = run.calls;
-  answer = answer;
-  after = after;
-  answered = subst (λ (t : CallRecord). Calls called tid answer t after) e calls;
-  new_is = refl;
-}
+call_followed tid count q r answer old called after e run calls =
+    ends_in_call count tid count old called after (closed after) answer r run (subst (λ (t : CallRecord). Calls called tid answer t after) e calls) refl
 
 -- a call finds no memory
 pub call_meets : (limit tid count : ℕ) (old called : State) → RunsToCall limit tid count old called → CallMayGrow called tid (thread_at called tid) →
     CallMeetsNoMemory old tid count
 call_meets limit tid count old called p grows =
-    record { called = called; reaches = record { some = p.some; before = p.before; steps = p.steps; calls = p.calls }; grows = grows }
+    record { called = called; reaches = call_reached limit count tid old called p; grows = grows }
 
 pub call_put : (tid count : ℕ) (q r : CallRecord) (answer : Answer) (old called after : State) (chunks : List Chunk) → q ≡ r → RunsToCall count tid count old called →
     Calls called tid answer q after → chunks ≡ put_out_by (thread_at called tid) called.memory q.result → CallPutsAt old tid count r.result chunks

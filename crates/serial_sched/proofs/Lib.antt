@@ -1,5 +1,5 @@
-pub mod Ways
+pub mod OneStep
 pub mod Ecalls
-pub mod Determined
+pub mod RecordedAnswers
 pub mod SliceLaws
 pub mod FollowLaws

@@ -1,5 +1,5 @@
 -- What the slice of a thread that runs is, end by end.
-use Rattle.std.proofs.Common.{◌≡◌, ℕ, ◌-◌, ◌<◌, ◌≤◌, inl, inr, List, Option, Some, None, Result, Ok, Err, IfOk, OnOk, OnErr, refl, sym, ◌∙◌, ap, subst, arith}
+use Rattle.std.proofs.Common.{◌≡◌, ℕ, ◌-◌, ◌^◌, ◌<◌, ◌≤◌, inl, inr, List, Option, Some, None, Result, Ok, Err, IfOk, OnOk, OnErr, refl, sym, ◌∙◌, ap, subst, arith}
 use Rattle.rrv_model.specs.declared.machine.FaultKind.{FaultKind}
 use Rattle.rrv_model.specs.declared.machine.GuestEnd.TheVariants as guest_ends
 use Rattle.rrv_model.specs.declared.machine.Thread.{Thread}
@@ -15,16 +15,17 @@ use Rattle.rrv_model.specs.State.{State, register, thread_at, with_thread, IsRun
 use Rattle.rrv_model.specs.Step.{ThreadMayStore, ThreadMayTakeMemory}
 use Rattle.rrv_model.specs.CallRows.{change_thread, syscall_of}
 use Rattle.rrv_model.specs.Calls.{Answer, Calls}
-use Rattle.rrv_model.specs.FrameStep.{Steps, closed, closed_at_end}
-use Rattle.rrv_model.specs.Output.{Chunk, put_out_by, puts}
+use Rattle.rrv_model.specs.FrameStep.{EndsInCall, FrameStep, Steps, closed, closed_at_end}
+use Rattle.rrv_model.specs.Output.{CallPutsAt, Chunk, put_out_by, puts}
 use Rattle.rrv_model.specs.RecordText.{HasCallText}
+use Rattle.guest_calls.specs.Guest.{GuestValue, chunks_of, counted, state_of}
+use Rattle.guest_calls.specs.Snapshots.{guest_snapshots}
 use Rattle.guest_calls.specs.Runs.{RunsToCall, RunsToFault, before_call}
 use Rattle.guest_calls.specs.Asking.{Question, CallAsks, CallIsAnswered}
 use Rattle.guest_calls.specs.Growth.{CallMayGrow}
-use Rattle.serial_sched.specs.Asking.{FrameAsks, FrameIsAnswered}
-use Rattle.serial_sched.specs.Slices.{CanRun, CallsToGrow, NextMayGrow, Sliced, IsWhole}
-use Rattle.serial_sched.specs.Follows.{CallPutsAt}
-use Rattle.serial_sched.proofs.Ways.{get-insert_same, running_behind, steps_end_none}
+use Rattle.serial_sched.specs.Asking.{Gives}
+use Rattle.serial_sched.specs.Slices.{CanRun, CallsToGrow, IsSliceOf, IsUntouched, IsWhole, NextMayGrow}
+use Rattle.serial_sched.proofs.OneStep.{call_reached, get-insert_same, running_behind, steps_end_none}
 use Rattle.serial_sched.proofs.Ecalls.{call_may_take, store_may_take}
 
 -- ---- what a call puts out
@@ -67,33 +68,7 @@ pub call_runs_on : (limit tid count : ℕ) (s called : State) → RunsToCall lim
 call_runs_on limit tid count s called p runs =
     ap (λ (x : State). x.ended) p.calls.after_is ∙ steps_end_none (count - 1) tid s p.before p.steps ∙ runs
 
--- ---- what looks at the outside
-
-pub frame_asks : (limit tid count : ℕ) (s called : State) (r : CallRecord) (f : Frame) → f ≡ record { tid = tid; count = count; end = ends.Call r } →
-    RunsToCall limit tid count s called → CallAsks called tid (thread_at called tid) → FrameAsks f.end s f.tid f.count
-frame_asks limit tid count s called r f e p asks =
-    subst (λ (x : Frame). FrameAsks x.end s x.tid x.count) (sym e)
-    (record { called = called; reaches = record { some = p.some; before = p.before; steps = p.steps; calls = p.calls }; asks = asks })
-
-pub frame_answered : {O : Type 0} (gives : O → Question → Answer → O → Type 0) (limit tid count : ℕ) (s called : State) (r : CallRecord) (f : Frame) (before after : O) →
-    f ≡ record { tid = tid; count = count; end = ends.Call r } → RunsToCall limit tid count s called → CallIsAnswered gives called tid (thread_at called tid) r before after →
-    FrameIsAnswered gives f.end s f.tid f.count before after
-frame_answered gives limit tid count s called r f before after e p answered =
-    subst (λ (x : Frame). FrameIsAnswered gives x.end s x.tid x.count before after) (sym e)
-    (record { called = called; reaches = record { some = p.some; before = p.before; steps = p.steps; calls = p.calls }; answered = answered })
-
-pub preempt_unanswered : {O : Type 0} (gives : O → Question → Answer → O → Type 0) (tid count : ℕ) (s : State) (f : Frame) (before after : O) →
-    f ≡ record { tid = tid; count = count; end = ends.Preempt } → after ≡ before → FrameIsAnswered gives f.end s f.tid f.count before after
-preempt_unanswered gives tid count s f before after e same =
-    subst (λ (x : Frame). FrameIsAnswered gives x.end s x.tid x.count before after) (sym e) same
-
-pub short_unanswered : {O E : Type 0} (gives : O → Question → Answer → O → Type 0) (r : Result Frame E) (tid count : ℕ) (s : State) (before after : O) →
-    IfOk r (λ f. f ≡ record { tid = tid; count = count; end = ends.Preempt }) → after ≡ before →
-    IfOk r (λ f. FrameIsAnswered gives f.end s f.tid f.count before after)
-short_unanswered gives (Ok f) tid count s before after e same = preempt_unanswered gives tid count s f before after e same
-short_unanswered gives (Err x) tid count s before after e same = tt
-
--- ---- the ends
+-- ---- where an instruction finds no memory
 
 -- where nothing has run, the first instruction found no memory
 none_ran : {E : Type 0} (P : State → Type 0) (r : Result Frame E) (tid count : ℕ) (s last : State) → Steps count tid s last → P last →
@@ -125,105 +100,183 @@ pub refused_call_grows : {E : Type 0} (r : Result Frame E) (limit tid count : �
 refused_call_grows r limit tid count s called p grows first =
     none_ran (λ (x : State). NextMayGrow x tid) r tid (count - 1) s p.before p.steps (inr (calls_to_grow limit tid count s called p grows)) first
 
-pub same_sliced : (s : State) (choice : Choice) (f f' : Frame) (new new' : State) (chunks : List Chunk) → f' ≡ f → new' ≡ new →
-    Sliced s choice f new chunks → Sliced s choice f' new' chunks
-same_sliced s choice f f' new new' chunks e e' p =
-    subst (λ (x : Frame). Sliced s choice x new' chunks) (sym e) (subst (λ (x : State). Sliced s choice f x chunks) (sym e') p)
+-- a run to a call and what the call does end a slice
+pub ends_in_call : (limit tid count : ℕ) (s called after new : State) (answer : Answer) (r : CallRecord) → RunsToCall limit tid count s called →
+    Calls called tid answer r after → new ≡ closed after → EndsInCall s tid count r new
+ends_in_call limit tid count s called after new answer r p calls closes = record {
+  some = p.some;
+  before = p.before;
+  steps = p.steps;
+  called = called;
+  calls = p.calls;
+  answer = answer;
+  after = after;
+  answered = calls;
+  new_is = closes;
+}
 
-module _ (s : State) (choice : Choice) (can : CanRun s choice) where
-  preempted : (count : ℕ) (last : State) (chunks : List Chunk) → 1 ≤ count → count ≤ choice.quantum → Steps count choice.tid s last →
-      IsWhole s choice.tid count choice.quantum →
-      Sliced s choice (record { tid = choice.tid; count = count; end = ends.Preempt }) (closed last) chunks
-  preempted count last chunks some within steps whole =
+-- ---- slices
+
+-- a slice of the same frame
+pub same_frame : {O : Type 0} (gives : Gives O) (old new : GuestValue) (choice : Choice) (before after : O) (f f' : Frame) → f' ≡ f →
+    IsSliceOf gives old choice f new before after → IsSliceOf gives old choice f' new before after
+same_frame gives old new choice before after f f' e p = subst (λ (x : Frame). IsSliceOf gives old choice x new before after) (sym e) p
+
+-- what a slice leaves that ends in no call: its instructions are counted, and nothing else shows
+pub record Counts {O : Type 0} (old : GuestValue) (count : ℕ) (new : GuestValue) (before after : O) : Type 0 where
+  pub ran : new.ran ≡ counted old.ran count
+  pub put : new.put ≡ old.put
+  pub snapshots : guest_snapshots new ≡ guest_snapshots old
+  pub environment : after ≡ before
+
+abbrev preempt : Choice → ℕ → Frame
+preempt choice count = record { tid = choice.tid; count = count; end = ends.Preempt }
+
+module _ {O : Type 0} (gives : Gives O) (old new : GuestValue) (choice : Choice) (before after : O) (can : CanRun (state_of old) choice) where
+  preempted : (count : ℕ) (last : State) → 1 ≤ count → count ≤ choice.quantum → Steps count choice.tid (state_of old) last →
+      IsWhole (state_of old) choice.tid count choice.quantum → state_of new ≡ closed last → Counts old count new before after →
+      IsSliceOf gives old choice (preempt choice count) new before after
+  preempted count last some within steps whole closes counts =
       let most = can.quantum.1 in
       record {
-        frame = record { runs = can.runs; limit = omega arith; goes = record { some = some; last = last; steps = steps; new_is = refl } };
+        frame = record { runs = can.runs; limit = omega arith; goes = record { some = some; last = last; steps = steps; new_is = closes } };
         text = record { tid_low = can.tid.0; tid_high = can.tid.1; count_low = some; count_high = omega arith };
         fits = (refl, whole);
         puts = tt;
+        keeps = counts.put;
+        ran = counts.ran;
+        snapshots = counts.snapshots;
+        answered = counts.environment;
+        unasked = λ _. counts.environment;
       }
 
   -- the whole quantum
-  pub limit_sliced : (count : ℕ) (last : State) (chunks : List Chunk) → count ≡ choice.quantum → Steps choice.quantum choice.tid s last →
-      Sliced s choice (record { tid = choice.tid; count = count; end = ends.Preempt }) (closed last) chunks
-  limit_sliced count last chunks e steps =
+  pub limit_slice : (f : Frame) (count : ℕ) (last : State) → f ≡ preempt choice count → count ≡ choice.quantum →
+      Steps choice.quantum choice.tid (state_of old) last → state_of new ≡ closed last → Counts old count new before after →
+      IsSliceOf gives old choice f new before after
+  limit_slice f count last is e steps closes counts =
       let least = can.quantum.0 in
-      preempted count last chunks (omega arith) (omega arith) (subst (λ n. Steps n choice.tid s last) (sym e) steps) (inl e)
+      same_frame gives old new choice before after (preempt choice count) f is
+      (preempted count last (omega arith) (omega arith) (subst (λ n. Steps n choice.tid (state_of old) last) (sym e) steps) (inl e) closes counts)
 
   -- less, since there was no memory
-  pub short_sliced : (count : ℕ) (last : State) (chunks : List Chunk) → 1 ≤ count → count < choice.quantum → Steps count choice.tid s last →
-      ThreadMayTakeMemory last choice.tid → NextMayGrow last choice.tid →
-      Sliced s choice (record { tid = choice.tid; count = count; end = ends.Preempt }) (closed last) chunks
-  short_sliced count last chunks some within steps takes grows =
-      preempted count last chunks some (omega arith) steps (inr (within, record { last = last; steps = steps; takes = takes; grows = grows }))
+  pub short_slice : {E : Type 0} (r : Result Frame E) (count : ℕ) (last : State) → count < choice.quantum →
+      Steps count choice.tid (state_of old) last → ThreadMayTakeMemory last choice.tid → NextMayGrow last choice.tid → OnOk r (1 ≤ count) →
+      IfOk r (λ f. f ≡ preempt choice count) → OnOk r (state_of new ≡ closed last) → Counts old count new before after →
+      IfOk r (λ f. IsSliceOf gives old choice f new before after)
+  short_slice (Ok f) count last within steps takes grows some frame closes counts =
+      same_frame gives old new choice before after (preempt choice count) f frame
+      (preempted count last some (omega arith) steps
+      (inr (within, record { last = last; steps = steps; takes = takes; grows = grows })) closes counts)
+  short_slice (Err x) count last within steps takes grows some frame closes counts = tt
 
-  short_or_none : {E : Type 0} (r : Result Frame E) (count : ℕ) (last new : State) (chunks : List Chunk) → count < choice.quantum →
-      Steps count choice.tid s last → ThreadMayTakeMemory last choice.tid → NextMayGrow last choice.tid → OnOk r (1 ≤ count) →
-      IfOk r (λ f. f ≡ record { tid = choice.tid; count = count; end = ends.Preempt }) → OnOk r (new ≡ closed last) →
-      IfOk r (λ f. Sliced s choice f new chunks)
-  short_or_none (Ok f) count last new chunks within steps takes grows some frame closes =
-      same_sliced s choice (record { tid = choice.tid; count = count; end = ends.Preempt }) f (closed last) new chunks frame closes
-      (short_sliced count last chunks some within steps takes grows)
-  short_or_none (Err x) count last new chunks within steps takes grows some frame closes = tt
-
-  pub short_store : {E : Type 0} (r : Result Frame E) (count : ℕ) (last new : State) (chunks : List Chunk) → count < choice.quantum →
-      Steps count choice.tid s last → ThreadMayStore last choice.tid → OnOk r (1 ≤ count) →
-      IfOk r (λ f. f ≡ record { tid = choice.tid; count = count; end = ends.Preempt }) → OnOk r (new ≡ closed last) →
-      IfOk r (λ f. Sliced s choice f new chunks)
-  short_store r count last new chunks within steps stores some frame closes =
-      short_or_none r count last new chunks within steps (store_may_take last choice.tid stores) (inl stores) some frame closes
+  -- the next instruction stores
+  pub short_store : {E : Type 0} (r : Result Frame E) (count : ℕ) (last : State) → count < choice.quantum →
+      Steps count choice.tid (state_of old) last → ThreadMayStore last choice.tid → OnOk r (1 ≤ count) →
+      IfOk r (λ f. f ≡ preempt choice count) → OnOk r (state_of new ≡ closed last) → Counts old count new before after →
+      IfOk r (λ f. IsSliceOf gives old choice f new before after)
+  short_store r count last within steps stores some frame closes counts =
+      short_slice r count last within steps (store_may_take last choice.tid stores) (inl stores) some frame closes counts
 
   -- the ECALL is taken back
-  pub refused_call_sliced : {E : Type 0} (r : Result Frame E) (count : ℕ) (called back new : State) (chunks : List Chunk) →
-      RunsToCall choice.quantum choice.tid count s called → CallMayGrow called choice.tid (thread_at called choice.tid) →
-      back ≡ before_call choice.tid called → OnOk r (1 ≤ count - 1) →
-      IfOk r (λ f. f ≡ record { tid = choice.tid; count = count - 1; end = ends.Preempt }) → OnOk r (new ≡ closed back) →
-      IfOk r (λ f. Sliced s choice f new chunks)
-  refused_call_sliced r count called back new chunks p grows e some frame closes =
+  pub short_call : {E : Type 0} (r : Result Frame E) (count : ℕ) (called back : State) →
+      RunsToCall choice.quantum choice.tid count (state_of old) called → CallMayGrow called choice.tid (thread_at called choice.tid) →
+      back ≡ before_call choice.tid called → OnOk r (1 ≤ count - 1) → IfOk r (λ f. f ≡ preempt choice (count - 1)) →
+      OnOk r (state_of new ≡ closed back) → Counts old (count - 1) new before after →
+      IfOk r (λ f. IsSliceOf gives old choice f new before after)
+  short_call r count called back p grows e some frame closes counts =
       let least = p.some in let within = p.within in
       let at : back ≡ p.before = e ∙ p.back in
-      short_or_none r (count - 1) back new chunks (omega arith) (subst (λ (x : State). Steps (count - 1) choice.tid s x) (sym at) p.steps)
+      short_slice r (count - 1) back (omega arith) (subst (λ (x : State). Steps (count - 1) choice.tid (state_of old) x) (sym at) p.steps)
       (subst (λ (x : State). ThreadMayTakeMemory x choice.tid) (sym at) (call_may_take p.before choice.tid called p.calls))
-      (subst (λ (x : State). NextMayGrow x choice.tid) (sym at) (inr (calls_to_grow choice.quantum choice.tid count s called p grows))) some frame closes
+      (subst (λ (x : State). NextMayGrow x choice.tid) (sym at)
+      (inr (calls_to_grow choice.quantum choice.tid count (state_of old) called p grows))) some frame closes counts
 
-  pub fault_sliced : (count : ℕ) (kind : FaultKind) (last : State) (chunks : List Chunk) → RunsToFault choice.quantum choice.tid count kind s last →
-      Sliced s choice (record { tid = choice.tid; count = count; end = ends.Fault kind }) (closed_at_end (guest_ends.Faulted kind) last) chunks
-  fault_sliced count kind last chunks p =
+  pub fault_slice : (count : ℕ) (kind : FaultKind) (last : State) → RunsToFault choice.quantum choice.tid count kind (state_of old) last →
+      state_of new ≡ closed_at_end (guest_ends.Faulted kind) last → Counts old count new before after →
+      IsSliceOf gives old choice (record { tid = choice.tid; count = count; end = ends.Fault kind }) new before after
+  fault_slice count kind last p closes counts =
       let most = can.quantum.1 in let some = p.some in let within = p.within in
       record {
         frame = record {
           runs = can.runs;
           limit = omega arith;
-          goes = record { some = p.some; before = last; steps = p.steps; faults = p.faults; new_is = refl };
+          goes = record { some = p.some; before = last; steps = p.steps; faults = p.faults; new_is = closes };
         };
         text = record { tid_low = can.tid.0; tid_high = can.tid.1; count_low = p.some; count_high = omega arith };
         fits = (refl, p.within);
         puts = tt;
+        keeps = counts.put;
+        ran = counts.ran;
+        snapshots = counts.snapshots;
+        answered = counts.environment;
+        unasked = λ _. counts.environment;
       }
 
-  pub call_sliced : (count : ℕ) (called after : State) (answer : Answer) (r : CallRecord) (chunks : List Chunk) →
-      RunsToCall choice.quantum choice.tid count s called → Calls called choice.tid answer r after → HasCallText r →
-      chunks ≡ put_out_by (thread_at called choice.tid) called.memory r.result →
-      Sliced s choice (record { tid = choice.tid; count = count; end = ends.Call r }) (closed after) chunks
-  call_sliced count called after answer r chunks p calls text puts =
+  pub call_slice : (f : Frame) (count : ℕ) (called after_call : State) (answer : Answer) (r : CallRecord) →
+      f ≡ record { tid = choice.tid; count = count; end = ends.Call r } → RunsToCall choice.quantum choice.tid count (state_of old) called →
+      Calls called choice.tid answer r after_call → HasCallText r →
+      chunks_of new.put ≡ put_out_by (thread_at called choice.tid) called.memory r.result →
+      CallIsAnswered gives called choice.tid (thread_at called choice.tid) r before after →
+      (¬ CallAsks called choice.tid (thread_at called choice.tid) → after ≡ before) → state_of new ≡ closed after_call →
+      new.ran ≡ counted old.ran count → guest_snapshots new ≡ guest_snapshots old → IsSliceOf gives old choice f new before after
+  call_slice f count called after_call answer r is p calls text puts answered unasked closes ran snapshots =
       let most = can.quantum.1 in let some = p.some in let within = p.within in
-      record {
+      let reaches = call_reached choice.quantum count choice.tid (state_of old) called p in
+      same_frame gives old new choice before after (record { tid = choice.tid; count = count; end = ends.Call r }) f is (record {
         frame = record {
           runs = can.runs;
           limit = omega arith;
-          goes = record {
-            some = p.some;
-            before = p.before;
-            steps = p.steps;
-            called = called;
-            calls = p.calls;
-            answer = answer;
-            after = after;
-            answered = calls;
-            new_is = refl;
-          };
+          goes = ends_in_call choice.quantum choice.tid count (state_of old) called after_call (state_of new) answer r p calls closes;
         };
         text = (record { tid_low = can.tid.0; tid_high = can.tid.1; count_low = p.some; count_high = omega arith }, text);
         fits = (refl, p.within);
-        puts = call_puts choice.quantum choice.tid count s called after answer r chunks p calls puts;
-      }
+        puts = call_puts choice.quantum choice.tid count (state_of old) called after_call answer r (chunks_of new.put) p calls puts;
+        keeps = tt;
+        ran = ran;
+        snapshots = snapshots;
+        answered = record { called = called; reaches = reaches; answered = answered };
+        unasked = λ no. unasked (λ asks. no (record { called = called; reaches = reaches; asks = asks }));
+      })
+
+-- ---- refusals
+
+-- counting nothing changes nothing
+counted_none : (n : ℕ) → n < 2 ^ 64 → counted n 0 ≡ n
+counted_none n low = omega arith
+
+-- where nothing has run, nothing has changed
+pub untouched : {O E : Type 0} (r : Result Frame E) (tid count : ℕ) (old new : GuestValue) (last : State) (before after : O) →
+    old.ran < 2 ^ 64 → Steps count tid (state_of old) last → OnErr r (count ≡ 0) → OnErr r (state_of new ≡ last) →
+    Counts old count new before after → OnErr r (IsUntouched old new before after)
+untouched (Ok f) tid count old new last before after low steps none same counts = tt
+untouched (Err x) tid count old new last before after low steps none same counts =
+    let stays : last ≡ state_of old = subst (λ (n : ℕ). Steps n tid (state_of old) last) none steps in
+    record {
+      state = same ∙ stays;
+      ran = counts.ran ∙ ap (counted old.ran) none ∙ counted_none old.ran low;
+      put = counts.put;
+      snapshots = counts.snapshots;
+      environment = counts.environment;
+    }
+
+-- ---- a guest of which no thread runs
+
+abbrev stuck : Frame
+stuck = record { tid = 0; count = 0; end = ends.Stuck }
+
+pub stuck_slice : {O : Type 0} (gives : Gives O) (old new : GuestValue) (choice : Choice) (outside : O) (f : Frame) → f ≡ stuck →
+    FrameStep (state_of old) f (state_of new) → new.ran ≡ counted old.ran 0 → new.put ≡ old.put →
+    guest_snapshots new ≡ guest_snapshots old → IsSliceOf gives old choice f new outside outside
+stuck_slice gives old new choice outside f is step ran put snapshots =
+    same_frame gives old new choice outside outside stuck f is (record {
+      frame = subst (λ (x : Frame). FrameStep (state_of old) x (state_of new)) is step;
+      text = (refl, refl);
+      fits = tt;
+      puts = tt;
+      keeps = put;
+      ran = ran;
+      snapshots = snapshots;
+      answered = refl;
+      unasked = λ _. refl;
+    })

@@ -1,4 +1,4 @@
--- What the outside answered to a recorded call.
+-- What the environment answered to a recorded call.
 use Rattle.std.specs.Prelude.{◌≡◌, ℕ, ◌^◌, ◌<◌, ◌≤◌, not, ◌||◌, ◌==◌, nat_le, if◌then◌else◌, List, [], ◌∷◌, ◌++◌, length, drop, Option, Some, None}
 use Rattle.std.specs.Int.{w64, from_le_bytes, to_le_bytes}
 use Rattle.rrv_model.specs.declared.record.Written.{Written}
@@ -29,4 +29,5 @@ moment_in bytes =
 abbrev pub Recalls : List ℕ → Question → Answer → Type 0
 Recalls bytes (Input most) answer = length bytes ≤ most → answer ≡ Bytes bytes
 Recalls bytes (Random count) answer = length bytes ≡ count → answer ≡ Bytes bytes
-Recalls bytes (Clock id) answer = (seconds nanoseconds : ℕ) → IsMoment bytes seconds nanoseconds → answer ≡ Time seconds nanoseconds
+Recalls bytes (Clock id) answer =
+    (seconds nanoseconds : ℕ) → IsMoment bytes seconds nanoseconds → answer ≡ Time seconds nanoseconds

@@ -1,5 +1,5 @@
 -- Where the steps of a frame lead.
-use Rattle.std.specs.Prelude.{◌≡◌, ℕ, ◌-◌, ◌<◌, ◌≤◌, ◌⊎◌, List, None}
+use Rattle.std.specs.Prelude.{◌≡◌, ℕ, ◌-◌, ◌<◌, ◌≤◌, ◌⊎◌, None}
 use Rattle.rrv_model.specs.declared.machine.FaultKind.{FaultKind}
 use Rattle.rrv_model.specs.declared.record.End.{End}
 use Rattle.rrv_model.specs.declared.record.End.TheVariants as frame_ends
@@ -7,7 +7,6 @@ use Rattle.rrv_model.specs.declared.record.Frame.{Frame}
 use Rattle.rrv_model.specs.State.{State, thread_at}
 use Rattle.rrv_model.specs.Step.{CallsFrom, FaultsFrom, ThreadMayStore}
 use Rattle.rrv_model.specs.FrameStep.{Steps}
-use Rattle.rrv_model.specs.Output.{Chunk, put_out_by}
 use Rattle.rv_machine.specs.declared.run.RunEnd.{RunEnd}
 use Rattle.rv_machine.specs.declared.run.RunEnd.TheVariants.{Limit, Call, Fault, Memory}
 use Rattle.guest_calls.specs.Growth.{CallMayGrow}
@@ -58,8 +57,3 @@ pub record FrameMeetsNoMemory (old : State) (f : Frame) : Type 0 where
   pub runs : old.ended ≡ None
   pub limit : f.count ≤ 1_048_576
   pub meets : EndMeetsNoMemory f.end old f.tid f.count
-
--- what a call behind so many instructions puts out
-abbrev pub CallPutsAt : State → ℕ → ℕ → ℕ → List Chunk → Type 0
-CallPutsAt old tid count result chunks =
-    (before : State) × Steps (count - 1) tid old before × (chunks ≡ put_out_by (thread_at before tid) before.memory result)

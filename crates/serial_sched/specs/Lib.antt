@@ -1,5 +1,5 @@
-pub mod Slices
 pub mod Follows
 pub mod Answered
 pub mod Asking
+pub mod Slices
 pub mod Turns

@@ -1,5 +1,5 @@
 -- What the slice of a choice does.
-use Rattle.std.specs.Prelude.{◌≡◌, ℕ, ◌^◌, ◌<◌, ◌≤◌, ◌⊎◌, List, Option, None}
+use Rattle.std.specs.Prelude.{◌≡◌, ℕ, ◌^◌, ◌<◌, ◌≤◌, ◌⊎◌, List, Option, None, IfNone, IfSome}
 use Rattle.rrv_model.specs.declared.record.Choice.{Choice}
 use Rattle.rrv_model.specs.declared.record.End.{End}
 use Rattle.rrv_model.specs.declared.record.End.TheVariants.{Preempt, Call, Fault, Stuck}
@@ -7,11 +7,13 @@ use Rattle.rrv_model.specs.declared.record.Frame.{Frame}
 use Rattle.rrv_model.specs.State.{State, thread_at, IsRunning}
 use Rattle.rrv_model.specs.Step.{CallsFrom, ThreadMayStore, ThreadMayTakeMemory}
 use Rattle.rrv_model.specs.FrameStep.{Steps, FrameStep}
-use Rattle.rrv_model.specs.Output.{Chunk, FramePuts}
+use Rattle.rrv_model.specs.Output.{Chunk, FramePuts, call_in}
 use Rattle.rrv_model.specs.RecordText.{HasFrameText}
 use Rattle.guest_calls.specs.declared.put.Put.{Put}
 use Rattle.guest_calls.specs.Growth.{CallMayGrow}
-use Rattle.guest_calls.specs.Guest.{HasRunning}
+use Rattle.guest_calls.specs.Guest.{GuestValue, HasRunning, chunks_of, counted, state_of}
+use Rattle.guest_calls.specs.Snapshots.{guest_snapshots}
+use Rattle.serial_sched.specs.Asking.{FrameAsks, FrameIsAnswered, Gives}
 
 -- the thread's next instruction makes a call that may take memory
 pub record CallsToGrow (s : State) (tid : ℕ) : Type 0 where
@@ -41,19 +43,13 @@ FitsChoice (Call r) old f choice = (f.tid ≡ choice.tid) × (f.count ≤ choice
 FitsChoice (Fault kind) old f choice = (f.tid ≡ choice.tid) × (f.count ≤ choice.quantum)
 FitsChoice Stuck old f choice = Unit {0}
 
--- what a call put out is what the frame puts out; a guest keeps that of its last call where a frame ends otherwise
+-- what a call put out is what the frame puts out
 abbrev pub CallPuts : End → State → Frame → List Chunk → Type 0
-CallPuts Preempt old f chunks = Unit {0}
-CallPuts (Call r) old f chunks = FramePuts old f (Call r) chunks
-CallPuts (Fault kind) old f chunks = Unit {0}
-CallPuts Stuck old f chunks = Unit {0}
+CallPuts end old f chunks = IfSome (call_in end) (λ r. FramePuts old f (Call r) chunks)
 
 -- a frame that ends in no call keeps what the last call put out
 abbrev pub KeepsPut : End → Option Put → Option Put → Type 0
-KeepsPut Preempt old new = new ≡ old
-KeepsPut (Call r) old new = Unit {0}
-KeepsPut (Fault kind) old new = new ≡ old
-KeepsPut Stuck old new = new ≡ old
+KeepsPut end old new = IfNone (call_in end) (new ≡ old)
 
 -- the quantum is within the limits
 abbrev pub IsQuantum : ℕ → Type 0
@@ -70,9 +66,24 @@ pub record CanRun (old : State) (choice : Choice) : Type 0 where
   pub running : IsRunning (thread_at old choice.tid)
   pub quantum : IsQuantum choice.quantum
 
--- what the slice of a thread that runs is
-pub record Sliced (old : State) (choice : Choice) (f : Frame) (new : State) (chunks : List Chunk) : Type 0 where
-  pub frame : FrameStep old f new
+-- The frame is the slice of this choice. It leads from one guest to the other, whose snapshots stay, and from one state
+-- of the environment to another, which is asked by the frame's call alone.
+pub record IsSliceOf {O : Type 0} (gives : Gives O) (old : GuestValue) (choice : Choice) (f : Frame) (new : GuestValue)
+    (before after : O) : Type 0 where
+  pub frame : FrameStep (state_of old) f (state_of new)
   pub text : HasFrameText f.end f.tid f.count
-  pub fits : FitsChoice f.end old f choice
-  pub puts : CallPuts f.end old f chunks
+  pub fits : FitsChoice f.end (state_of old) f choice
+  pub puts : CallPuts f.end (state_of old) f (chunks_of new.put)
+  pub keeps : KeepsPut f.end old.put new.put
+  pub ran : new.ran ≡ counted old.ran f.count
+  pub snapshots : guest_snapshots new ≡ guest_snapshots old
+  pub answered : FrameIsAnswered gives f.end (state_of old) f.tid f.count before after
+  pub unasked : ¬ FrameAsks f.end (state_of old) f.tid f.count → after ≡ before
+
+-- nothing that shows of a guest has changed, nor has the environment
+pub record IsUntouched {O : Type 0} (old new : GuestValue) (before after : O) : Type 0 where
+  pub state : state_of new ≡ state_of old
+  pub ran : new.ran ≡ old.ran
+  pub put : new.put ≡ old.put
+  pub snapshots : guest_snapshots new ≡ guest_snapshots old
+  pub environment : after ≡ before

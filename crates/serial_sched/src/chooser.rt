@@ -1,6 +1,7 @@
 //! Who runs next.
 
-ghost use Rattle.std.specs.Prelude.{◌≡◌, ◌≤◌, ◌↔◌, ◌⊎◌, ◌∷◌, length, Contains, EachIndex, IfSome, IsFalse, IsNone, IsSome, IsTrue, false, slice_index};
+ghost use Rattle.std.specs.Prelude.{◌≡◌, ◌≤◌, ◌↔◌, ◌⊎◌, ◌∷◌, length, Contains, EachIndex, IfSome, IsFalse, IsNone};
+ghost use Rattle.std.specs.Prelude.{IsSome, IsTrue, false, slice_index};
 ghost use Rattle.serial_sched.specs.Slices.{IsQuantum};
 ghost use Rattle.serial_sched.specs.Turns.{turn, CanChoose, IsCutShort};
 

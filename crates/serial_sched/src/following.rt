@@ -3,12 +3,13 @@
 ghost use Rattle.std.specs.Prelude.{◌≡◌, ◌≤◌, ◌⊎◌, None, IfOk, OnOk, IsErrOf};
 ghost use Rattle.rrv_model.specs.State.{State};
 ghost use Rattle.rrv_model.specs.FrameStep.{FrameStep, FrameStepBy, Steps, Preempts, EndsInCall, EndsInFault, IsStuck};
+ghost use Rattle.rrv_model.specs.Output.{CallPutsAt};
 ghost use Rattle.rv_machine.specs.declared.run.RunEnd.{RunEnd};
 ghost use Rattle.guest_calls.specs.Snapshots.{guest_snapshots};
 ghost use Rattle.guest_calls.specs.Guest.{state_of, counted, chunks_of};
 ghost use Rattle.guest_calls.specs.Runs.{RunsTo};
 ghost use Rattle.serial_sched.specs.Slices.{CallPuts, KeepsPut};
-ghost use Rattle.serial_sched.specs.Follows.{CallMeetsNoMemory, CallPutsAt, FrameMeetsNoMemory, MeetsNoMemory, Reaches};
+ghost use Rattle.serial_sched.specs.Follows.{CallMeetsNoMemory, FrameMeetsNoMemory, MeetsNoMemory, Reaches};
 
 use crate::comparison::is_same_call;
 use crate::fault::FollowFault;
@@ -51,7 +52,8 @@ pub fn steps(guest: &mut Guest, tid: u32, count: u32) -> Result<(), FollowFault>
     ensures ran { OnOk result (guest.new.ran ≡ counted guest.old.ran count) }
     ensures snapshots { guest_snapshots guest.new ≡ guest_snapshots guest.old }
     ensures put { OnOk result (guest.new.put ≡ guest.old.put) }
-    ensures nowhere { IsErrOf result FollowFault.GoesNowhere → (new : State) → Steps count tid (state_of guest.old) new → ⊥ }
+    ensures nowhere { IsErrOf result FollowFault.GoesNowhere
+        → (new : State) → Steps count tid (state_of guest.old) new → ⊥ }
     ensures memory { IsErrOf result FollowFault.Memory → MeetsNoMemory (state_of guest.old) tid count }
 {
     match run_whole(guest, tid, count)? {
@@ -65,7 +67,8 @@ fn follow_preempt(guest: &mut Guest, tid: u32, count: u32) -> Result<(), FollowF
     ensures ran { OnOk result (guest.new.ran ≡ counted guest.old.ran count) }
     ensures snapshots { guest_snapshots guest.new ≡ guest_snapshots guest.old }
     ensures put { OnOk result (guest.new.put ≡ guest.old.put) }
-    ensures nowhere { IsErrOf result FollowFault.GoesNowhere → (new : State) → Preempts (state_of guest.old) tid count new → ⊥ }
+    ensures nowhere { IsErrOf result FollowFault.GoesNowhere
+        → (new : State) → Preempts (state_of guest.old) tid count new → ⊥ }
     ensures memory { IsErrOf result FollowFault.Memory → MeetsNoMemory (state_of guest.old) tid count }
 {
     if count == 0 {
@@ -137,6 +140,7 @@ fn follow_stuck(guest: &mut Guest, tid: u32, count: u32) -> Result<(), FollowFau
         → (new : State) → IsStuck (state_of guest.old) tid count new → ⊥ }
     ensures memory { IsErrOf result FollowFault.Memory → ⊥ }
 {
+    // No instruction is counted; the count fits 64 bits, which this line tells the proof.
     let _ran = guest.ran();
     if tid != 0 || count != 0 || guest.has_running() {
         return Err(FollowFault::GoesNowhere);
@@ -156,6 +160,7 @@ fn run_whole(guest: &mut Guest, tid: u32, count: u32) -> Result<RunEnd, FollowFa
     ensures memory { IsErrOf result FollowFault.Memory → MeetsNoMemory (state_of guest.old) tid count }
 {
     if count == 0 {
+        // No instruction is counted; the count fits 64 bits, which this line tells the proof.
         let _ran = guest.ran();
         return Ok(RunEnd::Limit);
     }

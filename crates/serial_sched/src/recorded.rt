@@ -1,4 +1,4 @@
-//! The outside of a guest that follows a recording.
+//! The environment of a guest that follows a recording.
 
 ghost use Rattle.std.specs.Prelude.{◌≡◌, ◌++◌, ◌≤◌, ◌<◌, ◌^◌, IfSome, drop, length, min, take};
 ghost use Rattle.std.specs.Int.{w64, from_le_bytes};
@@ -7,7 +7,7 @@ ghost use Rattle.serial_sched.specs.Answered.{answered, moment_in, Recalls};
 use guest_calls::Outside;
 use rrv_model::record::CallRecord;
 
-/// An outside that answers what a recorded call was answered: the bytes that the call wrote first.
+/// An environment that answers what a recorded call was answered: the bytes that the call wrote first.
 #[derive(Drop)]
 pub(crate) struct Recorded<'a> {
     bytes: &'a [u8],
@@ -56,8 +56,8 @@ fn copy(from: &[u8], into: &mut [u8]) -> usize
     len
 }
 
-/// The number that 8 bytes tell, its low byte first.
-fn number_of(bytes: &[u8]) -> u64
+/// The 64-bit number of the first 8 bytes, its low byte first.
+fn first_u64(bytes: &[u8]) -> u64
     requires { 8 ≤ length bytes.now }
     ensures { result ≡ from_le_bytes w64 bytes.now }
 {
@@ -74,8 +74,8 @@ fn moment_of(bytes: &[u8]) -> Option<(u64, u32)>
     if bytes.len() != 16 {
         return None;
     }
-    let seconds = number_of(bytes);
-    let nanoseconds = number_of(&bytes[8..]);
+    let seconds = first_u64(bytes);
+    let nanoseconds = first_u64(&bytes[8..]);
     if seconds >= 1 << 63 || nanoseconds >= 1_000_000_000 {
         return None;
     }

@@ -4,11 +4,9 @@ ghost use Rattle.std.specs.Prelude.{◌≡◌, ◌↔◌, ◌≤◌, ◌<◌, �
 ghost use Rattle.rrv_model.specs.State.{thread_at, IsRunning};
 ghost use Rattle.rrv_model.specs.Step.{ThreadMayTakeMemory};
 ghost use Rattle.rrv_model.specs.FrameStep.{FrameStep, closed};
-ghost use Rattle.rrv_model.specs.RecordText.{HasFrameText};
 ghost use Rattle.guest_calls.specs.Snapshots.{guest_snapshots};
-ghost use Rattle.guest_calls.specs.Guest.{state_of, counted, chunks_of, HasRunning};
-ghost use Rattle.serial_sched.specs.Asking.{FrameAsks, FrameIsAnswered};
-ghost use Rattle.serial_sched.specs.Slices.{CanRun, CallPuts, FitsChoice, IsLive, IsQuantum, KeepsPut, NextMayGrow, Sliced};
+ghost use Rattle.guest_calls.specs.Guest.{state_of, counted, HasRunning};
+ghost use Rattle.serial_sched.specs.Slices.{CanRun, IsLive, IsQuantum, IsSliceOf, IsUntouched, NextMayGrow};
 
 use crate::fault::SliceFault;
 use guest_calls::{Guest, Outside, RunEnd};
@@ -18,38 +16,27 @@ use rrv_model::record::{Choice, End, Frame};
 use rrv_model::refusal::Memory;
 use std::alloc::Global;
 
-/// Runs the chosen thread until it has run the quantum, makes a call or faults, or its next instruction finds no memory.
-/// Where no thread runs, whatever the choice, the guest is stuck, which ends it. The outside is asked by calls alone, and
-/// its answer is what the frame tells.
+/// Runs the chosen thread until it has run the quantum, makes a call or faults, or its next instruction finds no
+/// memory. Where no thread runs, whatever the choice, the guest is stuck, which ends it. The environment is asked by
+/// calls alone, and its answer is what the frame tells. A refusal changes nothing.
 pub fn slice<O: Outside>(
     alloc: Global,
     guest: &mut Guest,
     choice: Choice,
     outside: &mut O,
 ) -> Result<Frame, SliceFault>
-    ensures frame { IfOk result (λ f. FrameStep (state_of guest.old) f (state_of guest.new)) }
-    ensures text { IfOk result (λ f. HasFrameText f.end f.tid f.count) }
-    ensures fits { IfOk result (λ f. FitsChoice f.end (state_of guest.old) f choice) }
-    ensures puts { IfOk result (λ f. CallPuts f.end (state_of guest.old) f (chunks_of guest.new.put)) }
-    ensures keeps { IfOk result (λ f. KeepsPut f.end guest.old.put guest.new.put) }
-    ensures ran { IfOk result (λ f. guest.new.ran ≡ counted guest.old.ran f.count) }
-    ensures snapshots { guest_snapshots guest.new ≡ guest_snapshots guest.old }
-    ensures answered { IfOk result (λ f.
-        FrameIsAnswered O.gives f.end (state_of guest.old) f.tid f.count outside.old outside.new) }
-    ensures unasked { IfOk result (λ f. ¬ FrameAsks f.end (state_of guest.old) f.tid f.count → outside.new ≡ outside.old) }
+    ensures is_slice { IfOk result (λ f. IsSliceOf O.gives guest.old choice f guest.new outside.old outside.new) }
     ensures ended { IsErrOf result SliceFault.Ended ↔ IsSome (state_of guest.old).ended }
     ensures stuck { (state_of guest.old).ended ≡ None → ¬ HasRunning (state_of guest.old)
         → IsOkAnd result (λ f. f.end ≡ End.Stuck) }
-    ensures bad_quantum { IsErrOf result SliceFault.BadQuantum ↔ (IsLive (state_of guest.old) × ¬ IsQuantum choice.quantum) }
+    ensures bad_quantum { IsErrOf result SliceFault.BadQuantum
+        ↔ (IsLive (state_of guest.old) × ¬ IsQuantum choice.quantum) }
     ensures not_runnable { IsErrOf result SliceFault.NotRunnable
         ↔ (IsLive (state_of guest.old) × IsQuantum choice.quantum
         × ¬ IsRunning (thread_at (state_of guest.old) choice.tid)) }
     ensures memory { IsErrOf result SliceFault.Memory → ThreadMayTakeMemory (state_of guest.old) choice.tid }
     ensures grows { IsErrOf result SliceFault.Memory → NextMayGrow (state_of guest.old) choice.tid }
-    ensures refused { OnErr result (state_of guest.new ≡ state_of guest.old) }
-    ensures refused_ran { OnErr result (guest.new.ran ≡ guest.old.ran) }
-    ensures refused_put { OnErr result (guest.new.put ≡ guest.old.put) }
-    ensures refused_unasked { OnErr result (outside.new ≡ outside.old) }
+    ensures refused { OnErr result (IsUntouched guest.old guest.new outside.old outside.new) }
 {
     if guest.ended().is_some() {
         return Err(SliceFault::Ended);
@@ -76,6 +63,7 @@ fn get_stuck(guest: &mut Guest) -> Frame
     ensures snapshots { guest_snapshots guest.new ≡ guest_snapshots guest.old }
     ensures put { guest.new.put ≡ guest.old.put }
 {
+    // No instruction is counted; the count fits 64 bits, which this line tells the proof.
     let _ran = guest.ran();
     guest.close_slice(Some(GuestEnd::Stuck));
     Frame {
@@ -93,20 +81,12 @@ fn run_slice<O: Outside>(
     outside: &mut O,
 ) -> Result<Frame, Memory>
     requires { CanRun (state_of guest.old) choice }
-    ensures sliced { IfOk result (λ f. Sliced (state_of guest.old) choice f (state_of guest.new) (chunks_of guest.new.put)) }
-    ensures keeps { IfOk result (λ f. KeepsPut f.end guest.old.put guest.new.put) }
-    ensures ran { IfOk result (λ f. guest.new.ran ≡ counted guest.old.ran f.count) }
-    ensures snapshots { guest_snapshots guest.new ≡ guest_snapshots guest.old }
-    ensures answered { IfOk result (λ f.
-        FrameIsAnswered O.gives f.end (state_of guest.old) f.tid f.count outside.old outside.new) }
-    ensures unasked { IfOk result (λ f. ¬ FrameAsks f.end (state_of guest.old) f.tid f.count → outside.new ≡ outside.old) }
+    ensures is_slice { IfOk result (λ f. IsSliceOf O.gives guest.old choice f guest.new outside.old outside.new) }
     ensures memory { OnErr result (ThreadMayTakeMemory (state_of guest.old) choice.tid) }
     ensures grows { OnErr result (NextMayGrow (state_of guest.old) choice.tid) }
-    ensures refused { OnErr result (state_of guest.new ≡ state_of guest.old) }
-    ensures refused_ran { OnErr result (guest.new.ran ≡ guest.old.ran) }
-    ensures refused_put { OnErr result (guest.new.put ≡ guest.old.put) }
-    ensures refused_unasked { OnErr result (outside.new ≡ outside.old) }
+    ensures refused { OnErr result (IsUntouched guest.old guest.new outside.old outside.new) }
 {
+    // The count fits 64 bits, which this line tells the proof of a refusal.
     let _ran = guest.ran();
     let tid = choice.tid;
     let run = guest.run_thread(tid, choice.quantum);

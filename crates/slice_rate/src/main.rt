@@ -13,6 +13,7 @@ use std::alloc::Global;
 use std::process::ExitCode;
 use std::rt::Files;
 use std::{env, fs};
+use test_guests::files::file_of;
 
 /// How often this program's own small one is followed.
 const TIMES: u32 = 2;
@@ -63,7 +64,10 @@ fn run_words<R: Files + AllocGlobal>(rt: &R, words: &[String]) -> Option<Outcome
             let elf = fs::read(rt, words.get(1)?).ok()?;
             run_program(rt.alloc(), &elf, times)
         }
-        None => run_program(rt.alloc(), &COUNTDOWN, TIMES),
+        None => {
+            let elf = file_of(rt.alloc(), &COUNTDOWN).ok()?;
+            run_program(rt.alloc(), &elf, TIMES)
+        }
     }
 }
 

@@ -4,10 +4,11 @@ ghost use Rattle.std.specs.Prelude.{◌≡◌, ◌⊎◌, IfSome, IsSome, OnOk, 
 ghost use Rattle.rrv_model.specs.StateAt.{StateAtFrom, total};
 ghost use Rattle.guest_calls.specs.Guest.{state_of};
 
-use guest_calls::{Guest, Outside};
+use guest_calls::Guest;
 use rrv_model::record::{Choice, Frame};
 use serial_sched::{FollowFault, follow, slice};
 use std::alloc::Global;
+use test_guests::outsides::Nothing;
 
 /// Each slice is one of the first thread, and so long.
 const CHOICE: Choice = Choice {
@@ -18,26 +19,8 @@ const CHOICE: Choice = Choice {
 /// At most so many slices are recorded.
 const SLICES: u32 = 1_000_000;
 
-/// An outside that has nothing.
-#[derive(Drop)]
-struct Nothing;
-
-impl Outside for Nothing {
-    ghost gives = { λ _ _ _ _. Unit {0} };
-
-    fn read(&mut self, _into: &mut [u8]) -> usize {
-        0
-    }
-
-    fn random(&mut self, _into: &mut [u8]) {}
-
-    fn now(&mut self, _clock: u32) -> (u64, u32) {
-        (0, 0)
-    }
-}
-
-/// Records slices of a guest up to its end, or a million, and answers their frames; None where a slice is refused or there is
-/// no memory.
+/// Records slices of a guest up to its end, or a million, and returns their frames; None where a slice is refused or
+/// there is no memory.
 pub fn record(alloc: Global, guest: &mut Guest) -> Option<Vec<Frame>>
     ensures leads { IfSome result (λ frames.
         StateAtFrom (state_of guest.old) frames.items (total frames.items) (state_of guest.new)) }

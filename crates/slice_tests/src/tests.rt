@@ -4,5 +4,6 @@ mod asking;
 mod chooser;
 mod memory;
 mod slices;
+mod stores;
 mod texts;
 mod trial;

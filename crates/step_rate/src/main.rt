@@ -9,6 +9,7 @@ use guest_calls::{Guest, RunEnd};
 use std::process::ExitCode;
 use std::rt::Files;
 use std::{env, fs};
+use test_guests::files::file_of;
 
 /// How many instructions run between two looks at how a run ended.
 const SLICE: u32 = 50_000;
@@ -59,7 +60,10 @@ fn run_words<R: Files + AllocGlobal>(rt: &R, words: &[String]) -> Option<Outcome
             let elf = fs::read(rt, path).ok()?;
             run_program(rt, &elf)
         }
-        None => run_program(rt, &COUNTDOWN),
+        None => {
+            let elf = file_of(rt.alloc(), &COUNTDOWN).ok()?;
+            run_program(rt, &elf)
+        }
     }
 }
 

@@ -1,8 +1,8 @@
 //! Calls that ask the outside, recorded and followed.
 
 use super::trial::{Kind, Row, Told, play, same};
-use rrv_model::sequence::Sequence;
 use rrv_model::record::{CallRecord, End, Frame, Written};
+use rrv_model::sequence::Sequence;
 use serial_sched::{FollowFault, SliceFault, follow};
 use std::alloc::{AllocError, Global};
 use std::test::Fail;

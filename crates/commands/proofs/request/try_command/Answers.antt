@@ -1,9 +1,9 @@
-use Rattle.std.proofs.Common.{rules, ap, ap₂, Bool, false, true, ◌||◌, ◌≡◌, ◌∙◌}
+use Rattle.std.proofs.Common.{rules, ap, ap₂, Bool, false, ◌||◌, ◌≡◌, ◌∙◌}
 use Rattle.std.proofs.lemmas.Result.{IfOk-weaker}
 use Rattle.clap.specs.Simple.{app_of_fields}
 use Rattle.clap.specs.declared.builder.command.Command.{Command}
 use Rattle.clap.specs.declared.builder.command.Command.TheOpen.{Command-F}
-use Rattle.clap.specs.Words.{app_of, rule_of, with_rule}
+use Rattle.clap.specs.Words.{rule_of, with_rule}
 use Rattle.commands.specs.Request.{elf_rule}
 use Rattle.commands.proofs.request.try_command.Goals as goal
 

@@ -1,4 +1,4 @@
-use Rattle.std.proofs.Common.{◌∙◌, ◌≡◌, List, ℕ, Option, Some, None, [], ap, sym, refl}
+use Rattle.std.proofs.Common.{◌∙◌, ◌≡◌, List, ℕ, Option, Some, None, [], ap, refl}
 use Rattle.std.specs.Prelude.{option_map, unwrap_or}
 use Rattle.std.specs.Borrow.{Bor}
 use Rattle.clap.specs.Words.{found_of}

@@ -23,9 +23,9 @@ record WasRecorded (quantum : ℕ) (first : Record) (log : LogValue MemDisk) (s 
   keeps : Keeps memory_state log (texts_of records)
 
 was_recorded : (n quantum : ℕ) (first : ℕ → Record) (old new : LogValue MemDisk) (s : State) → n ≡ 0 → Keeps memory_state old []
-    → HasGained ghosts.honest memory_state n quantum (first n) old new s → WasRecorded quantum (first 0) new s
+    → HasGained ghosts n quantum (first n) old new s → WasRecorded quantum (first 0) new s
 was_recorded n quantum first old new s is kept gains =
-    let gained = subst (λ k. HasGained ghosts.honest memory_state k quantum (first k) old new s) is gains in
+    let gained = subst (λ k. HasGained ghosts k quantum (first k) old new s) is gains in
     record { records = gained.records; recorded = gained.recorded; keeps = gained.keeps [] tt kept }
 
 -- its disk is the store of these records
@@ -42,8 +42,8 @@ found_so quantum first log s disk recovered found is was opens reads =
 pub returns-in_err-recorded-clause-refused : goal.returns-in_err-recorded-clause-refused
 returns-in_err-recorded-clause-refused c =
     let p = err_from_is_err_and c.from_residual.result c.from_residual.ensures.1 in
-    rw (p.1, p.2) (recording_refused ghosts.honest ghosts.faults c.in_err-recorded.field-0.0 c.args.quantum (opening_of 0 c.args.image c.args.name.now c.args.random) c.in-Ok.log c.record_guest.new.log tt (c.in-Ok.ensures.kept tt)
-    (subst (λ n. HasStopped ghosts.honest ghosts.state ghosts.faults n c.args.quantum (opening_of n c.args.image c.args.name.now c.args.random) c.in_err-recorded.field-0.0 c.in-Ok.log c.record_guest.new.log)
+    rw (p.1, p.2) (recording_refused c.in_err-recorded.field-0.0 c.args.quantum (opening_of 0 c.args.image c.args.name.now c.args.random) c.in-Ok.log c.record_guest.new.log (c.in-Ok.ensures.kept tt)
+    (subst (λ n. HasStopped ghosts n c.args.quantum (opening_of n c.args.image c.args.name.now c.args.random) c.in_err-recorded.field-0.0 c.in-Ok.log c.record_guest.new.log)
     c.in-Ok.ensures.next_guest c.in_err-recorded.ensures.stopped))
 
 pub returns-in-Err-open-clause-refused : goal.returns-in-Err-open-clause-refused

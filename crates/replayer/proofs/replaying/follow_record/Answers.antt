@@ -2,7 +2,7 @@ use Rattle.std.proofs.Common.{rules, inr}
 use Rattle.std.proofs.lemmas.Result.{err_from_is_err_and}
 use Rattle.guest_calls.specs.Guest.{chunks_of, state_of}
 use Rattle.replayer.proofs.Steps.{puts_by}
-use Rattle.replayer.proofs.Stopped.{puts_by_call, refuses_for_memory}
+use Rattle.replayer.proofs.ReplayRefusals.{puts_by_call, refuses_for_memory}
 use Rattle.replayer.proofs.replaying.follow_record.Goals as goal
 
 pub returns-in_ok-put-in-Ok-clause-next : goal.returns-in_ok-put-in-Ok-clause-next

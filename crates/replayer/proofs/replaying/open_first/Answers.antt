@@ -2,7 +2,7 @@ use Rattle.std.proofs.Common.{rules}
 use Rattle.guest_calls.specs.Guest.{state_of}
 use Rattle.std.proofs.lemmas.Result.{IfErr-weaker, IfOk-weaker}
 use Rattle.replayer.proofs.Steps.{replayed_first}
-use Rattle.replayer.proofs.Stopped.{refused_opening}
+use Rattle.replayer.proofs.ReplayRefusals.{refused_opening}
 use Rattle.replayer.proofs.replaying.open_first.Goals as goal
 
 pub returns-in-Opening-clause-opens : goal.returns-in-Opening-clause-opens

@@ -3,7 +3,7 @@ use Rattle.guest_calls.specs.Guest.{chunks_of, state_of}
 use Rattle.replayer.specs.Replayed.{chunks_in}
 use Rattle.std.proofs.lemmas.Result.{err_from_is_err_and}
 use Rattle.replayer.proofs.Steps.{replayed_at}
-use Rattle.replayer.proofs.Stopped.{lacks_for_output, refused_at, refuses_for_memory}
+use Rattle.replayer.proofs.ReplayRefusals.{lacks_for_output, refused_at, refuses_for_memory}
 use Rattle.replayer.proofs.replaying.replay.Goals as goal
 
 pub loop-index-preserved : goal.loop-index-preserved

@@ -7,7 +7,7 @@ use Rattle.guest_calls.specs.Guest.{state_of, chunks_of}
 use Rattle.serial_sched.specs.Answered.{Recalls}
 use Rattle.serial_sched.specs.declared.fault.FollowFault.TheVariants as faults
 use Rattle.serial_sched.proofs.SliceLaws.{call_running, call_runs_on}
-use Rattle.serial_sched.proofs.Determined.{recalled}
+use Rattle.serial_sched.proofs.RecordedAnswers.{recalled}
 use Rattle.serial_sched.proofs.FollowLaws.{again, no_call, other_than_call, other_record, call_followed, call_put, call_meets}
 use Rattle.serial_sched.proofs.following.follow_call.Goals as goal
 

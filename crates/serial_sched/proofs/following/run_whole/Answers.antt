@@ -1,7 +1,7 @@
 use Rattle.std.proofs.Common.{arith}
 use Rattle.std.proofs.lemmas.Bool.{false≢true}
 use Rattle.guest_calls.specs.Guest.{state_of}
-use Rattle.serial_sched.proofs.Ways.{running_at, stopped}
+use Rattle.serial_sched.proofs.OneStep.{running_at, stopped}
 use Rattle.serial_sched.proofs.following.run_whole.Goals as goal
 
 pub returns-then-not-is_running-clause-nowhere : goal.returns-then-not-is_running-clause-nowhere

@@ -1,4 +1,4 @@
-use Rattle.serial_sched.proofs.Determined.{moment_told, moment_missing}
+use Rattle.serial_sched.proofs.RecordedAnswers.{moment_told, moment_missing}
 use Rattle.serial_sched.proofs.recorded.RecordedOutside.now.Goals as goal
 
 pub returns-in-Some-clause-gives : goal.returns-in-Some-clause-gives

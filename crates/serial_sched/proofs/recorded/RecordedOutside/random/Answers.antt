@@ -1,6 +1,6 @@
 use Rattle.std.proofs.Common.{ap}
 use Rattle.rrv_model.specs.Calls.{Bytes}
-use Rattle.serial_sched.proofs.Determined.{copied_whole}
+use Rattle.serial_sched.proofs.RecordedAnswers.{copied_whole}
 use Rattle.serial_sched.proofs.recorded.RecordedOutside.random.Goals as goal
 
 pub returns : goal.returns

@@ -1,6 +1,6 @@
 use Rattle.std.proofs.Common.{ap}
 use Rattle.rrv_model.specs.Calls.{Bytes}
-use Rattle.serial_sched.proofs.Determined.{copied_part}
+use Rattle.serial_sched.proofs.RecordedAnswers.{copied_part}
 use Rattle.serial_sched.proofs.recorded.RecordedOutside.read.Goals as goal
 
 pub returns-clause-gives : goal.returns-clause-gives

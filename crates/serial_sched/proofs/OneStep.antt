@@ -12,7 +12,7 @@ use Rattle.rrv_model.proofs.CallLaws.{same_thread}
 use Rattle.rrv_model.proofs.FrameLaws.{one_outcome, one_step, one_end}
 use Rattle.rv_machine.specs.declared.run.RunEnd.{RunEnd}
 use Rattle.rv_machine.specs.declared.run.RunEnd.TheVariants as ends
-use Rattle.guest_calls.specs.Runs.{RunsTo}
+use Rattle.guest_calls.specs.Runs.{RunsTo, RunsToCall}
 use Rattle.serial_sched.specs.Follows.{Reaches, ReachesCall, ReachesFault}
 
 -- ---- one instruction
@@ -66,10 +66,14 @@ no_longer_than_fault n m tid kind s x b h p faults q = let on = longer n m tid s
 
 -- ---- runs and their ends
 
+-- a run to a call reaches it
+pub call_reached : (limit n tid : ℕ) (s called : State) → RunsToCall limit tid n s called → ReachesCall n tid s called
+call_reached limit n tid s called p = record { some = p.some; before = p.before; steps = p.steps; calls = p.calls }
+
 -- a whole run reaches its end
 pub reached : (end : RunEnd) (limit n tid : ℕ) (s a : State) → n ≡ limit → RunsTo end limit tid n s a → Reaches end n tid s a
 reached ends.Limit limit n tid s a e p = subst (λ (m : ℕ). Steps m tid s a) (sym e) p.1
-reached ends.Call limit n tid s a e p = record { some = p.some; before = p.before; steps = p.steps; calls = p.calls }
+reached ends.Call limit n tid s a e p = call_reached limit n tid s a p
 reached (ends.Fault kind) limit n tid s a e p = record { some = p.some; steps = p.steps; faults = p.faults }
 reached ends.Memory limit n tid s a e p = let within = p.within in absurd (omega arith)
 
