@@ -42,16 +42,16 @@ module _ (guest : Ended) where
   invariant : Invariant world []
   invariant = invariant_of_run example_start [] (up_to_gate guest.written guest.ended) (invariant_at_start example_start [] starts) (gate_schedule guest)
 
-  at : DiskAt Opened world.disk [] all_three
-  at = invariant.disk
+  gate_opened : DiskAt Opened world.disk [] all_three
+  gate_opened = invariant.disk
 
   may_leave : (gate : ℕ) → IsCrash world.disk.pending (torn_at_gate gate)
-  may_leave gate = subst (λ (p : Pending). IsCrash p (torn_at_gate gate)) (sym at.1) (any_byte [] (body_text all_three) gate)
+  may_leave gate = subst (λ (p : Pending). IsCrash p (torn_at_gate gate)) (sym gate_opened.1) (any_byte [] (body_text all_three) gate)
 
   shut_sound : (gate : ℕ) → gate ≢ 0xA5 → IsSound (torn_at_gate gate) []
   shut_sound gate shut =
       sound_by (torn_at_gate gate) (tail [] (body_text all_three)) gate [] refl shut tt (omega arith)
-      (inr (record { few = omega arith; body = body_text all_three; rest = []; text = refl; is_body = at.2.0 }))
+      (inr (record { few = omega arith; body = body_text all_three; rest = []; text = refl; is_body = gate_opened.2.0 }))
 
   open_text : torn_at_gate 0xA5 ≡ closed_store (body_text all_three ∷ [])
   open_text =
@@ -59,7 +59,7 @@ module _ (guest : Ended) where
       ∙ ap (λ (l : List ℕ). l ++ 0 ∷ []) (sym (store_text-push [] (body_text all_three)))
 
   pub is_body : IsBody (body_text all_three)
-  is_body = at.2.0
+  is_body = gate_opened.2.0
 
   pub finds_all : IsRecovered (body_text all_three ∷ []) all_three
   finds_all = hand_recovered world [] invariant is_body

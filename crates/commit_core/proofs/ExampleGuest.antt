@@ -1,11 +1,10 @@
 -- The guest of the example: its file is accepted, and its frames lead on and put its byte out.
-use Rattle.std.proofs.Common.{◌≡◌, ⊎_elim, ℕ, zero, suc, ◌+◌, ◌<◌, ◌≤◌, Bool, true, false, not, cond, if◌then◌else◌, List, [], ◌∷◌, Option, Some, None, Ok, Result, refl, sym, ◌∙◌, ap, subst, arith, ◌-◌, ◌==◌}
+use Rattle.std.proofs.Common.{◌≡◌, ℕ, ◌+◌, ◌<◌, ◌≤◌, Bool, true, false, not, cond, if◌then◌else◌, List, [], ◌∷◌, Option, Some, None, Ok, Result, refl, sym, ◌∙◌, ap, subst, arith, ◌-◌, ◌==◌}
 use Rattle.std.specs.Prelude.{is_some, nat_lt, All}
 use Rattle.std.specs.List.{list_any, list_all}
 use Rattle.std.specs.Ordering.{nat_cmp}
 use Rattle.std.specs.Cmp.{nat_cmp_total, eq_by_cmp_equiv}
 use Rattle.std.specs.FinMap.{FinMap, get, insert, remove, empty, len, get-insert, get-empty, len-insert, len-remove, len-empty}
-use Rattle.std.proofs.lemmas.Bool.{cases_lt}
 use Rattle.std.proofs.lemmas.Bool.Decides.{nat_tests, Decides-by_and, Decides-ltb}
 use Rattle.std.proofs.lemmas.List.Elements.{All-from_recursion}
 use Rattle.rrv_model.specs.declared.instr.ImmediateOp.TheVariants.{Addi}

@@ -71,11 +71,11 @@ module _ (guest : Ended) where
   invariant : Invariant world []
   invariant = invariant_of_run example_start [] (up_to_second_gate guest.written guest.ended) (invariant_at_start example_start [] starts) schedule
 
-  at : DiskAt Opened world.disk first_body (exited ∷ [])
-  at = invariant.disk
+  gate_opened : DiskAt Opened world.disk first_body (exited ∷ [])
+  gate_opened = invariant.disk
 
   crash : IsCrash world.disk.pending torn_store
-  crash = subst (λ (p : Pending). IsCrash p torn_store) (sym at.1) (any_byte first_body (body_text (exited ∷ [])) 0x21)
+  crash = subst (λ (p : Pending). IsCrash p torn_store) (sym gate_opened.1) (any_byte first_body (body_text (exited ∷ [])) 0x21)
 
   sizes : AllByRecursion IsBody first_body
   sizes = invariant.store.sizes

@@ -1,12 +1,9 @@
 -- The example's start and its events.
-use Rattle.std.proofs.Common.{◌≡◌, ℕ, zero, suc, ◌+◌, ◌^◌, ◌<◌, ◌≤◌, true, List, [], ◌∷◌, ◌++◌, length, refl, sym, ap, subst, arith, add-zero, Some}
-use Rattle.std.specs.Prelude.{nat_lt, All}
-use Rattle.std.specs.List.{list_all, AllByRecursion}
-use Rattle.std.proofs.lemmas.Bool.Decides.{Decides-by_and, Decides-ltb}
+use Rattle.std.proofs.Common.{◌≡◌, ℕ, zero, suc, ◌+◌, ◌<◌, ◌≤◌, List, [], ◌∷◌, ◌++◌, length, refl, sym, ap, subst, arith, add-zero, Some}
+use Rattle.std.specs.List.{AllByRecursion}
 use Rattle.rrv_model.specs.declared.machine.GuestEnd.TheVariants.{Exited}
 use Rattle.rrv_model.specs.declared.record.End.TheVariants as ends
 use Rattle.rrv_model.specs.declared.record.Frame.{Frame}
-use Rattle.rrv_model.specs.declared.record.Item.TheVariants as items
 use Rattle.rrv_model.specs.declared.record.Record.{Record}
 use Rattle.rrv_model.specs.CrashModel.{DiskState}
 use Rattle.rrv_model.specs.State.{State}
@@ -19,7 +16,7 @@ use Rattle.commit_core.specs.World.{World, Recorder, IsStart, IsReady, IsAtRest,
 use Rattle.commit_core.specs.World.Stage.{Idle}
 use Rattle.commit_core.specs.Events.{Event, CanSlice, CanWrite, after, run, gate_place, next_body, IsSchedule}
 use Rattle.commit_core.specs.Events.Event.{Slice, WriteBody, Sync1, OpenGate}
-use Rattle.commit_core.specs.Example.{example_opening, example_state, example_recorder, start_on, example_start, opened, wrote, exited, write_frame, all_three, up_to_received, up_to_gate, from_gate_on, up_to_release}
+use Rattle.commit_core.specs.Example.{example_opening, example_state, example_recorder, start_on, example_start, wrote, exited, write_frame, all_three, up_to_received, up_to_gate, from_gate_on, up_to_release}
 use Rattle.commit_core.proofs.ExampleGuest.{Ended, the_byte, opens, guest_ends}
 
 -- ---- texts

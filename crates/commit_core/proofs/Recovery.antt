@@ -198,8 +198,8 @@ module _ (w : World) (old : List Record) (invariant : Invariant w old) (batches 
   }
 
   -- and these bodies are the ones of before, and then bodies of the group
-  pub left : LeftBehind w old bodies
-  left = record {
+  pub left_behind : LeftBehind w old bodies
+  left_behind = record {
     from = recovers_from;
     grows = record {
       more = map body_text batches;
@@ -252,11 +252,11 @@ module _ (w : World) (old : List Record) (invariant : Invariant w old) where
       (stored_bodies w ++ body_text w.flusher.hand ∷ []) (sym with_hand) (sizes_hand is) (λ g l. enough_hand g)
 
   pub left_finished : LeftBehind w old (stored_bodies w)
-  left_finished = left w old invariant w.flusher.finished ((w.flusher.hand ++ w.flusher.waiting) ++ w.queue) front_finished (stored_bodies w) refl
+  left_finished = left_behind w old invariant w.flusher.finished ((w.flusher.hand ++ w.flusher.waiting) ++ w.queue) front_finished (stored_bodies w) refl
       (sizes_behind w.bodies w.flusher.finished invariant.store.sizes) (λ g l. omega arith)
 
   pub left_hand : IsBody (body_text w.flusher.hand) → LeftBehind w old (stored_bodies w ++ body_text w.flusher.hand ∷ [])
-  left_hand is = left w old invariant (w.flusher.finished ++ w.flusher.hand ∷ []) (w.flusher.waiting ++ w.queue) front_hand
+  left_hand is = left_behind w old invariant (w.flusher.finished ++ w.flusher.hand ∷ []) (w.flusher.waiting ++ w.queue) front_hand
       (stored_bodies w ++ body_text w.flusher.hand ∷ []) (sym with_hand) (sizes_hand is) (λ g l. enough_hand g)
 
   recovers_finished : (content : List ℕ) → IsSound content (stored_bodies w) → Recovers w old content

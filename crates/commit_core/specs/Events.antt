@@ -1,6 +1,6 @@
 -- The events of the world: when each may happen, and what it does. Each effect is a function of its holder's part.
--- A crash is no event: it may come between two events, or within a call of the disk. Within a write it counts as after it,
--- and within a sync as before it.
+-- A crash is no event: it may come between two events, or within a call of the disk. Within a write it counts as after
+-- it, and within a sync as before it.
 use Rattle.std.specs.Prelude.{◌≡◌, ℕ, ◌+◌, ◌<◌, ◌≤◌, ◌==◌, min, true, false, if◌then◌else◌, List, [], ◌∷◌, ◌++◌, length, take, drop}
 use Rattle.rrv_model.specs.declared.limits.TheConstants.{QUEUE_ITEMS, BATCH_ITEMS, MAX_BODY, MAX_SEGMENTS, MAX_STORE}
 use Rattle.rrv_model.specs.declared.record.Record.{Record}
@@ -24,8 +24,8 @@ pub data Event : Type 0 where
   Release : (g : ℕ) (more : List (ℕ × ℕ)) → Event
   LookHalt : (g : ℕ) → Event
   Leave : (g : ℕ) → Event
-  -- of the flusher: it receives a record, and commits those that wait; a call of the disk that fails tells which disk it
-  -- leaves
+  -- of the flusher: it receives a record, and commits those that wait; a call of the disk that fails tells which disk
+  -- it leaves
   Pop : (r : Record) (rest : List Record) → Event
   WriteBody : (count : ℕ) → Event
   WriteBodyFails : (count : ℕ) (disk : DiskState) → Event

@@ -1,5 +1,5 @@
--- A session that begins with a repair: the first one's byte has left, and it is stopped in the write of its second gate;
--- the next one is stopped within its opening.
+-- A session that begins with a repair: the first one's byte has left, and it is stopped in the write of its second
+-- gate; the next one is stopped within its opening.
 use Rattle.std.specs.Prelude.{◌≡◌, ℕ, ◌+◌, List, [], ◌∷◌, ◌++◌, length}
 use Rattle.rrv_model.specs.declared.record.Record.{Record}
 use Rattle.rrv_model.specs.CrashModel.{DiskState, IsCrash}

@@ -68,8 +68,9 @@ pub record Facts (w : World) : Type 0 where
 
 -- ---- what recovery gives
 
--- Replaying records, which aren't none and are a beginning of those of a whole run: they are a recording; below their total
--- the states are those of the run; at their total it is the state that the guest had when just these had been made.
+-- Replaying records, which aren't none and are a beginning of those of a whole run: they are a recording; below their
+-- total the states are those of the run; at their total it is the state that the guest had when just these had been
+-- made.
 pub record Replays (records whole : List Record) (states : List State) : Type 0 where
   pub recording : IsRecording records
   pub there : (t : ℕ) → t < total_of (items_of records) → (s : State) × IsAt (items_of records) t s

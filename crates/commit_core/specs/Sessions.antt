@@ -11,8 +11,8 @@ use Rattle.commit_core.specs.Events.{Event, run, IsSchedule}
 
 -- ---- sessions
 
--- one that is stopped within `open`; one whose `open` answered and that recorded nothing; and one that then ran a list of
--- events
+-- one that is stopped within `open`; one whose `open` answered and that recorded nothing; and one that then ran a list
+-- of events
 pub data Session : Type 0 where
   StoppedOpening : Session
   OnlyOpened : (bodies : List (List ℕ)) (old : List Record) → Session

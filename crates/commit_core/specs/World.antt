@@ -58,7 +58,8 @@ pub record World : Type 0 where
   pub bodies : List (List ℕ)
   pub recorders : ℕ → Recorder
   pub queue : List Record
-  -- below guests: the counts of durable records; at guests: the halt; above: of each guest that left, one more than it sent
+  -- below guests: the counts of durable records; at guests: the halt; above: of each guest that left, one more than it
+  -- sent
   pub words : ℕ → ℕ
   pub flusher : Flusher
   pub disk : DiskState
@@ -126,7 +127,8 @@ nothing_done = record {
   stage = Idle;
 }
 
--- The store holds bodies from which these records are recovered, and every crash leaves just that; some recorders are ready.
+-- The store holds bodies from which these records are recovered, and every crash leaves just that; some recorders are
+-- ready.
 pub record IsStart (w : World) (old : List Record) : Type 0 where
   pub some : 1 ≤ w.guests
   pub few : w.guests ≤ MAX_GUESTS
