@@ -1,46 +1,13 @@
--- Only an ECALL is a call.
-use Rattle.std.proofs.Common.{◌≡◌, ℕ, Bool, true, false, cond, Option, Some, None, Result, Ok, Err, refl, sym, ap, ◌∙◌, subst, arith}
+-- What may find no memory.
+use Rattle.std.proofs.Common.{◌≡◌, ℕ, true, Option, Some, Result, Ok, Err, refl, subst}
 use Rattle.std.proofs.lemmas.Bool.{false≢true}
-use Rattle.std.proofs.lemmas.Bool.Decides.{nat_tests}
 use Rattle.rrv_model.specs.declared.machine.FaultKind.{FaultKind}
 use Rattle.rrv_model.specs.declared.instr.Instr.{Instr}
 use Rattle.rrv_model.specs.declared.instr.Instr.TheVariants.{Lui, Auipc, Jal, Jalr, Branch, Load, Store, OpImm, Shift, Op, Fence, FenceI, Ecall, Ebreak, Lr, Sc, Amo}
 use Rattle.rrv_model.specs.Instructions.{Decodes}
 use Rattle.rrv_model.specs.State.{State}
-use Rattle.rrv_model.specs.Step.{Hart, Outcome, Next, Called, Faulted, StepOfWord, MayStore, MayTakeMemory, ThreadMayStore, ThreadMayTakeMemory, CallsFrom, executed, fetched, hart_of, may_store, may_take_memory}
-
-abbrev is_call : Outcome → Bool
-is_call (Next h) = false
-is_call (Called h) = true
-is_call (Faulted kind) = false
-
-either : (b : Bool) (x y : Outcome) → is_call x ≡ false → is_call y ≡ false → is_call (cond b x y) ≡ false
-either true x y p q = p
-either false x y p q = q
-
-called_is : (o : Outcome) (h : Hart) → Called h ≡ o → is_call o ≡ false → ⊥
-called_is o h e p = absurd (false≢true (sym p ∙ ap is_call (sym e)))
-
-ecall : (i : Option Instr) (h after : Hart) → Called after ≡ executed i h → i ≡ Some Ecall
-unfolding executed
-ecall None h after e = absurd (called_is _ after e refl)
-ecall (Some (Lui rd immediate)) h after e = absurd (called_is _ after e refl)
-ecall (Some (Auipc rd immediate)) h after e = absurd (called_is _ after e refl)
-ecall (Some (Jal rd offset)) h after e = absurd (called_is _ after e (grind (arith, nat_tests, either)))
-ecall (Some (Jalr rd rs1 immediate)) h after e = absurd (called_is _ after e (grind (arith, nat_tests, either)))
-ecall (Some (Branch test rs1 rs2 offset)) h after e = absurd (called_is _ after e (grind (arith, nat_tests, either)))
-ecall (Some (Load kind rd rs1 immediate)) h after e = absurd (called_is _ after e (grind (arith, nat_tests, either)))
-ecall (Some (Store kind rs1 rs2 immediate)) h after e = absurd (called_is _ after e (grind (arith, nat_tests, either)))
-ecall (Some (OpImm op rd rs1 immediate)) h after e = absurd (called_is _ after e refl)
-ecall (Some (Shift op rd rs1 amount)) h after e = absurd (called_is _ after e refl)
-ecall (Some (Op op rd rs1 rs2)) h after e = absurd (called_is _ after e refl)
-ecall (Some Fence) h after e = absurd (called_is _ after e refl)
-ecall (Some FenceI) h after e = absurd (called_is _ after e refl)
-ecall (Some Ecall) h after e = refl
-ecall (Some Ebreak) h after e = absurd (called_is _ after e refl)
-ecall (Some (Lr ordering rd rs1)) h after e = absurd (called_is _ after e (grind (arith, nat_tests, either)))
-ecall (Some (Sc ordering rd rs1 rs2)) h after e = absurd (called_is _ after e (grind (arith, nat_tests, either)))
-ecall (Some (Amo op ordering rd rs1 rs2)) h after e = absurd (called_is _ after e (grind (arith, nat_tests, either)))
+use Rattle.rrv_model.specs.Step.{Hart, Called, Faulted, StepOfWord, MayStore, MayTakeMemory, ThreadMayStore, ThreadMayTakeMemory, CallsFrom, executed, fetched, hart_of, may_store, may_take_memory}
+use Rattle.guest_calls.proofs.Ecalls.{called_is, ecall}
 
 -- an ECALL does not fault
 goes : (h : Hart) (kind : FaultKind) → executed (Some Ecall) h ≡ Faulted kind → ⊥
@@ -54,7 +21,7 @@ takes_of_word (Ok w) h after fetches p = record {
   instr = Ecall;
   fetches = fetches;
   stands = subst (λ (i : Option Instr). Decodes w i) (ecall p.0 h after p.2) p.1;
-  passes = refl;
+  takes = refl;
   goes = goes h;
 }
 
@@ -69,14 +36,26 @@ call_may_take s tid after p = record {
 
 -- what stores may find no memory
 stores_take : (i : Instr) (h : Hart) → may_store i h ≡ true → may_take_memory i ≡ true
+stores_take (Lui rd immediate) h e = absurd (false≢true e)
+stores_take (Auipc rd immediate) h e = absurd (false≢true e)
+stores_take (Jal rd offset) h e = absurd (false≢true e)
+stores_take (Jalr rd rs1 immediate) h e = absurd (false≢true e)
+stores_take (Branch test rs1 rs2 offset) h e = absurd (false≢true e)
+stores_take (Load kind rd rs1 immediate) h e = absurd (false≢true e)
 stores_take (Store kind rs1 rs2 immediate) h e = refl
+stores_take (OpImm op rd rs1 immediate) h e = absurd (false≢true e)
+stores_take (Shift op rd rs1 amount) h e = absurd (false≢true e)
+stores_take (Op op rd rs1 rs2) h e = absurd (false≢true e)
+stores_take Fence h e = absurd (false≢true e)
+stores_take FenceI h e = absurd (false≢true e)
+stores_take Ecall h e = absurd (false≢true e)
+stores_take Ebreak h e = absurd (false≢true e)
+stores_take (Lr ordering rd rs1) h e = absurd (false≢true e)
 stores_take (Sc ordering rd rs1 rs2) h e = refl
 stores_take (Amo op ordering rd rs1 rs2) h e = refl
-stores_take Ecall h e = refl
-stores_take _ h e = absurd (false≢true e)
 
 store_takes : (h : Hart) → MayStore h → MayTakeMemory h
-store_takes h p = record { word = p.word; instr = p.instr; fetches = p.fetches; stands = p.stands; passes = stores_take p.instr h p.passes; goes = p.goes }
+store_takes h p = record { word = p.word; instr = p.instr; fetches = p.fetches; stands = p.stands; takes = stores_take p.instr h p.stores; goes = p.goes }
 
 pub store_may_take : (s : State) (tid : ℕ) → ThreadMayStore s tid → ThreadMayTakeMemory s tid
 store_may_take s tid p = record { thread = p.thread; there = p.there; running = p.running; next = store_takes (hart_of s p.thread) p.next }

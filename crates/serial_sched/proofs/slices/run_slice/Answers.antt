@@ -43,8 +43,8 @@ returns-in-Ok-clause-is_slice g c =
     c.closed_frame-in-Ok.result c.run_thread-run.result.count (state_of c.run_thread-run.new.self) (state_of c.call.new.self) c.in-Ok.ensures.calls.0 c.in-Ok.told
     c.closed_frame-in-Ok.ensures.frame p c.in-Ok.ensures.calls.1 c.in-Ok.ensures.text (ap chunks_of c.closed_frame-in-Ok.ensures.put ∙ c.in-Ok.ensures.puts)
     c.in-Ok.ensures.answered c.in-Ok.ensures.unasked c.closed_frame-in-Ok.ensures.closes
-    (c.closed_frame-in-Ok.ensures.ran ∙ c.in-Ok.ensures.ran ∙ c.run_thread-run.ensures.ran)
-    (c.closed_frame-in-Ok.ensures.snapshots ∙ c.in-Ok.ensures.snapshots ∙ c.run_thread-run.ensures.snapshots)
+    (c.closed_frame-in-Ok.ensures.ran ∙ c.in-Ok.ensures.keeps.ran ∙ c.run_thread-run.ensures.ran)
+    (c.closed_frame-in-Ok.ensures.snapshots ∙ c.in-Ok.ensures.keeps.snapshots ∙ c.run_thread-run.ensures.snapshots)
 
 pub returns-in-Fault-clause-is_slice : goal.returns-in-Fault-clause-is_slice
 returns-in-Fault-clause-is_slice g c =
@@ -52,9 +52,9 @@ returns-in-Fault-clause-is_slice g c =
     fault_slice g.O.Outside.gives c.args.guest.now c.close_slice.new.self c.args.choice c.args.outside.now c.args.outside.now c.requires
     c.run_thread-run.result.count c.in-Fault.kind (state_of c.run_thread-run.new.self) p c.close_slice.ensures.state
     (record {
-      ran = c.close_slice.ensures.ran ∙ c.run_thread-run.ensures.ran;
+      ran = c.close_slice.ensures.keeps.ran ∙ c.run_thread-run.ensures.ran;
       put = c.close_slice.ensures.put ∙ c.run_thread-run.ensures.put;
-      snapshots = c.close_slice.ensures.snapshots ∙ c.run_thread-run.ensures.snapshots;
+      snapshots = c.close_slice.ensures.keeps.snapshots ∙ c.run_thread-run.ensures.snapshots;
       environment = refl;
     })
 
@@ -111,7 +111,7 @@ returns-in-Err-clause-is_slice g c =
       ran = c.stop_short.ensures.ran ∙ c.take_back.ensures.ran ∙ ap (λ (v : GuestValue). v.ran_before_call) c.in-Err.ensures.refused
           ∙ c.run_thread-run.ensures.ran_before_call c.in-Call.is;
       put = c.stop_short.ensures.put ∙ c.take_back.ensures.put ∙ ap (λ (v : GuestValue). v.put) c.in-Err.ensures.refused ∙ c.run_thread-run.ensures.put;
-      snapshots = c.stop_short.ensures.snapshots ∙ c.take_back.ensures.snapshots ∙ c.in-Err.ensures.snapshots ∙ c.run_thread-run.ensures.snapshots;
+      snapshots = c.stop_short.ensures.snapshots ∙ c.take_back.ensures.snapshots ∙ c.in-Err.ensures.keeps.snapshots ∙ c.run_thread-run.ensures.snapshots;
       environment = c.in-Err.ensures.refused_unasked;
     })
 
@@ -139,6 +139,6 @@ returns-in-Err-clause-refused g c =
       ran = c.stop_short.ensures.ran ∙ c.take_back.ensures.ran ∙ ap (λ (v : GuestValue). v.ran_before_call) c.in-Err.ensures.refused
           ∙ c.run_thread-run.ensures.ran_before_call c.in-Call.is;
       put = c.stop_short.ensures.put ∙ c.take_back.ensures.put ∙ ap (λ (v : GuestValue). v.put) c.in-Err.ensures.refused ∙ c.run_thread-run.ensures.put;
-      snapshots = c.stop_short.ensures.snapshots ∙ c.take_back.ensures.snapshots ∙ c.in-Err.ensures.snapshots ∙ c.run_thread-run.ensures.snapshots;
+      snapshots = c.stop_short.ensures.snapshots ∙ c.take_back.ensures.snapshots ∙ c.in-Err.ensures.keeps.snapshots ∙ c.run_thread-run.ensures.snapshots;
       environment = c.in-Err.ensures.refused_unasked;
     })
