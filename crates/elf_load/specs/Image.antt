@@ -5,7 +5,7 @@ use Rattle.rrv_model.specs.Opening.{headers_address, image_break}
 
 -- the file is accepted, and the other values are what the definitions give for it
 pub record IsImage (file : List ℕ) (kept_loads : List Header) (kept_entry kept_address kept_count kept_end : ℕ)
-  : Type 0 where
+    : Type 0 where
   pub accepted : refusal file ≡ None
   pub loads_are : kept_loads ≡ loads file
   pub entry_is : kept_entry ≡ elf_entry file

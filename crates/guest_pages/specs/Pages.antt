@@ -16,4 +16,4 @@ written bytes at (b ∷ bs) = written (slice_set bytes at b) (at + 1) bs
 pub record IsWritten (bytes : List ℕ) (at : ℕ) (bs new : List ℕ) : Type 0 where
   pub len : length new ≡ length bytes
   pub each : (k : ℕ) →
-    slice_index new k ≡ if is_within at (length bs) k then slice_index bs (k - at) else slice_index bytes k
+      slice_index new k ≡ if is_within at (length bs) k then slice_index bs (k - at) else slice_index bytes k

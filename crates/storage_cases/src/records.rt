@@ -3,7 +3,7 @@
 use frames::{read_record, write_record};
 use rrv_model::machine::Permissions;
 use rrv_model::record::{
-    CallRecord, End, Frame, Item, Opening, PagePart, Part, Record, CheckpointRest, ThreadPart,
+    CallRecord, CheckpointRest, End, Frame, Item, Opening, PagePart, Part, Record, ThreadPart,
 };
 use std::alloc::{AllocError, Global};
 use std::fmt::Write;

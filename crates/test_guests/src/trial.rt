@@ -5,10 +5,10 @@ use crate::files::{file_of, guest_of_file};
 use crate::outsides::Scripted;
 use guest_calls::{Guest, Run, SetRestFault};
 use guest_pages::PageView;
-use rrv_model::sequence::Sequence;
 use rrv_model::machine::{GuestEnd, Regs, Thread};
 use rrv_model::record::{CallRecord, CheckpointRest, ThreadPart};
 use rrv_model::refusal::Memory;
+use rrv_model::sequence::Sequence;
 use std::alloc::{AllocError, Global};
 
 /// What a guest is asked. Each answer is a number, or None where nothing is there.

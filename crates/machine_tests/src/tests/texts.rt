@@ -8,11 +8,7 @@ use std::process::Abort;
 use std::test::Fail;
 
 /// A refusal has to be told so.
-fn told<R: Abort + AllocGlobal>(
-    rt: &R,
-    fault: &impl Display,
-    want: &str,
-) -> Result<(), Fail> {
+fn told<R: Abort + AllocGlobal>(rt: &R, fault: &impl Display, want: &str) -> Result<(), Fail> {
     let text = format!(in rt.alloc(); "{fault}")?;
     same(rt, &"a refusal", text.as_str(), want);
     Ok(())

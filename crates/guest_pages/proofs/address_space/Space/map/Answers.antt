@@ -16,23 +16,35 @@ count_after pages s permissions page count h same high =
     ∙ page_count_mapped pages permissions page count h high
 
 pub returns-then-len-more-clause-refused : goal.returns-then-len-more-clause-refused
-returns-then-len-more-clause-refused c = omega (arith, c.len.ensures.len, c.count_missing-more.ensures,
-    count_after c.self.inside.pages.entries c.args.self.now c.args.permissions c.args.page c.args.count c.self.invariant
-    (ap memory_of c.self.view_is) c.requires.high)
+returns-then-len-more-clause-refused c = omega (
+  arith,
+  c.len.ensures.len,
+  c.count_missing-more.ensures,
+  count_after c.self.inside.pages.entries c.args.self.now c.args.permissions c.args.page c.args.count c.self.invariant
+      (ap memory_of c.self.view_is) c.requires.high,
+)
 
 pub returns-in_default-clause-refused : goal.returns-in_default-clause-refused
-returns-in_default-clause-refused c = omega (arith, c.len.ensures.len, c.count_missing-more.ensures,
-    count_after c.self.inside.pages.entries c.args.self.now c.args.permissions c.args.page c.args.count c.self.invariant
-    (ap memory_of c.self.view_is) c.requires.high)
+returns-in_default-clause-refused c = omega (
+  arith,
+  c.len.ensures.len,
+  c.count_missing-more.ensures,
+  count_after c.self.inside.pages.entries c.args.self.now c.args.permissions c.args.page c.args.count c.self.invariant
+      (ap memory_of c.self.view_is) c.requires.high,
+)
 
 pub add_pages-requires-clause-absent : goal.add_pages-requires-clause-absent
 add_pages-requires-clause-absent c = λ q h.
     absent_before c.self.inside.pages.entries c.args.page c.args.count q (ap (λ (numbers : List ℕ). has_number numbers q) (sym (c.as_slice.ensures.value ∙ c.in-Ok.ensures.listed)) ∙ h)
 
 pub returns-in_default-add_pages-clause-refused : goal.returns-in_default-add_pages-clause-refused
-returns-in_default-add_pages-clause-refused c = omega (arith, c.len.ensures.len, c.count_missing-more.ensures,
-    count_after c.self.inside.pages.entries c.args.self.now c.args.permissions c.args.page c.args.count c.self.invariant
-    (ap memory_of c.self.view_is) c.requires.high)
+returns-in_default-add_pages-clause-refused c = omega (
+  arith,
+  c.len.ensures.len,
+  c.count_missing-more.ensures,
+  count_after c.self.inside.pages.entries c.args.self.now c.args.permissions c.args.page c.args.count c.self.invariant
+      (ap memory_of c.self.view_is) c.requires.high,
+)
 
 pub invariant_of-self-2 : goal.invariant_of-self-2
 invariant_of-self-2 c =

@@ -46,14 +46,20 @@ count_after pages s n o v h same is may absent =
     ∙ page_count_put pages v n h (subst (λ (p : Option PageView). MayHave n p) is may).1 (no_page (page_at pages n) absent)
 
 pub returns-then-len-clause-refused : goal.returns-then-len-clause-refused
-returns-then-len-clause-refused c = omega (arith, c.len.ensures.len,
-    count_after c.self.inside.pages.entries c.args.self.now c.args.number c.args.page c.in-Some.page c.self.invariant
-    (ap memory_of c.self.view_is) c.in-Some.is c.requires (sym c.contains_key.ensures ∙ c.if-contains_key.false))
+returns-then-len-clause-refused c = omega (
+  arith,
+  c.len.ensures.len,
+  count_after c.self.inside.pages.entries c.args.self.now c.args.number c.args.page c.in-Some.page c.self.invariant
+      (ap memory_of c.self.view_is) c.in-Some.is c.requires (sym c.contains_key.ensures ∙ c.if-contains_key.false),
+)
 
 pub returns-in_default-insert_page-clause-refused : goal.returns-in_default-insert_page-clause-refused
-returns-in_default-insert_page-clause-refused c = omega (arith, c.len.ensures.len,
-    count_after c.self.inside.pages.entries c.args.self.now c.args.number c.args.page c.in-Some.page c.self.invariant
-    (ap memory_of c.self.view_is) c.in-Some.is c.requires (sym c.contains_key.ensures ∙ c.if-contains_key.false))
+returns-in_default-insert_page-clause-refused c = omega (
+  arith,
+  c.len.ensures.len,
+  count_after c.self.inside.pages.entries c.args.self.now c.args.number c.args.page c.in-Some.page c.self.invariant
+      (ap memory_of c.self.view_is) c.in-Some.is c.requires (sym c.contains_key.ensures ∙ c.if-contains_key.false),
+)
 
 pub returns-then-len-clause-too_many : goal.returns-then-len-clause-too_many
 returns-then-len-clause-too_many c = λ e.
