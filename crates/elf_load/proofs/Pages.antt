@@ -8,6 +8,7 @@ use Rattle.std.proofs.lemmas.List.{take_all}
 use Rattle.std.proofs.lemmas.List.Folds.{list_any_none}
 use Rattle.std.proofs.lemmas.List.Sums.{count_by_more_no, count_by_more_yes}
 use Rattle.rrv_model.specs.Elf.{Header, load_end, touches, touched_below}
+use Rattle.rrv_model.proofs.ElfLaws.{touched_below-above}
 use Rattle.elf_load.specs.Refusals.{has_memory, higher_end, highest_end}
 
 -- the first n marks tell how many pages below n are touched
@@ -84,24 +85,6 @@ untouched h pages page high above = by_memory (cases_lt 0 h.memory_len) where
 untouched_by_all : (hs : List Header) (pages page : ℕ) → All (λ h. 0 < h.memory_len → load_end h ≤ pages * 4096) hs → pages ≤ page → list_any (touches page) hs ≡ false
 untouched_by_all hs pages page high above = list_any_none (touches page) hs (λ k d low. untouched (get_or hs k d) pages page (high k d low) above)
 
--- behind the last end no page is touched
-pub touched_below-above : (hs : List Header) (pages n : ℕ) → All (λ h. 0 < h.memory_len → load_end h ≤ pages * 4096) hs → pages ≤ n →
-    touched_below n hs ≡ touched_below pages hs
-unfolding touched_below
-touched_below-above hs pages zero high above =
-    let none : zero ≡ pages = omega arith in
-    ap (λ (m : ℕ). touched_below m hs) none
-touched_below-above hs pages (suc n) high above = ⊎_elim
-    (λ (less : n < pages).
-    let same : suc n ≡ pages = omega arith in
-    ap (λ (m : ℕ). touched_below m hs) same)
-    (λ (more : pages ≤ n).
-    let before = touched_below-above hs pages n high more in
-    let none : ◌≡◌ {A = ℕ} (cond (list_any (touches n) hs) 1 0) 0 = ap (λ (b : Bool). cond b 1 0) (untouched_by_all hs pages n high more) in
-    let sum : touched_below n hs + cond (list_any (touches n) hs) 1 0 ≡ touched_below pages hs = omega (arith, none, before) in
-    sum)
-    (cases_lt n pages)
-
 -- the pages up to the highest end are all that count
 pub pages_to_end : (hs : List Header) (end page_len pages : ℕ) →
     end ≡ highest_end hs → end ≤ 0x70000000 → page_len ≡ 4096 → pages ≡ end / page_len + min 1 (end % page_len) →
@@ -111,4 +94,4 @@ pages_to_end hs end page_len pages highest low len is =
     let reach : end ≤ pages * 4096 = grind arith in
     let within : pages ≤ 0x70000 = grind arith in
     let high : highest_end hs ≤ pages * 4096 = omega (arith, highest, reach) in
-    (ends_within hs pages high, sym (touched_below-above hs pages 0x70000 (ends_within hs pages high) within))
+    (ends_within hs pages high, sym (touched_below-above hs pages 0x70000 (λ page above. untouched_by_all hs pages page (ends_within hs pages high) above) within))
