@@ -4,6 +4,7 @@
 //! | Asked | Finds |
 //! |---|---|
 //! | `record BYTES` | what the record tells whose text these are, or why there is none |
+//! | `refusal NAME` | the text of that refusal of reading a record |
 //! | `beginnings BYTES` | the same of each beginning of the bytes, the whole left out |
 //! | `store FILE` | what the store of a file is once it is opened, or why it is refused |
 //! | `store FILE cut FROM TO` | the same of its first bytes, from so many to so many |
@@ -20,7 +21,7 @@ mod stores;
 
 use bytes::bytes_of;
 use changes::changes_of;
-use records::{beginnings_text, record_text};
+use records::{beginnings_text, record_text, refusal_text};
 use std::alloc::Global;
 use std::process::ExitCode;
 use std::rt::Files;
@@ -44,6 +45,7 @@ fn answer<R: Files + AllocGlobal>(rt: &R, asked: &str, want: &str) -> Option<Str
     let (kind, rest) = asked.split_once(' ')?;
     match kind {
         "record" => record_text(alloc, &bytes_of(alloc, rest)?),
+        "refusal" => refusal_text(alloc, rest),
         "beginnings" => beginnings_text(alloc, &bytes_of(alloc, rest)?, want),
         "store" => store_answer(rt, rest, want),
         _ => None,

@@ -1,6 +1,6 @@
 //! Records as text.
 
-use frames::{read_record, write_record};
+use frames::{RecordFault, read_record, write_record};
 use rrv_model::machine::Permissions;
 use rrv_model::record::{
     CallRecord, CheckpointRest, End, Frame, Item, Opening, PagePart, Part, Record, ThreadPart,
@@ -127,7 +127,7 @@ fn description(alloc: Global, record: &Record) -> Result<String, AllocError> {
 pub fn record_text(alloc: Global, bytes: &[u8]) -> Option<String> {
     let (record, rest) = match read_record(alloc, bytes) {
         Ok(found) => found,
-        Err(fault) => return format!(in alloc; "{fault:?}").ok(),
+        Err(fault) => return format!(in alloc; "{fault}").ok(),
     };
     if !rest.is_empty() {
         return format!(in alloc; "a record, and other bytes").ok();
@@ -139,6 +139,18 @@ pub fn record_text(alloc: Global, bytes: &[u8]) -> Option<String> {
         return format!(in alloc; "a record that is written otherwise").ok();
     }
     description(alloc, &record).ok()
+}
+
+/// The text of a refusal of reading. None where none has that name.
+pub fn refusal_text(alloc: Global, name: &str) -> Option<String> {
+    let fault = match name {
+        "Short" => RecordFault::Short,
+        "BadKind" => RecordFault::BadKind,
+        "BadPayload" => RecordFault::BadPayload,
+        "Memory" => RecordFault::Memory,
+        _ => return None,
+    };
+    format!(in alloc; "{fault}").ok()
 }
 
 /// What is wanted where `record_text` finds it of each beginning of the bytes that isn't all of them; else what it finds first.
