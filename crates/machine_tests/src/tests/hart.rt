@@ -20,20 +20,37 @@ const ALL: Permissions = Permissions {
     execute: true,
 };
 
-/// The registers at the first instruction, with these in a0 to a3 and all others 0.
+/// Puts a word into a register that isn't x0.
+fn put(regs: &mut Regs, number: usize, word: u32)
+    requires { AreRegs regs.old }
+    ensures { AreRegs regs.new }
+{
+    if number != 0 && number < 32 {
+        regs.registers[number] = word;
+    }
+}
+
+/// The registers at the first instruction, all of them 0.
+fn regs_at(pc: u32) -> Regs
+    ensures { AreRegs result }
+{
+    Regs {
+        pc,
+        registers: [0; 32],
+    }
+}
+
+/// The registers at the first instruction, with these in a0 to a3.
 fn regs_with(arguments: [u32; 4]) -> Regs
     ensures { AreRegs result }
 {
-    let mut registers = [0; 32];
     let [a0, a1, a2, a3] = arguments;
-    registers[10] = a0;
-    registers[11] = a1;
-    registers[12] = a2;
-    registers[13] = a3;
-    Regs {
-        pc: CODE,
-        registers,
-    }
+    let mut regs = regs_at(CODE);
+    put(&mut regs, 10, a0);
+    put(&mut regs, 11, a1);
+    put(&mut regs, 12, a2);
+    put(&mut regs, 13, a3);
+    regs
 }
 
 /// A memory of three instructions, and a word of data.
