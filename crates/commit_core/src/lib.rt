@@ -12,7 +12,7 @@ ghost use Rattle.rrv_model.specs.StoreText.{IsStore};
 ghost use Rattle.commit_core.specs.World.{World, IsStart, IsAtRest, closed_store};
 ghost use Rattle.commit_core.specs.Events.{Event, IsSchedule, run};
 ghost use Rattle.commit_core.specs.Facts.{Facts, Recovers};
-ghost use Rattle.commit_core.specs.Sessions.{Session, AreSessions, AreGrowing, CanOpen, fresh_disk, opened_disk, reports};
+ghost use Rattle.commit_core.specs.Sessions.{Session, AreSessions, AreGrowing, CanOpen, fresh_disk, opened_disk};
 ghost use Rattle.commit_core.specs.Headline.{AreKept, IsSafeThroughout};
 ghost use Rattle.commit_core.specs.FailedCalls.{IsFailedCall, IsLastCall};
 ghost use Rattle.commit_core.specs.Example.{GateMayTear, example_start, two_sessions, up_to_gate, up_to_release};
@@ -39,7 +39,7 @@ pub fn safe_always()
 /// where sessions between them were stopped before they reported.
 pub fn sessions_always()
     ensures grows { (content : List ℕ) (sessions : List Session) (end : DiskState) → CanOpen content
-        → AreSessions (fresh_disk content) sessions end → AreGrowing (reports sessions) }
+        → AreSessions (fresh_disk content) sessions end → AreGrowing sessions end }
     ensures opens { (content : List ℕ) (sessions : List Session) (end : DiskState) (left : List ℕ) → CanOpen content
         → AreSessions (fresh_disk content) sessions end → IsCrash end.pending left → CanOpen left }
     ensures reads { (content : List ℕ) (sessions : List Session) (end : DiskState) → CanOpen content
