@@ -141,27 +141,27 @@ module _ (w : World) (old : List Record) where
       )
 
   -- another session with this world finds it
-  module _ (since : List World) (next : World) (known : List Record) (bodies : List (List ℕ)) (behind : LeftBehind next known bodies) (keeps : KeepsSession w old since next.bodies) where
+  module _ (since : List World) (other : World) (known : List Record) (bodies : List (List ℕ)) (behind : LeftBehind other known bodies) (keeps : KeepsSession w old since other.bodies) where
     known_is : keeps.records ≡ known
-    known_is = one_recovery next.bodies keeps.records known keeps.recovered behind.before
+    known_is = one_recovery other.bodies keeps.records known keeps.recovered behind.before
 
     -- of lower numbers it leaves what it found
-    stays_below : (number : ℕ) → number < next.first_guest → of_guest number behind.from.records ≡ of_guest number keeps.records
+    stays_below : (number : ℕ) → number < other.first_guest → of_guest number behind.from.records ≡ of_guest number keeps.records
     stays_below number low = behind.from.kept number low ∙ ap (of_guest number) (sym known_is)
 
     -- and of others nothing was found
-    none_found : (number : ℕ) → next.first_guest ≤ number → of_guest number keeps.records ≡ []
+    none_found : (number : ℕ) → other.first_guest ≤ number → of_guest number keeps.records ≡ []
     none_found number high = ap (of_guest number) known_is ∙ none_higher number (next_guest known) known (all_below known) (omega (arith, high, behind.next))
 
-    has_output : (number : ℕ) → next.first_guest ≤ number → IsOutput [] (of_guest number behind.from.records)
+    has_output : (number : ℕ) → other.first_guest ≤ number → IsOutput [] (of_guest number behind.from.records)
     has_output number high = ⊎_elim
         (λ low.
-        let g = number - next.first_guest in
-        let is : next.first_guest + g ≡ number = omega (arith, high) in
-        nothing_of (next.recorders g).out (of_guest number behind.from.records)
-        (subst (λ (n : ℕ). IsOutput (next.recorders g).out (of_guest n behind.from.records)) is (behind.from.output g (omega (arith, low, high)))))
+        let g = number - other.first_guest in
+        let is : other.first_guest + g ≡ number = omega (arith, high) in
+        nothing_of (other.recorders g).out (of_guest number behind.from.records)
+        (subst (λ (n : ℕ). IsOutput (other.recorders g).out (of_guest n behind.from.records)) is (behind.from.output g (omega (arith, low, high)))))
         (λ above. subst (λ (l : List Record). IsOutput [] l) (sym (behind.from.none_above number above)) nothing_put)
-        (less_or_more number (next.first_guest + next.guests))
+        (less_or_more number (other.first_guest + other.guests))
 
     seen_stays : (seen : List Record) (number : ℕ) → IsBeginning seen (of_guest number keeps.records) → IsBeginning seen (of_guest number behind.from.records)
     seen_stays seen number begins = ⊎_elim
@@ -169,7 +169,7 @@ module _ (w : World) (old : List Record) where
         (λ high.
         let none : seen ≡ [] = begins_nothing seen (subst (λ (l : List Record). IsBeginning seen l) (none_found number high) begins) in
         (of_guest number behind.from.records, ap (λ (l : List Record). l ++ of_guest number behind.from.records) none))
-        (less_or_more number next.first_guest)
+        (less_or_more number other.first_guest)
 
     output_stays : (out : List (ℕ × ℕ)) (number : ℕ) → IsOutput out (of_guest number keeps.records) → IsOutput out (of_guest number behind.from.records)
     output_stays out number has = ⊎_elim
@@ -177,15 +177,15 @@ module _ (w : World) (old : List Record) where
         (λ high.
         let none : out ≡ [] = nothing_left out (subst (λ (l : List Record). IsOutput out l) (none_found number high) has) in
         subst (λ (o : List (ℕ × ℕ)). IsOutput o (of_guest number behind.from.records)) (sym none) (has_output number high))
-        (less_or_more number next.first_guest)
+        (less_or_more number other.first_guest)
 
-    kept_on : KeepsSession w old (since ++ next ∷ []) bodies
+    kept_on : KeepsSession w old (since ++ other ∷ []) bodies
     kept_on =
-        let rise = numbers_rise keeps.left keeps.from.records keeps.from.recovered since next known bodies behind keeps.grows in
+        let rise = numbers_rise keeps.left keeps.from.records keeps.from.recovered since other known bodies behind keeps.grows in
         record {
           left = keeps.left;
           from = keeps.from;
-          grows = growth_stays keeps.left keeps.from.records keeps.from.recovered since next known bodies behind keeps.grows;
+          grows = growth_stays keeps.left keeps.from.records keeps.from.recovered since other known bodies behind keeps.grows;
           records = behind.from.records;
           recovered = behind.from.recovered;
           same = λ number low. stays_below number (omega (arith, low, rise)) ∙ keeps.same number low;
@@ -194,7 +194,7 @@ module _ (w : World) (old : List Record) where
         }
 
   session_stays : Stays (KeepsSession w old)
-  session_stays since next known bodies behind keeps = kept_on since next known bodies behind keeps
+  session_stays since other known bodies behind keeps = kept_on since other known bodies behind keeps
 
 -- ---- what can be opened
 
