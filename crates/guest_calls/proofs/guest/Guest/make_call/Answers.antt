@@ -1,5 +1,5 @@
 -- A call comes to what its row makes, whether it asks or not.
-use Rattle.std.proofs.Common.{◌≡◌, ℕ, List, Result, Ok, Err, subst}
+use Rattle.std.proofs.Common.{ℕ, Result, sym, subst}
 use Rattle.rrv_model.specs.declared.machine.Thread.{Thread}
 use Rattle.rrv_model.specs.declared.record.CallRecord.{CallRecord}
 use Rattle.rrv_model.specs.declared.refusal.Memory.{Memory as Refusal}
@@ -8,7 +8,7 @@ use Rattle.rrv_model.specs.CallRows.{row_of}
 use Rattle.rrv_model.specs.Calls.{Answer}
 use Rattle.rrv_model.specs.Output.{puts}
 use Rattle.guest_calls.specs.Guest.{GuestValue, state_of}
-use Rattle.guest_calls.specs.Asking.{Question}
+use Rattle.guest_calls.specs.Asking.{Asks, Question}
 use Rattle.guest_calls.specs.Carries.{ComesTo}
 use Rattle.guest_calls.specs.Growth.{MayGrow}
 use Rattle.guest_calls.proofs.Inquiries.{alike, quiet}
@@ -24,7 +24,7 @@ returns-in-Some g c =
     let t = c.args.thread.now in
     let asked = c.in-Some.ensures in
     subst (CallComesTo g.O.Outside.gives c.args.tid t c.args.self.now c.ask.result c.ask.new.self c.args.outside.now c.ask.new.outside) c.syscall_of-call.ensures
-    (alike c.ask.result (asked.row c.args.tid s) (asked.puts s.memory) (asked.grows c.args.tid s) (c.ask.ensures t asked.clock))
+    (alike c.ask.result (asked.row c.args.tid s) (asked.puts s.memory) (λ asks. asked.grows c.args.tid s (subst Asks (sym (asked.row c.args.tid s)) asks)) (c.ask.ensures t asked.clock))
 
 pub returns-in-None : goal.returns-in-None
 returns-in-None g c =
