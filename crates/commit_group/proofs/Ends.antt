@@ -1,5 +1,5 @@
 -- Lists of seats.
-use Rattle.std.proofs.Common.{◌≡◌, ◌⊎◌, ℕ, zero, suc, ◌+◌, ◌<◌, ◌≤◌, Bool, List, [], ◌∷◌, ◌++◌, length, Option, Some, None, true, false, refl, sym, ap, ◌∙◌, subst, inl, inr, ⊎_elim, arith, take, set, append_assoc, length-append}
+use Rattle.std.proofs.Common.{◌≡◌, ◌≢◌, ◌⊎◌, ℕ, zero, suc, ◌+◌, ◌<◌, ◌≤◌, Bool, List, [], ◌∷◌, ◌++◌, length, Option, Some, None, true, false, refl, sym, ap, ◌∙◌, subst, inl, inr, ⊎_elim, arith, take, set, append_assoc, length-append}
 use mathlib.Core.Logic.{dite}
 use native.Mathlib.Decide.{ℕ_discrete, dec_le}
 use Rattle.std.proofs.lemmas.List.{get_or-set_same, get_or-set_other, get_or_past, map-append, take-map, take_at, length-map}
@@ -45,10 +45,10 @@ ended f received known sent committed seen r parts count told same_told same_hal
     let done = of_guest (b + g) f.committed in
     let later = of_guest (b + g) f.waiting ++ renumbered b (of_guest g h.sent.0) in
     let received_is : renumbered b (of_guest g received) ≡ done ++ of_guest (b + g) f.waiting =
-      sym (of_renumbered b g received) ∙ ap (of_guest (b + g)) (sym parts) ∙ of_guest-append (b + g) f.committed f.waiting in
+    sym (of_renumbered b g received) ∙ ap (of_guest (b + g)) (sym parts) ∙ of_guest-append (b + g) f.committed f.waiting in
     let all : renumbered b r.sent ≡ done ++ later =
-      ap (renumbered b) h.sent.1 ∙ map-append (numbered b) (of_guest g received) (of_guest g h.sent.0)
-      ∙ ap (λ (l : List Record). l ++ renumbered b (of_guest g h.sent.0)) received_is ∙ append_assoc done (of_guest (b + g) f.waiting) (renumbered b (of_guest g h.sent.0)) in
+    ap (renumbered b) h.sent.1 ∙ map-append (numbered b) (of_guest g received) (of_guest g h.sent.0)
+    ∙ ap (λ (l : List Record). l ++ renumbered b (of_guest g h.sent.0)) received_is ∙ append_assoc done (of_guest (b + g) f.waiting) (renumbered b (of_guest g h.sent.0)) in
     let size : length r.sent ≡ length done + length later = sym (length-map r.sent (numbered b)) ∙ ap length all ∙ length-append done later in
     let saw : r.seen ≤ slice_index f.told r.guest = subst (λ (l : List ℕ). r.seen ≤ slice_index l r.guest) same_told h.seen in
     record {
@@ -85,16 +85,16 @@ pub taken_more : (all xs rest tail : List RecorderValue) (x : RecorderValue) (re
     → (k : ℕ) (r : RecorderValue) → length xs ≤ k → slice_get all k ≡ Some r → IsTakenIn received known (slice_index (set sent i count) k) (slice_index (set seen i saw) k) r
 taken_more all xs rest tail x received known sent seen i count saw parts last at fits_sent fits_seen mine old k r le e =
     dite (ℕ_discrete k (length xs))
-      (λ here.
-        let same : x ≡ r = same_in_some x r (sym (last_place all xs rest tail x parts last) ∙ ap (λ (q : ℕ). slice_get all q) (sym here) ∙ e) in
-        let at_sent : count ≡ slice_index (set sent i count) k = sym (ap (λ (q : ℕ × ℕ). slice_index (set sent q.0 count) q.1) (λ z. (at z, here z)) ∙ get_or-set_same sent (length xs) count 0 fits_sent) in
-        let at_seen : saw ≡ slice_index (set seen i saw) k = sym (ap (λ (q : ℕ × ℕ). slice_index (set seen q.0 saw) q.1) (λ z. (at z, here z)) ∙ get_or-set_same seen (length xs) saw 0 fits_seen) in
-        subst (λ (y : ℕ × ℕ × RecorderValue). IsTakenIn received known y.0 y.1 y.2) (λ z. (at_sent z, at_seen z, same z)) mine)
-      (λ ne.
-        let size : length rest ≡ length xs + 1 = ap length last ∙ length-append xs (x ∷ []) in
-        let at_sent : slice_index sent k ≡ slice_index (set sent i count) k = sym (ap (λ (q : ℕ). slice_index (set sent q count) k) at ∙ get_or-set_other sent (length xs) k count 0 ne) in
-        let at_seen : slice_index seen k ≡ slice_index (set seen i saw) k = sym (ap (λ (q : ℕ). slice_index (set seen q saw) k) at ∙ get_or-set_other seen (length xs) k saw 0 ne) in
-        subst (λ (y : ℕ × ℕ). IsTakenIn received known y.0 y.1 r) (λ z. (at_sent z, at_seen z)) (old k r (omega arith) e))
+    (λ here.
+    let same : x ≡ r = same_in_some x r (sym (last_place all xs rest tail x parts last) ∙ ap (λ (q : ℕ). slice_get all q) (sym here) ∙ e) in
+    let at_sent : count ≡ slice_index (set sent i count) k = sym (ap (λ (q : ℕ × ℕ). slice_index (set sent q.0 count) q.1) (λ z. (at z, here z)) ∙ get_or-set_same sent (length xs) count 0 fits_sent) in
+    let at_seen : saw ≡ slice_index (set seen i saw) k = sym (ap (λ (q : ℕ × ℕ). slice_index (set seen q.0 saw) q.1) (λ z. (at z, here z)) ∙ get_or-set_same seen (length xs) saw 0 fits_seen) in
+    subst (λ (y : ℕ × ℕ × RecorderValue). IsTakenIn received known y.0 y.1 y.2) (λ z. (at_sent z, at_seen z, same z)) mine)
+    (λ ne.
+    let size : length rest ≡ length xs + 1 = ap length last ∙ length-append xs (x ∷ []) in
+    let at_sent : slice_index sent k ≡ slice_index (set sent i count) k = sym (ap (λ (q : ℕ). slice_index (set sent q count) k) at ∙ get_or-set_other sent (length xs) k count 0 ne) in
+    let at_seen : slice_index seen k ≡ slice_index (set seen i saw) k = sym (ap (λ (q : ℕ). slice_index (set seen q saw) k) at ∙ get_or-set_other seen (length xs) k saw 0 ne) in
+    subst (λ (y : ℕ × ℕ). IsTakenIn received known y.0 y.1 r) (λ z. (at_sent z, at_seen z)) (old k r (omega arith) e))
 
 -- what was taken in by a flusher that had received and told the same
 pub same_joined : (pass pass' : Pass Record QueueView) (seat seat' : Seat ℕ WordView) (r : RecorderValue) → KnowSame pass pass' seat seat'
@@ -112,10 +112,10 @@ pub counts_past : (group : Group) (pass : Pass Record QueueView) (seat : Seat �
 counts_past group pass seat waiting counts first halted keeps size k past = dite (dec_le 16 k)
     (λ above. get_or_past counts k 0 (omega arith))
     (λ below.
-      let done = finished first pass waiting in
-      let whole : of_guest (base first + k) (done ++ waiting) ≡ [] =
-        ap (of_guest (base first + k)) keeps.parts ∙ of_renumbered (base first) k (received_of (view pass)) ∙ ap (renumbered (base first)) (keeps.none_above k past) in
-      let split : of_guest (base first + k) done ++ of_guest (base first + k) waiting ≡ [] = sym (of_guest-append (base first + k) done waiting) ∙ whole in
-      let sum : length (of_guest (base first + k) done) + length (of_guest (base first + k) waiting) ≡ 0 = sym (length-append (of_guest (base first + k) done) (of_guest (base first + k) waiting)) ∙ ap length split in
-      let count = keeps.counted k (omega arith) in
-      omega arith)
+    let done = finished first pass waiting in
+    let whole : of_guest (base first + k) (done ++ waiting) ≡ [] =
+    ap (of_guest (base first + k)) keeps.parts ∙ of_renumbered (base first) k (received_of (view pass)) ∙ ap (renumbered (base first)) (keeps.none_above k past) in
+    let split : of_guest (base first + k) done ++ of_guest (base first + k) waiting ≡ [] = sym (of_guest-append (base first + k) done waiting) ∙ whole in
+    let sum : length (of_guest (base first + k) done) + length (of_guest (base first + k) waiting) ≡ 0 = sym (length-append (of_guest (base first + k) done) (of_guest (base first + k) waiting)) ∙ ap length split in
+    let count = keeps.counted k (omega arith) in
+    omega arith)

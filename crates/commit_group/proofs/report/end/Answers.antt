@@ -1,4 +1,4 @@
-use Rattle.std.proofs.Common.{◌≡◌, ◌<◌, ◌≤◌, ◌×◌, ℕ, length, arith, refl, sym, ap, ◌∙◌, subst}
+use Rattle.std.proofs.Common.{◌≡◌, ◌<◌, ◌≤◌, ℕ, length, arith, refl, sym, ap, ◌∙◌, subst}
 use Rattle.std.specs.Prelude.{slice_index}
 use Rattle.std.proofs.lemmas.Option.{slice_get_within}
 use Rattle.crossbeam_queue.specs.Passes.{view}
@@ -23,13 +23,14 @@ returns-clause-each c k r e =
     let told = i.told r.guest (subst (λ (q : ℕ). q < f.group.value.guests) (sym is) here) in
     let at : slice_index f.counts r.guest ≡ slice_index f.counts k = ap (λ (q : ℕ). slice_index f.counts q) is in
     subst (λ (x : FlusherValue). HasEnded x (slice_index c.join_all.result.0 k) (slice_index f.counts k) (slice_index c.join_all.result.1 k) r) c.flusher.view_is
-      (ended _ (received_of (view f.pass)) (flusher_of f.seat.me.0) _ _ _ r i.parts (sym at ∙ count) (subst (λ (q : ℕ). slice_index (flusher_of f.seat.me.0).told r.guest ≤ q) at told)
-        refl i.halt refl (c.join_all.ensures.joined k r e))
+    (ended _ (received_of (view f.pass)) (flusher_of f.seat.me.0) _ _ _ r i.parts (sym at ∙ count) (subst (λ (q : ℕ). slice_index (flusher_of f.seat.me.0).told r.guest ≤ q) at told)
+    refl i.halt refl (c.join_all.ensures.joined k r e))
 
 pub returns-clause-zeros : goal.returns-clause-zeros
 returns-clause-zeros c k le =
     let f = c.flusher.inside in
     let guests : c.args.flusher.group.guests ≡ f.group.value.guests = ap (λ (x : FlusherValue). x.group.guests) (sym c.flusher.view_is) in
     let past : f.group.value.guests ≤ k = omega arith in
-    let z = c.join_all.ensures.zeros k past in
-    (z.0, counts_past _ _ _ _ _ _ _ c.flusher.invariant ? k past, z.1)
+    let n = c.requires.count in
+    let z = c.join_all.ensures.zeros k (omega arith) in
+    (z.0, counts_past _ _ _ _ _ _ _ c.flusher.invariant (omega arith) k past, z.1)

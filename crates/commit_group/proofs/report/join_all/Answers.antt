@@ -42,7 +42,7 @@ loop-recorder-preserved c =
       rest = (x ∷ i.rest.0, i.rest.1 ∙ ap (λ (l : List RecorderValue). l ++ i.rest.0) last ∙ append_assoc xs (x ∷ []) i.rest.0);
       sizes = (length-set c.loop-recorder.sent _ _ ∙ ls, length-set c.loop-recorder.seen _ _ ∙ ln);
       joined = taken_more all xs c.loop-recorder.recorders.items i.rest.0 x _ _ c.loop-recorder.sent c.loop-recorder.seen _ _ _ i.rest.1 last at (omega arith) (omega arith)
-        record { sent_is = j.counts.0; seen_is = j.counts.1; joined = same_joined _ _ _ _ x i.same j.joined } i.joined;
+          record { sent_is = j.counts.0; seen_is = j.counts.1; joined = same_joined _ _ _ _ x i.same j.joined } i.joined;
       zeros = λ k le. let z = i.zeros k le in (get_or-set_other c.loop-recorder.sent _ k _ 0 (omega arith) ∙ z.0, get_or-set_other c.loop-recorder.seen _ k _ 0 (omega arith) ∙ z.1);
     }
 
@@ -55,7 +55,6 @@ loop-recorder-init c = record {
   joined = λ k r le e. absurd (let w = slice_get_within c.args.recorders.items k r e in omega arith);
   zeros = λ k le. (zero k, zero k);
 }
-
   where
     zero : (k : ℕ) → slice_index (replicate 16 0) k ≡ 0
     zero k = dite (dec_le 16 k) (λ h. get_or_past (replicate 16 0) k 0 (let n : length (replicate {A = ℕ} 16 0) ≡ 16 = length-replicate {A = ℕ} 16 0 in omega arith)) (λ h. get_or-replicate 16 k 0 0 (omega arith))

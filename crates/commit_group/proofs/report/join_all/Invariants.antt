@@ -16,7 +16,7 @@ invariant-loop-recorder l = record {
   sizes : (length l.sent ≡ 16) × (length l.seen ≡ 16);
   joined : (k : ℕ) (r : RecorderValue) → length l.recorders.items ≤ k → slice_get l.fn.recorders.items k ≡ Some r
       → IsTakenIn (received_of (view l.fn.pass)) (flusher_of l.fn.seat.me.0) (slice_index l.sent k) (slice_index l.seen k) r;
-  zeros : (k : ℕ) → l.group.guests ≤ k → (slice_index l.sent k ≡ 0) × (slice_index l.seen k ≡ 0);
+  zeros : (k : ℕ) → length l.fn.recorders.items ≤ k → (slice_index l.sent k ≡ 0) × (slice_index l.seen k ≡ 0);
 }
 
 abbrev pub decreases-loop-recorder : goal.decreases-loop-recorder
