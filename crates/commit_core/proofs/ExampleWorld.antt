@@ -17,6 +17,7 @@ use Rattle.commit_core.specs.World.Stage.{Idle}
 use Rattle.commit_core.specs.Events.{Event, CanSlice, CanWrite, after, run, gate_place, next_body, IsSchedule}
 use Rattle.commit_core.specs.Events.Event.{Slice, WriteBody, Sync1, OpenGate}
 use Rattle.commit_core.specs.Example.{example_opening, example_state, example_recorder, start_on, example_start, wrote, exited, write_frame, all_three, up_to_received, up_to_gate, from_gate_on, up_to_release}
+use Rattle.commit_core.proofs.Events.{schedule-append}
 use Rattle.commit_core.proofs.ExampleGuest.{Ended, the_byte, opens, guest_ends}
 
 -- ---- texts
@@ -119,10 +120,6 @@ writes_short w count idle some few there short bodies low = record {
   store = omega (arith, low, short);
 }
 
-schedule_both : (w : World) (xs ys : List Event) → IsSchedule w xs → IsSchedule (run w xs) ys → IsSchedule w (xs ++ ys)
-schedule_both w [] ys a b = b
-schedule_both w (x ∷ xs) ys a b = (a.0, schedule_both (after w x) xs ys a.1 b)
-
 module _ (guest : Ended) where
   abbrev one_more : World
   one_more = after example_start (Slice 0 wrote guest.written)
@@ -185,7 +182,7 @@ module _ (guest : Ended) where
 
   -- the records are received, and then this happens
   pub then_schedule : (events : List Event) → IsSchedule all_received events → IsSchedule example_start (up_to_received guest.written guest.ended ++ events)
-  then_schedule events schedule = schedule_both example_start (up_to_received guest.written guest.ended) events received_schedule schedule
+  then_schedule events schedule = schedule-append example_start (up_to_received guest.written guest.ended) events received_schedule schedule
 
   pub gate_schedule : IsSchedule example_start (up_to_gate guest.written guest.ended)
   gate_schedule = then_schedule (WriteBody 3 ∷ Sync1 ∷ OpenGate ∷ []) (can_commit, (refl, (refl, tt)))
@@ -202,7 +199,7 @@ module _ (guest : Ended) where
   )
 
   pub release_schedule : IsSchedule example_start (up_to_release guest.written guest.ended)
-  release_schedule = schedule_both example_start (up_to_gate guest.written guest.ended) from_gate_on gate_schedule (
+  release_schedule = schedule-append example_start (up_to_gate guest.written guest.ended) from_gate_on gate_schedule (
     refl,
     (omega arith, (omega arith, ((omega arith, byte_put), (tt, (omega arith, (omega arith, (omega arith, tt))))))),
   )

@@ -1,4 +1,5 @@
-mod Lists
+pub mod Lists
+pub mod Events
 mod Runs
 mod Stages
 mod Invariant

@@ -1,8 +1,9 @@
 -- What recovery gives.
 use Rattle.std.proofs.Common.{◌≡◌, ◌≢◌, ◌⊎◌, inl, inr, ⊎_elim, ℕ, suc, ◌+◌, ◌-◌, ◌<◌, ◌≤◌, List, [], ◌∷◌, ◌++◌, length, map, take, drop, refl, ap, arith, sym, subst, ◌∙◌, append_assoc, length-append, take-append-drop}
 use Rattle.std.specs.Prelude.{◌↔◌, Option, Some, slice_get, IsSomeAnd}
-use Rattle.std.specs.List.{AllByRecursion}
-use Rattle.std.proofs.lemmas.List.{append-nil, map-append, take-append-le}
+use Rattle.std.specs.List.{AllByRecursion, Any}
+use Rattle.std.proofs.lemmas.List.{map-append, take-append-le}
+use Rattle.std.proofs.lemmas.List.Quantifiers.{Any-push}
 use Rattle.rrv_model.specs.declared.record.Item.{Item}
 use Rattle.rrv_model.specs.declared.record.Record.{Record}
 use Rattle.rrv_model.specs.State.{State}
@@ -14,10 +15,10 @@ use Rattle.rrv_model.proofs.RunLaws.{one_end_state}
 use Rattle.commit_core.specs.Runs.{IsOutput, IsAt, total_of}
 use Rattle.commit_core.specs.World.{World, made, committed_count, stored_bodies, joined}
 use Rattle.commit_core.specs.Facts.{Replays, RecoversFrom, Recovers, IsRun}
-use Rattle.commit_core.specs.Sessions.{Gives, GrowsTo, IsStoreOf}
+use Rattle.commit_core.specs.Sessions.{Gives, HasSent, AreSentIn, GrowsTo, IsStoreOf}
 use Rattle.rrv_model.proofs.Lists.{AllByRecursion-append, AllByRecursion-front, AllByRecursion-back, AllByRecursion-weaker}
 use Rattle.rrv_model.proofs.RecoveredLaws.{of_guest-append, numbered_front}
-use Rattle.commit_core.proofs.Lists.{none_of_guest, joined-append, joined-push}
+use Rattle.commit_core.proofs.Lists.{none_lower, none_higher, of_guest-front, of_guest-back, joined-append, joined-push}
 use Rattle.commit_core.proofs.Runs.{output_further, recording_front, there_is, below_total, at_total_is_end, items_of-append}
 use Rattle.commit_core.proofs.Invariant.{total, IsOwn, Invariant}
 use Rattle.commit_core.proofs.Stages.{Outcome, some_records, outcome_at, sound_outcome, closed_sound, outcome_store_of}
@@ -25,11 +26,11 @@ use Rattle.commit_core.proofs.Stages.{Outcome, some_records, outcome_at, sound_o
 -- ---- numbers of guests
 
 -- each record's guest is below the next one's number
-all_below : (records : List Record) → AllByRecursion (λ (r : Record). r.guest < next_guest records) records
+pub all_below : (records : List Record) → AllByRecursion (λ (r : Record). r.guest < next_guest records) records
 all_below [] = tt
 all_below (r ∷ records) = (omega arith, AllByRecursion-weaker (λ q. q.guest < next_guest records) (λ q. q.guest < next_guest (r ∷ records)) records (λ q l. omega (arith, l)) (all_below records))
 
-less_or_more : (a b : ℕ) → (a < b) ⊎ (b ≤ a)
+pub less_or_more : (a b : ℕ) → (a < b) ⊎ (b ≤ a)
 less_or_more a b = grind arith
 
 -- ---- texts of batches
@@ -90,44 +91,61 @@ replays_front (x ∷ front) rest whole number states is some run =
 
 -- ---- the bodies of before, and batches that the group finished, or had in hand
 
--- the bodies are those of before and then more with records of the group, and from them it is recovered
+-- the bodies are those of before and then more that the group sent, and from them it is recovered
 pub record LeftBehind (w : World) (old : List Record) (bodies : List (List ℕ)) : Type 0 where
+  pub before : IsRecovered w.bodies old
+  pub next : w.first_guest ≡ next_guest old
   pub from : RecoversFrom w old bodies
-  pub grows : GrowsTo (record { bodies = w.bodies; first_guest = w.first_guest }) bodies
+  pub grows : GrowsTo (record { bodies = w.bodies; first_guest = w.first_guest }) (w ∷ []) bodies
 
 module _ (w : World) (old : List Record) (invariant : Invariant w old) (batches : List (List Record)) (rest : List Record)
     (front : joined batches ++ rest ≡ total w) (bodies : List (List ℕ)) (text : bodies ≡ w.bodies ++ map body_text batches)
     (sizes : AllByRecursion IsBody (map body_text batches))
     (enough : (g : ℕ) → g < w.guests → committed_count (w.first_guest + g) w.flusher ≤ length (of_guest (w.first_guest + g) (joined batches))) where
-  gained : List Record
-  gained = joined batches
-
-  all : List Record
-  all = old ++ gained
-
   own : AllByRecursion (IsOwn w.first_guest w.guests) (joined batches)
   own = AllByRecursion-front (IsOwn w.first_guest w.guests) (joined batches) rest (subst (AllByRecursion (IsOwn w.first_guest w.guests)) (sym front) invariant.own)
+
+  own_low : AllByRecursion (λ (r : Record). w.first_guest ≤ r.guest) (joined batches)
+  own_low = AllByRecursion-weaker (IsOwn w.first_guest w.guests) (λ r. w.first_guest ≤ r.guest) (joined batches) (λ r o. o.low) own
 
   old_below : AllByRecursion (λ (r : Record). r.guest < w.first_guest) old
   old_below = subst (λ (n : ℕ). AllByRecursion (λ (r : Record). r.guest < n) old) (sym invariant.store.next) (all_below old)
 
-  split : (h : ℕ) → of_guest h (old ++ joined batches) ≡ of_guest h old ++ of_guest h (joined batches)
-  split h = of_guest-append h old (joined batches)
+  none_below : (h : ℕ) → h < w.first_guest → of_guest h (joined batches) ≡ []
+  none_below h low = none_lower h w.first_guest (joined batches) own_low low
+
+  none_over : (h : ℕ) → w.first_guest + w.guests ≤ h → of_guest h (joined batches) ≡ []
+  none_over h high = none_higher h (w.first_guest + w.guests) (joined batches)
+      (AllByRecursion-weaker (IsOwn w.first_guest w.guests) (λ r. r.guest < w.first_guest + w.guests) (joined batches) (λ r o. o.high) own) high
 
   -- of a lower number there are the records of before
   lower : (h : ℕ) → h < w.first_guest → of_guest h (old ++ joined batches) ≡ of_guest h old
-  lower h l = split h
-      ∙ ap (λ (r : List Record). of_guest h old ++ r) (none_of_guest h (joined batches) (AllByRecursion-weaker (IsOwn w.first_guest w.guests) (λ r. r.guest ≢ h) (joined batches) (λ r o e. omega (arith, o.low, e, l)) own))
-      ∙ append-nil (of_guest h old)
+  lower h low = of_guest-front h old (joined batches) (none_below h low)
 
   -- of a number of the group or above those of the group alone
   upper : (h : ℕ) → w.first_guest ≤ h → of_guest h (old ++ joined batches) ≡ of_guest h (joined batches)
-  upper h l = split h
-      ∙ ap (λ (r : List Record). r ++ of_guest h (joined batches)) (none_of_guest h old (AllByRecursion-weaker (λ r. r.guest < w.first_guest) (λ r. r.guest ≢ h) old (λ r b e. omega (arith, b, e, l)) old_below))
+  upper h high = of_guest-back h old (joined batches) (none_higher h w.first_guest old old_below high)
 
   -- which are a beginning of what its recorder sent
   sent_is : (g : ℕ) → g < w.guests → of_guest (w.first_guest + g) (joined batches) ++ of_guest (w.first_guest + g) rest ≡ (w.recorders g).sent
   sent_is g l = sym (of_guest-append (w.first_guest + g) (joined batches) rest) ∙ ap (of_guest (w.first_guest + g)) front ∙ (invariant.each g l).sent
+
+  sent_first : AreSentIn (w ∷ []) (joined batches)
+  sent_first h some = ⊎_elim
+      (λ low. absurd (some (none_below h low)))
+      (λ high. ⊎_elim (ours high) (λ above. absurd (some (none_over h above))) (less_or_more h (w.first_guest + w.guests)))
+      (less_or_more h w.first_guest)
+    where
+      ours : w.first_guest ≤ h → h < w.first_guest + w.guests → Any (HasSent h (of_guest h (joined batches))) (w ∷ [])
+      ours high l =
+          let g = h - w.first_guest in
+          let is : w.first_guest + g ≡ h = omega (arith, high) in
+          Any-push (HasSent h (of_guest h (joined batches))) [] w (record {
+            g = g;
+            guest = omega (arith, l, high);
+            number_is = is;
+            sent = (of_guest h rest, subst (λ (k : ℕ). of_guest k (joined batches) ++ of_guest k rest ≡ (w.recorders g).sent) is (sent_is g (omega (arith, l, high))));
+          })
 
   made_is : (g : ℕ) → g < w.guests → of_guest (w.first_guest + g) (joined batches) ++ (of_guest (w.first_guest + g) rest ++ (w.recorders g).backlog) ≡ made (w.recorders g)
   made_is g l = sym (append_assoc (of_guest (w.first_guest + g) (joined batches)) (of_guest (w.first_guest + g) rest) (w.recorders g).backlog)
@@ -148,7 +166,7 @@ module _ (w : World) (old : List Record) (invariant : Invariant w old) (batches 
           (subst (IsNumbered (w.first_guest + g) 0) (sym (made_is g (omega (arith, l, high)))) (invariant.each g (omega (arith, l, high))).recording.run.numbered))
 
       above : w.first_guest + w.guests ≤ h → IsNumbered h 0 (of_guest h (joined batches))
-      above l = subst (IsNumbered h 0) (sym (none_of_guest h (joined batches) (AllByRecursion-weaker (IsOwn w.first_guest w.guests) (λ r. r.guest ≢ h) (joined batches) (λ r o e. omega (arith, o.high, e, l)) own))) tt
+      above l = subst (IsNumbered h 0) (sym (none_over h l)) tt
 
   pub is_recovered : IsRecovered bodies (old ++ joined batches)
   is_recovered = record {
@@ -189,7 +207,7 @@ module _ (w : World) (old : List Record) (invariant : Invariant w old) (batches 
     );
     seen = λ g l. omega (arith, seen_in g l, ap length (upper (w.first_guest + g) (omega arith)));
     output = λ g l. subst (IsOutput (w.recorders g).out) (sym (upper (w.first_guest + g) (omega arith))) (put_out g l);
-    none_above = λ h l. upper h (omega (arith, l)) ∙ none_of_guest h (joined batches) (AllByRecursion-weaker (IsOwn w.first_guest w.guests) (λ r. r.guest ≢ h) (joined batches) (λ r o e. omega (arith, o.high, e, l)) own);
+    none_above = λ h l. upper h (omega (arith, l)) ∙ none_over h l;
     kept = lower;
     replays = λ g l some.
         subst (λ (k : List Record). Replays k (made (w.recorders g)) (w.recorders g).states) (sym (upper (w.first_guest + g) (omega arith)))
@@ -200,6 +218,8 @@ module _ (w : World) (old : List Record) (invariant : Invariant w old) (batches 
   -- and these bodies are the ones of before, and then bodies of the group
   pub left_behind : LeftBehind w old bodies
   left_behind = record {
+    before = invariant.store.recovered;
+    next = invariant.store.next;
     from = recovers_from;
     grows = record {
       more = map body_text batches;
@@ -208,7 +228,8 @@ module _ (w : World) (old : List Record) (invariant : Invariant w old) (batches 
       gained = joined batches;
       reported = invariant.store.recovered;
       recovered = is_recovered;
-      later = AllByRecursion-weaker (IsOwn w.first_guest w.guests) (λ r. w.first_guest ≤ r.guest) (joined batches) (λ r o. o.low) own;
+      later = own_low;
+      sent = sent_first;
     };
   }
 

@@ -4,18 +4,14 @@ use Rattle.std.specs.List.{AllByRecursion}
 use Rattle.rrv_model.specs.declared.record.Record.{Record}
 use Rattle.rrv_model.specs.CrashModel.{DiskState}
 use Rattle.commit_core.specs.World.{World, IsStart}
-use Rattle.commit_core.specs.Events.{Event, after, run, IsSchedule}
+use Rattle.commit_core.specs.Events.{Event, run, IsSchedule}
 use Rattle.commit_core.specs.Sessions.{Session, AreSessions}
 use Rattle.commit_core.specs.Sessions.Session.{StoppedOpening, OnlyOpened, Ran}
 use Rattle.commit_core.specs.Headline.{IsSafe, IsSafeThroughout}
+use Rattle.commit_core.proofs.Events.{schedule_front}
 use Rattle.commit_core.proofs.Invariant.{Invariant}
 use Rattle.commit_core.proofs.Schedules.{invariant_at_start, invariant_of_run, facts}
 use Rattle.commit_core.proofs.Recovery.{recovers}
-
--- a beginning of a schedule is one
-schedule_front : (w : World) (front rest : List Event) → IsSchedule w (front ++ rest) → IsSchedule w front
-schedule_front w [] rest schedule = tt
-schedule_front w (e ∷ front) rest schedule = (schedule.0, schedule_front (after w e) front rest schedule.1)
 
 safe_after : (start : World) (old : List Record) (events : List Event) → IsStart start old → IsSchedule start events → IsSafe (run start events) old
 safe_after start old events is schedule =

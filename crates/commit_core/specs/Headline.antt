@@ -1,14 +1,13 @@
 -- What each session has at each of its moments, and what later ones find of it.
-use Rattle.std.specs.Prelude.{◌≡◌, ℕ, List, [], ◌∷◌, ◌++◌}
-use Rattle.std.specs.List.{AllByRecursion}
+use Rattle.std.specs.Prelude.{◌≡◌, ℕ, ◌+◌, ◌<◌, List, [], ◌∷◌, ◌++◌, take}
 use Rattle.rrv_model.specs.declared.record.Record.{Record}
 use Rattle.rrv_model.specs.CrashModel.{DiskState, IsCrash}
-use Rattle.rrv_model.specs.StoreText.{IsStore}
-use Rattle.rrv_model.specs.Recovered.{next_guest}
-use Rattle.commit_core.specs.World.{World}
+use Rattle.rrv_model.specs.Recovered.{of_guest, next_guest, IsRecovered}
+use Rattle.commit_core.specs.Runs.{IsBeginning, IsOutput}
+use Rattle.commit_core.specs.World.{World, made}
 use Rattle.commit_core.specs.Events.{Event, run}
 use Rattle.commit_core.specs.Facts.{Facts, RecoversFrom, Recovers}
-use Rattle.commit_core.specs.Sessions.{Session, Report, GrowsTo, Gives, reports}
+use Rattle.commit_core.specs.Sessions.{Session, GrowsTo, IsFoundLater}
 use Rattle.commit_core.specs.Sessions.Session.{StoppedOpening, OnlyOpened, Ran}
 
 -- ---- at each moment
@@ -28,16 +27,20 @@ IsSafeThroughout (Ran start old events) =
 
 -- ---- later
 
--- the bodies begin with some from which the session is recovered, and what follows belongs to guests of later numbers
-pub record KeepsSession (w : World) (old : List Record) (bodies : List (List ℕ)) : Type 0 where
+-- What later sessions find of one that came to this world, where sessions since then came to these.
+pub record KeepsSession (w : World) (old : List Record) (since : List World) (bodies : List (List ℕ)) : Type 0 where
+  -- the bodies begin with some from which the session is recovered, and what follows belongs to guests of later numbers
   pub left : List (List ℕ)
   pub from : RecoversFrom w old left
-  pub grows : GrowsTo (record { bodies = left; first_guest = next_guest from.records }) bodies
-
--- it is so of the bodies of each later report, and of those that a read of the last disk gives or a crash leaves on it
-pub record IsFoundLater (P : List (List ℕ) → Type 0) (later : List Report) (end : DiskState) : Type 0 where
-  pub reported : AllByRecursion (λ (report : Report). P report.bodies) later
-  pub at_end : (content : List ℕ) (bodies : List (List ℕ)) → Gives end content → IsStore content bodies → P bodies
+  pub grows : GrowsTo (record { bodies = left; first_guest = next_guest from.records }) since bodies
+  -- what is recovered from all of them: up to the greatest number of which a record was left, just what was left
+  pub records : List Record
+  pub recovered : IsRecovered bodies records
+  pub same : (number : ℕ) → number < next_guest from.records → of_guest number records ≡ of_guest number from.records
+  -- of each guest every record that was seen to be durable, and so every record of which an output byte has left
+  pub seen : (g : ℕ) → g < w.guests →
+      IsBeginning (take (w.recorders g).seen (made (w.recorders g))) (of_guest (w.first_guest + g) records)
+  pub output : (g : ℕ) → g < w.guests → IsOutput (w.recorders g).out (of_guest (w.first_guest + g) records)
 
 -- each session that ran is kept from then on
 abbrev pub AreKept : List Session → DiskState → Type 0
@@ -45,4 +48,4 @@ AreKept [] end = Unit {0}
 AreKept (StoppedOpening ∷ sessions) end = AreKept sessions end
 AreKept (OnlyOpened bodies old ∷ sessions) end = AreKept sessions end
 AreKept (Ran start old events ∷ sessions) end =
-    IsFoundLater (KeepsSession (run start events) old) (reports sessions) end × AreKept sessions end
+    IsFoundLater (KeepsSession (run start events) old) [] sessions end × AreKept sessions end

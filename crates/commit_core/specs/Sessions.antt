@@ -1,11 +1,12 @@
 -- Sessions: each opens the store, records or records nothing, and is stopped anywhere.
-use Rattle.std.specs.Prelude.{◌≡◌, ◌⊎◌, ℕ, ◌≤◌, List, [], ◌∷◌, ◌++◌, length}
-use Rattle.std.specs.List.{AllByRecursion}
+use Rattle.std.specs.Prelude.{◌≡◌, ◌≢◌, ◌⊎◌, ℕ, ◌+◌, ◌<◌, ◌≤◌, List, [], ◌∷◌, ◌++◌, length}
+use Rattle.std.specs.List.{AllByRecursion, Any}
 use Rattle.rrv_model.specs.declared.record.Record.{Record}
 use Rattle.rrv_model.specs.CrashModel.{DiskState, IsCrash, all_synced}
 use Rattle.rrv_model.specs.StoreText.{IsStore, IsNextSegment}
 use Rattle.rrv_model.specs.StoreCalls.{after_disk_calls, open_calls, IsWithin}
-use Rattle.rrv_model.specs.Recovered.{next_guest, IsRecovered}
+use Rattle.rrv_model.specs.Recovered.{of_guest, next_guest, IsRecovered}
+use Rattle.commit_core.specs.Runs.{IsBeginning}
 use Rattle.commit_core.specs.World.{World, IsStart}
 use Rattle.commit_core.specs.Events.{Event, run, IsSchedule}
 
@@ -51,22 +52,37 @@ AreSessions disk (session ∷ sessions) end =
     (stop : DiskState) × (next : DiskState)
     × IsSession disk session stop × IsStopped stop next × AreSessions next sessions end
 
--- ---- what `open` reported
+-- ---- what `open` reported, and what is found later
 
 -- the bodies, and the number that the next guest behind them has
 pub record Report : Type 0 where
   pub bodies : List (List ℕ)
   pub first_guest : ℕ
 
-abbrev pub reports : List Session → List Report
-reports [] = []
-reports (StoppedOpening ∷ sessions) = reports sessions
-reports (OnlyOpened bodies old ∷ sessions) = record { bodies = bodies; first_guest = next_guest old } ∷ reports sessions
-reports (Ran start old events ∷ sessions) =
-    record { bodies = start.bodies; first_guest = start.first_guest } ∷ reports sessions
+-- It is so of the bodies of each later report, and of those that a read of the last disk gives or a crash leaves on it;
+-- each time with the worlds to which sessions since then came, in their order, the given ones first.
+abbrev pub IsFoundLater : (List World → List (List ℕ) → Type 0) → List World → List Session → DiskState → Type 0
+IsFoundLater P since [] end =
+    (content : List ℕ) (bodies : List (List ℕ)) → Gives end content → IsStore content bodies → P since bodies
+IsFoundLater P since (StoppedOpening ∷ later) end = IsFoundLater P since later end
+IsFoundLater P since (OnlyOpened bodies old ∷ later) end = P since bodies × IsFoundLater P since later end
+IsFoundLater P since (Ran start old events ∷ later) end =
+    P since start.bodies × IsFoundLater P (since ++ run start events ∷ []) later end
+
+-- in this world the guest with this number has sent these records first
+pub record HasSent (number : ℕ) (records : List Record) (w : World) : Type 0 where
+  pub g : ℕ
+  pub guest : g < w.guests
+  pub number_is : w.first_guest + g ≡ number
+  pub sent : IsBeginning records (w.recorders g).sent
+
+-- the records of each number are the first that one guest sent, in a world where it had this number
+abbrev pub AreSentIn : List World → List Record → Type 0
+AreSentIn worlds records =
+    (number : ℕ) → of_guest number records ≢ [] → Any (HasSent number (of_guest number records)) worlds
 
 -- what is recovered from the bodies is that of the report, and then records of guests of its number or later ones
-pub record GrowsTo (report : Report) (bodies : List (List ℕ)) : Type 0 where
+pub record GrowsTo (report : Report) (since : List World) (bodies : List (List ℕ)) : Type 0 where
   pub more : List (List ℕ)
   pub bodies_are : bodies ≡ report.bodies ++ more
   pub before : List Record
@@ -74,12 +90,19 @@ pub record GrowsTo (report : Report) (bodies : List (List ℕ)) : Type 0 where
   pub reported : IsRecovered report.bodies before
   pub recovered : IsRecovered bodies (before ++ gained)
   pub later : AllByRecursion (λ (r : Record). report.first_guest ≤ r.guest) gained
+  -- all of them were sent since then: a body that was there and wasn't reported does not come back
+  pub sent : AreSentIn since gained
 
--- each report grows to each later one
-abbrev pub AreGrowing : List Report → Type 0
-AreGrowing [] = Unit {0}
-AreGrowing (report ∷ reports) =
-    AllByRecursion (λ (later : Report). GrowsTo report later.bodies) reports × AreGrowing reports
+-- what each report has is found later
+abbrev pub AreGrowing : List Session → DiskState → Type 0
+AreGrowing [] end = Unit {0}
+AreGrowing (StoppedOpening ∷ sessions) end = AreGrowing sessions end
+AreGrowing (OnlyOpened bodies old ∷ sessions) end =
+    IsFoundLater (GrowsTo (record { bodies = bodies; first_guest = next_guest old })) [] sessions end
+    × AreGrowing sessions end
+AreGrowing (Ran start old events ∷ sessions) end =
+    let report : Report = record { bodies = start.bodies; first_guest = start.first_guest } in
+    IsFoundLater (GrowsTo report) (run start events ∷ []) sessions end × AreGrowing sessions end
 
 -- ---- what can be opened
 

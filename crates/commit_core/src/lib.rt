@@ -12,7 +12,7 @@ ghost use Rattle.rrv_model.specs.StoreText.{IsStore};
 ghost use Rattle.commit_core.specs.World.{World, IsStart, IsAtRest, closed_store};
 ghost use Rattle.commit_core.specs.Events.{Event, IsSchedule, run};
 ghost use Rattle.commit_core.specs.Facts.{Facts, Recovers};
-ghost use Rattle.commit_core.specs.Sessions.{Session, AreSessions, AreGrowing, CanOpen, fresh_disk, opened_disk, reports};
+ghost use Rattle.commit_core.specs.Sessions.{Session, AreSessions, AreGrowing, CanOpen, fresh_disk, opened_disk};
 ghost use Rattle.commit_core.specs.Headline.{AreKept, IsSafeThroughout};
 ghost use Rattle.commit_core.specs.FailedCalls.{IsFailedCall, IsLastCall};
 ghost use Rattle.commit_core.specs.Example.{GateMayTear, example_start, two_sessions, up_to_gate, up_to_release};
@@ -31,15 +31,16 @@ pub fn safe_always()
         → Recovers (run start events) old content }
 {}
 
-/// Over any list of sessions, each of which opens the store, records or records nothing, and is stopped anywhere: what one `open`
-/// reported is a beginning of what each later one reports, and what follows belongs to guests of that session or later ones. What
-/// every crash leaves, and what a read gives, can be opened again. Once `open` has made its calls the store is at rest with its
-/// bodies. Of each session that ran, from what its `open` reported, what `safe_always` says is true at each of its moments. And what
-/// it recovered to when it was stopped is kept: each later report begins with it, and so does what the disk holds at the end, also
-/// where sessions between them were stopped before they reported.
+/// Over any list of sessions, each of which opens the store, records or records nothing, and is stopped anywhere, also within `open`,
+/// with the machine or alone. What one `open` reported is a beginning of what each later one reports, and of what the disk holds at the
+/// end. What follows belongs to guests of later numbers, and sessions since then sent it: a body that was there and was not reported
+/// does not come back. Of each session that ran, from what its `open` reported, what `safe_always` says is true at each of its moments.
+/// And each later report, and the disk at the end, has every record of it of which an output byte has left, and under each number up to
+/// the greatest of which a record was left just what was left. What every crash leaves, and what a read gives, can be opened again. Once
+/// `open` has made its calls the store is at rest with its bodies.
 pub fn sessions_always()
     ensures grows { (content : List ℕ) (sessions : List Session) (end : DiskState) → CanOpen content
-        → AreSessions (fresh_disk content) sessions end → AreGrowing (reports sessions) }
+        → AreSessions (fresh_disk content) sessions end → AreGrowing sessions end }
     ensures opens { (content : List ℕ) (sessions : List Session) (end : DiskState) (left : List ℕ) → CanOpen content
         → AreSessions (fresh_disk content) sessions end → IsCrash end.pending left → CanOpen left }
     ensures reads { (content : List ℕ) (sessions : List Session) (end : DiskState) → CanOpen content

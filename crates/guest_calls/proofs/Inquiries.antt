@@ -1,24 +1,25 @@
 -- Calls that ask the outside, and calls that don't.
-use Rattle.std.proofs.Common.{◌≡◌, ◌≢◌, ℕ, ◌+◌, ◌-◌, ◌<◌, ◌≤◌, ◌^◌, true, false, min, List, [], ◌∷◌, length, All, Result, Ok, Err, IfOk, OnErr, is_some, refl, sym, ◌∙◌, ap, subst, arith}
+use Rattle.std.proofs.Common.{◌≡◌, ◌≢◌, ℕ, ◌+◌, ◌-◌, ◌<◌, ◌≤◌, ◌^◌, true, false, List, [], ◌∷◌, length, All, Result, Ok, Err, IfOk, OnErr, is_some, refl, sym, ◌∙◌, ap, subst, arith}
 use Rattle.std.proofs.lemmas.Bool.Decides.{nat_tests}
 use Rattle.rrv_model.specs.declared.machine.Thread.{Thread}
 use Rattle.rrv_model.specs.declared.record.CallRecord.{CallRecord}
 use Rattle.rrv_model.specs.declared.refusal.Memory.{Memory as Refusal}
-use Rattle.rrv_model.specs.declared.syscall.Syscall.{Syscall}
 use Rattle.rrv_model.specs.Memory.{Memory, stored, writable}
 use Rattle.rrv_model.specs.State.{State}
-use Rattle.rrv_model.specs.CallRows.{Row, Returns, NoResult, AsksInput, AsksRandom, AsksTime, argument, fails, only_returns, range, row_of, transfer, with_memory}
-use Rattle.rrv_model.specs.CallRows.{read_row, getrandom_row, clock_gettime_row}
+use Rattle.rrv_model.specs.CallRows.{Row, Returns, NoResult, AsksInput, AsksRandom, AsksTime, fails, only_returns, range, with_memory}
 use Rattle.rrv_model.specs.Calls.{Answer, Silence, Bytes, Time, HasRecord, after_call, results, write_all, writes}
 use Rattle.rrv_model.specs.RecordText.{HasCallText}
-use Rattle.rrv_model.specs.Output.{Chunk, puts}
+use Rattle.rrv_model.specs.Output.{Chunk}
 use Rattle.guest_pages.specs.Space.{SpaceValue, CanFill, memory_of, snapshots_of}
 use Rattle.guest_pages.proofs.Cells.{all_pass, one_of_all}
 use Rattle.guest_pages.proofs.Stores.{stored_none}
 use Rattle.guest_calls.specs.Guest.{GuestValue, chunks_of, state_of}
-use Rattle.guest_calls.specs.Asking.{Question, Input, Random, IsAnswered, TellsMoment}
+use Rattle.guest_calls.specs.declared.request.Request.{Request}
+use Rattle.guest_calls.specs.declared.request.Wanted.{Wanted}
+use Rattle.guest_calls.specs.declared.request.Wanted.TheVariants as wants
+use Rattle.guest_calls.specs.Asking.{Asks, Clock, IsAnswered, Question}
 use Rattle.guest_calls.specs.Carries.{ComesTo, KeepsRest, Makes}
-use Rattle.guest_calls.specs.Growth.{MayGrow}
+use Rattle.guest_calls.specs.Requests.{IsClockOf, Takes, asking_row, request_row}
 
 -- ---- what a call comes to
 
@@ -45,59 +46,81 @@ quietly_answered gives (AsksInput a count) t r o p = absurd p
 quietly_answered gives (AsksRandom a count) t r o p = absurd p
 quietly_answered gives (AsksTime a) t r o p = absurd p
 
-module _ {O : Type 0} {gives : O → Question → Answer → O → Type 0} (call : Syscall) {tid : ℕ} {t : Thread} {old new : GuestValue} {before : O} where
+-- a row that wants something asks
+asks : (w : Wanted) (a count : ℕ) → Asks (asking_row w a count)
+asks wants.Input a count = tt
+asks wants.Random a count = tt
+asks (wants.Moment clock) a count = tt
+
+after_asking : (w : Wanted) (a count tid : ℕ) (r : CallRecord) (s : State) → results tid r.result (writes r.written s) ≡ after_call (asking_row w a count) tid r s
+after_asking wants.Input a count tid r s = refl
+after_asking wants.Random a count tid r s = refl
+after_asking (wants.Moment clock) a count tid r s = refl
+
+module _ {O : Type 0} {gives : O → Question → Answer → O → Type 0} {row : Row} {puts : ℕ → List Chunk} {MayTakeMemory : Type 0}
+    {tid : ℕ} {t : Thread} {old new : GuestValue} {before : O} where
   -- a call that asks nobody
-  pub quiet : (result : Result CallRecord Refusal) →
-      IfOk result (λ r. Makes (row_of call tid (state_of old) t) (puts call (state_of old).memory t r.result) tid old r new) →
-      OnErr result (MayGrow call tid (state_of old) t) → OnErr result (new ≡ old) → ComesTo gives call tid t old result new before before
+  pub quiet : (result : Result CallRecord Refusal) → IfOk result (λ r. Makes row (puts r.result) tid old r new) →
+      OnErr result MayTakeMemory → OnErr result (new ≡ old) → ComesTo gives row puts MayTakeMemory tid t old result new before before
   quiet (Ok r) made memory refused = record {
-    answered = quietly_answered gives (row_of call tid (state_of old) t) t r before made.carries.records;
+    answered = quietly_answered gives row t r before made.carries.records;
     leaves = made.carries.leaves;
     text = made.text;
-    puts = made.puts;
+    puts_out = made.puts;
     keeps = made.keeps;
     memory = tt;
     refused = tt;
   }
   quiet (Err e) made memory refused =
-      record { answered = tt; leaves = tt; text = tt; puts = tt; keeps = kept old new refused; memory = memory; refused = (refused, refl) }
+      record { answered = tt; leaves = tt; text = tt; puts_out = tt; keeps = kept old new refused; memory = memory; refused = (refused, refl) }
 
+  -- a call whose row comes to what another does, and may take memory where that one does
+  pub alike : {after : O} {row' : Row} {puts' : ℕ → List Chunk} {MayTakeMemory' : Type 0} (result : Result CallRecord Refusal) → row ≡ row' →
+      ((value : ℕ) → puts value ≡ puts' value) → (MayTakeMemory' → MayTakeMemory) →
+      ComesTo gives row' puts' MayTakeMemory' tid t old result new before after → ComesTo gives row puts MayTakeMemory tid t old result new before after
+  alike {after} (Ok r) row_is puts_are takes p = record {
+    answered = subst (λ (row : Row). IsAnswered gives row t r before after) (sym row_is) p.answered;
+    leaves = subst (λ (row : Row). state_of new ≡ after_call row tid r (state_of old)) (sym row_is) p.leaves;
+    text = p.text;
+    puts_out = p.puts_out ∙ sym (puts_are r.result);
+    keeps = p.keeps;
+    memory = tt;
+    refused = tt;
+  }
+  alike (Err e) row_is puts_are takes p =
+      record { answered = tt; leaves = tt; text = tt; puts_out = tt; keeps = p.keeps; memory = takes p.memory; refused = p.refused }
+
+module _ {O : Type 0} {gives : O → Question → Answer → O → Type 0} {row : Row} {tid : ℕ} {t : Thread} {old new : GuestValue} {before : O} where
   -- a test before the question answers a value
-  pub answers_value : {r : CallRecord} (value : ℕ) → row_of call tid (state_of old) t ≡ only_returns value →
-      [] ≡ puts call (state_of old).memory t r.result → Makes (only_returns value) [] tid old r new →
-      ComesTo gives call tid t old (Ok r) new before before
-  answers_value {r} value row_is nothing made = quiet (Ok r)
-      (subst (λ (chunks : List Chunk). Makes (row_of call tid (state_of old) t) chunks tid old r new) nothing
-      (subst (λ (row : Row). Makes row [] tid old r new) (sym row_is) made)) tt tt
+  pub answers_value : {r : CallRecord} (value : ℕ) → row ≡ only_returns value → Makes (only_returns value) [] tid old r new →
+      ComesTo gives row (λ _. []) (Asks row) tid t old (Ok r) new before before
+  answers_value {r} value row_is made = quiet (Ok r) (subst (λ (row : Row). Makes row [] tid old r new) (sym row_is) made) tt tt
 
   -- a test before the question fails
-  pub fails_with : {r : CallRecord} {value : ℕ} (errno : ℕ) → value + errno ≡ 2 ^ 32 → row_of call tid (state_of old) t ≡ fails errno →
-      [] ≡ puts call (state_of old).memory t r.result → Makes (only_returns value) [] tid old r new →
-      ComesTo gives call tid t old (Ok r) new before before
-  fails_with {r} {value} errno value_is row_is nothing made =
+  pub fails_with : {r : CallRecord} {value : ℕ} (errno : ℕ) → value + errno ≡ 2 ^ 32 → row ≡ fails errno → Makes (only_returns value) [] tid old r new →
+      ComesTo gives row (λ _. []) (Asks row) tid t old (Ok r) new before before
+  fails_with {r} {value} errno value_is row_is made =
       let negated : 2 ^ 32 - errno ≡ value = omega (arith, value_is) in
-      answers_value value (row_is ∙ ap only_returns negated) nothing made
+      answers_value value (row_is ∙ ap only_returns negated) made
+
+  -- there is no room for the answer
+  pub finds_no_room : {e : Refusal} (w : Wanted) (a count : ℕ) → row ≡ asking_row w a count → new ≡ old →
+      ComesTo gives row (λ _. []) (Asks row) tid t old (Err e) new before before
+  finds_no_room {e} w a count row_is same = quiet (Err e) tt (subst Asks (sym row_is) (asks w a count)) same
 
   -- the question was answered
-  pub was_answered : {r : CallRecord} {after : O} (row : Row) → row_of call tid (state_of old) t ≡ row → IsAnswered gives row t r before after →
-      state_of new ≡ after_call row tid r (state_of old) → HasCallText r → chunks_of new.put ≡ puts call (state_of old).memory t r.result →
-      KeepsRest old new → ComesTo gives call tid t old (Ok r) new before after
-  was_answered {r} {after} row row_is answered leaves text put keeps = record {
+  pub was_answered : {r : CallRecord} {after : O} (w : Wanted) (a count : ℕ) → row ≡ asking_row w a count → IsAnswered gives (asking_row w a count) t r before after →
+      state_of new ≡ results tid r.result (writes r.written (state_of old)) → HasCallText r → chunks_of new.put ≡ [] →
+      KeepsRest old new → ComesTo gives row (λ _. []) (Asks row) tid t old (Ok r) new before after
+  was_answered {r} {after} w a count row_is answered leaves text put keeps = record {
     answered = subst (λ (row : Row). IsAnswered gives row t r before after) (sym row_is) answered;
-    leaves = subst (λ (row : Row). state_of new ≡ after_call row tid r (state_of old)) (sym row_is) leaves;
+    leaves = subst (λ (row : Row). state_of new ≡ after_call row tid r (state_of old)) (sym row_is) (leaves ∙ after_asking w a count tid r (state_of old));
     text = text;
-    puts = put;
+    puts_out = put;
     keeps = keeps;
     memory = tt;
     refused = tt;
   }
-
--- the call with this number
-pub by_number : {O : Type 0} {gives : O → Question → Answer → O → Type 0} {call number : Syscall} {tid : ℕ} {t : Thread} {old new : GuestValue}
-    {result : Result CallRecord Refusal} {before after : O} → call ≡ number →
-    ComesTo gives call tid t old result new before after → ComesTo gives number tid t old result new before after
-by_number {O} {gives} {call} {number} {tid} {t} {old} {new} {result} {before} {after} e p =
-    subst (λ (call : Syscall). ComesTo gives call tid t old result new before after) e p
 
 -- ---- what an answer leaves
 
@@ -137,74 +160,40 @@ text_range value a bytes r low at most small is = subst HasCallText (sym is) (li
   listed (b ∷ bytes) most small =
       record { result = low; two = omega arith; written = (record { address = at; some = omega arith; most = most; bytes = small }, tt) }
 
--- the record of an answer, by what was asked
-module _ {O : Type 0} (gives : O → Question → Answer → O → Type 0) (t : Thread) (a : ℕ) (bytes : List ℕ) (r : CallRecord) (before after : O) where
-  pub input_answered : (count value : ℕ) → r ≡ record { result = value; written = range a bytes } → All (λ b. b < 256) bytes →
-      value ≡ length bytes → length bytes ≤ count → gives before (Input count) (Bytes bytes) after → IsAnswered gives (AsksInput a count) t r before after
-  input_answered count value is small len within given =
+-- the record of an answer, by what was wanted
+module _ {O : Type 0} (gives : O → Question → Answer → O → Type 0) (t : Thread) (a count value : ℕ) (bytes : List ℕ) (r : CallRecord) (before after : O) where
+  pub answered_as : (w : Wanted) → IsClockOf t w → r ≡ record { result = value; written = range a bytes } → All (λ b. b < 256) bytes →
+      Takes gives w count value bytes before after → IsAnswered gives (asking_row w a count) t r before after
+  answered_as wants.Input clock is small taken =
       let made : ℕ → CallRecord = λ n. record { result = n; written = range a bytes } in
-      record { answer = Bytes bytes; given = given; records = (within, small, is ∙ ap made len) }
-
-  pub random_answered : (count value : ℕ) → r ≡ record { result = value; written = range a bytes } → All (λ b. b < 256) bytes →
-      value ≡ count → length bytes ≡ count → gives before (Random count) (Bytes bytes) after → IsAnswered gives (AsksRandom a count) t r before after
-  random_answered count value is small all len given =
+      record { answer = Bytes bytes; given = taken.2; records = (taken.1, small, is ∙ ap made taken.0) }
+  answered_as wants.Random clock is small taken =
       let made : ℕ → CallRecord = λ n. record { result = n; written = range a bytes } in
-      record { answer = Bytes bytes; given = given; records = (len, small, is ∙ ap made all) }
-
-  pub time_answered : r ≡ record { result = 0; written = range a bytes } → TellsMoment gives (argument t 0) bytes before after →
-      IsAnswered gives (AsksTime a) t r before after
-  time_answered is told =
-      let made : List ℕ → CallRecord = λ bytes. record { result = 0; written = range a bytes } in
+      record { answer = Bytes bytes; given = taken.2; records = (taken.1, small, is ∙ ap made taken.0) }
+  answered_as (wants.Moment clock) named is small taken =
+      let made : ℕ → List ℕ → CallRecord = λ n bytes. record { result = n; written = range a bytes } in
+      let told = taken.2 in
       record {
         answer = Time told.seconds told.nanoseconds;
-        given = told.given;
-        records = (told.seconds_low, told.nanoseconds_low, is ∙ ap made told.are);
+        given = subst (λ (id : ℕ). gives before (Clock id) (Time told.seconds told.nanoseconds) after) named told.given;
+        records = (told.seconds_low, told.nanoseconds_low, is ∙ ap (λ n. made n bytes) taken.0 ∙ ap (made 0) told.are);
       }
 
--- ---- as many bytes as there is room for
-
-pub input_room : {O : Type 0} (gives : O → Question → Answer → O → Type 0) (before after : O) (len : ℕ) {count : ℕ} (bytes : List ℕ) → len ≡ count →
-    gives before (Input len) (Bytes bytes) after → gives before (Input count) (Bytes bytes) after
-input_room gives before after len bytes e given = subst (λ (n : ℕ). gives before (Input n) (Bytes bytes) after) e given
-
-pub random_room : {O : Type 0} (gives : O → Question → Answer → O → Type 0) (before after : O) (len : ℕ) {count : ℕ} (bytes : List ℕ) → len ≡ count →
-    gives before (Random len) (Bytes bytes) after → gives before (Random count) (Bytes bytes) after
-random_room gives before after len bytes e given = subst (λ (n : ℕ). gives before (Random n) (Bytes bytes) after) e given
+-- no more bytes come than there is room for
+pub taken_within : {O : Type 0} (gives : O → Question → Answer → O → Type 0) (w : Wanted) (room value : ℕ) (bytes : List ℕ) (before after : O) →
+    Takes gives w room value bytes before after → length bytes ≤ room
+taken_within gives wants.Input room value bytes before after taken = taken.1
+taken_within gives wants.Random room value bytes before after taken = let all : length bytes ≡ room = taken.1 in omega arith
+taken_within gives (wants.Moment clock) room value bytes before after taken = let all : length bytes ≡ room = taken.1 in omega arith
 
 -- ---- which row it is
 
-module _ (s : State) (t : Thread) where
-  pub read_elsewhere : argument t 0 ≢ 0 → read_row s t ≡ fails 9
-  read_elsewhere fd = grind (arith, nat_tests)
+module _ (s : State) (q : Request) where
+  pub nothing_wanted : q.count ≡ 0 → request_row s q ≡ only_returns 0
+  nothing_wanted none = grind (arith, nat_tests)
 
-  pub read_nothing : argument t 0 ≡ 0 → transfer (argument t 2) ≡ 0 → read_row s t ≡ only_returns 0
-  read_nothing fd none = grind (arith, nat_tests)
+  pub unwritable : q.count ≢ 0 → writable s.memory q.address q.count ≡ false → request_row s q ≡ fails 14
+  unwritable some locked = grind (arith, nat_tests)
 
-  pub read_locked : argument t 0 ≡ 0 → transfer (argument t 2) ≢ 0 → writable s.memory (argument t 1) (transfer (argument t 2)) ≡ false → read_row s t ≡ fails 14
-  read_locked fd some locked = grind (arith, nat_tests)
-
-  pub read_asks : argument t 0 ≡ 0 → transfer (argument t 2) ≢ 0 → writable s.memory (argument t 1) (transfer (argument t 2)) ≡ true →
-      read_row s t ≡ AsksInput (argument t 1) (transfer (argument t 2))
-  read_asks fd some free = grind (arith, nat_tests)
-
-  pub getrandom_flags : 7 < argument t 2 → getrandom_row s t ≡ fails 22
-  getrandom_flags high = grind (arith, nat_tests)
-
-  pub getrandom_nothing : argument t 2 ≤ 7 → min (argument t 1) 256 ≡ 0 → getrandom_row s t ≡ only_returns 0
-  getrandom_nothing flags none = grind (arith, nat_tests)
-
-  pub getrandom_locked : argument t 2 ≤ 7 → min (argument t 1) 256 ≢ 0 → writable s.memory (argument t 0) (min (argument t 1) 256) ≡ false → getrandom_row s t ≡ fails 14
-  getrandom_locked flags some locked = grind (arith, nat_tests)
-
-  pub getrandom_asks : argument t 2 ≤ 7 → min (argument t 1) 256 ≢ 0 → writable s.memory (argument t 0) (min (argument t 1) 256) ≡ true →
-      getrandom_row s t ≡ AsksRandom (argument t 0) (min (argument t 1) 256)
-  getrandom_asks flags some free = grind (arith, nat_tests)
-
-  pub clock_elsewhere : 1 < argument t 0 → clock_gettime_row s t ≡ fails 22
-  clock_elsewhere clock = grind (arith, nat_tests)
-
-  pub clock_locked : argument t 0 ≤ 1 → writable s.memory (argument t 1) 16 ≡ false → clock_gettime_row s t ≡ fails 14
-  clock_locked clock locked = grind (arith, nat_tests)
-
-  pub clock_asks : argument t 0 ≤ 1 → writable s.memory (argument t 1) 16 ≡ true → clock_gettime_row s t ≡ AsksTime (argument t 1)
-  clock_asks clock free = grind (arith, nat_tests)
+  pub is_asked : q.count ≢ 0 → writable s.memory q.address q.count ≡ true → request_row s q ≡ asking_row q.wanted q.address q.count
+  is_asked some free = grind (arith, nat_tests)

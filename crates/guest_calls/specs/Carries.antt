@@ -4,17 +4,15 @@ use Rattle.rrv_model.specs.declared.machine.Permissions.{Permissions}
 use Rattle.rrv_model.specs.declared.machine.Thread.{Thread}
 use Rattle.rrv_model.specs.declared.record.CallRecord.{CallRecord}
 use Rattle.rrv_model.specs.declared.refusal.Memory.{Memory}
-use Rattle.rrv_model.specs.declared.syscall.Syscall.{Syscall}
 use Rattle.rrv_model.specs.Memory.{Memory as GuestMemory, mapped, page_bytes}
 use Rattle.rrv_model.specs.State.{State}
-use Rattle.rrv_model.specs.CallRows.{Row, NoResult, leaves, range, row_of, wakes}
+use Rattle.rrv_model.specs.CallRows.{Row, NoResult, leaves, range, wakes}
 use Rattle.rrv_model.specs.Calls.{Answer, Silence, Calls, HasRecord, after_call}
 use Rattle.rrv_model.specs.RecordText.{HasCallText}
-use Rattle.rrv_model.specs.Output.{Chunk, puts}
+use Rattle.rrv_model.specs.Output.{Chunk}
 use Rattle.guest_pages.specs.Space.{snapshots_of}
 use Rattle.guest_calls.specs.Guest.{GuestValue, chunks_of, state_of}
 use Rattle.guest_calls.specs.Asking.{IsAnswered, Question}
-use Rattle.guest_calls.specs.Growth.{MayGrow}
 
 -- a guest's counters and snapshots stay
 pub record KeepsRest (old new : GuestValue) : Type 0 where
@@ -43,16 +41,17 @@ clearing_row clear tid status = NoResult (range clear (0 ∷ 0 ∷ 0 ∷ 0 ∷ [
 abbrev pub pages_mapped : (page count : ℕ) → Permissions → GuestMemory → GuestMemory
 pages_mapped page count permissions m = mapped (page * page_bytes) (count * page_bytes) permissions m
 
--- what a thread's call comes to, by its row, which may ask the environment; or it finds no memory, where it may
--- take some, and nothing has changed, and nobody was asked
-pub record ComesTo {O : Type 0} (gives : O → Question → Answer → O → Type 0) (call : Syscall) (tid : ℕ) (t : Thread)
+-- what a thread's call comes to, by its row, which may ask the environment, and by what it puts out with a result; or it
+-- finds no memory, where it may take some, and nothing has changed, and nobody was asked
+pub record ComesTo {O : Type 0} (gives : O → Question → Answer → O → Type 0) (row : Row) (puts : ℕ → List Chunk)
+    (MayTakeMemory : Type 0) (tid : ℕ) (t : Thread)
     (old : GuestValue) (result : Result CallRecord Memory) (new : GuestValue) (before after : O) : Type 0 where
-  pub answered : IfOk result (λ r. IsAnswered gives (row_of call tid (state_of old) t) t r before after)
-  pub leaves : IfOk result (λ r. state_of new ≡ after_call (row_of call tid (state_of old) t) tid r (state_of old))
+  pub answered : IfOk result (λ r. IsAnswered gives row t r before after)
+  pub leaves : IfOk result (λ r. state_of new ≡ after_call row tid r (state_of old))
   pub text : IfOk result HasCallText
-  pub puts : IfOk result (λ r. chunks_of new.put ≡ puts call (state_of old).memory t r.result)
+  pub puts_out : IfOk result (λ r. chunks_of new.put ≡ puts r.result)
   pub keeps : KeepsRest old new
-  pub memory : OnErr result (MayGrow call tid (state_of old) t)
+  pub memory : OnErr result MayTakeMemory
   pub refused : OnErr result ((new ≡ old) × (after ≡ before))
 
 -- some answer of the outside leads there

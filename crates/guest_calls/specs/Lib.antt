@@ -4,5 +4,6 @@ pub mod Asking
 pub mod Carries
 pub mod Clones
 pub mod Growth
+pub mod Requests
 pub mod Snapshots
 pub mod Parts

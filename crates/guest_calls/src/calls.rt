@@ -4,19 +4,22 @@ ghost use Rattle.std.specs.Prelude.{◌≡◌, [], ◌∷◌, Some, None, MatchO
 ghost use Rattle.std.specs.Prelude.{if◌then◌else◌, ◌==◌, ◌+◌, ◌≤◌, ◌^◌};
 ghost use Rattle.rrv_model.specs.declared.syscall.Syscall.TheVariants.{Write};
 ghost use Rattle.rrv_model.specs.Memory.{readable, writable, bytes_at};
-ghost use Rattle.rrv_model.specs.State.{thread_at, register, IsRunning, IsThread};
-ghost use Rattle.rrv_model.specs.CallRows.{range, only_returns, syscall_of, clears};
+ghost use Rattle.rrv_model.specs.State.{thread_at, IsRunning, IsThread};
+ghost use Rattle.rrv_model.specs.CallRows.{range, is_output, only_returns, row_of, clears};
 ghost use Rattle.rrv_model.specs.CallRows.{write_row, exit_row, exit_group_row, set_tid_address_row};
+ghost use Rattle.rrv_model.specs.Calls.{call_row};
 ghost use Rattle.rrv_model.specs.RecordText.{HasCallText};
-ghost use Rattle.rrv_model.specs.Output.{puts, put_out_by};
+ghost use Rattle.rrv_model.specs.Output.{puts, put_out, put_out_by};
 ghost use Rattle.guest_calls.specs.Guest.{state_of, chunks_of};
 ghost use Rattle.guest_calls.specs.Asking.{CallAsks, CallIsAnswered};
 ghost use Rattle.guest_calls.specs.Carries.{CallDoes, ComesTo, KeepsRest, Makes, clearing_row};
-ghost use Rattle.guest_calls.specs.Growth.{CallMayGrow, PutsBytes};
+ghost use Rattle.guest_calls.specs.Growth.{CallMayGrow, MayGrow, PutsBytes};
+ghost use Rattle.guest_calls.specs.Requests.{IsQuiet};
 
 use crate::guest::Guest;
 use crate::outside::Outside;
 use crate::put::Put;
+use crate::request::request_of;
 use rrv_model::limits::MAX_TRANSFER;
 use rrv_model::machine::Thread;
 use rrv_model::record::{CallRecord, Written};
@@ -49,6 +52,13 @@ pub(crate) fn failure(errno: u32) -> u32
     u32::MAX - errno + 1
 }
 
+/// Tests whether a descriptor is one of the two that put bytes out.
+pub(crate) fn is_output(descriptor: u32) -> bool
+    ensures { result ≡ is_output descriptor }
+{
+    descriptor == 1 || descriptor == 2
+}
+
 /// What a call records that writes one word of zeros.
 fn cleared_word(alloc: Global, address: u32) -> Result<Sequence<Written>, Memory>
     ensures { IfOk result (λ written. written ≡ range address (0 ∷ 0 ∷ 0 ∷ 0 ∷ [])) }
@@ -77,6 +87,9 @@ pub(crate) fn put_of(descriptor: u32, bytes: Vec<u8>) -> Option<Put>
         bytes: Sequence::from_vec(bytes),
     })
 }
+
+/// What a call comes to: what it records, or it finds no memory.
+pub(crate) type CallResult = Result<CallRecord, Memory>;
 
 impl Guest {
     /// Makes the call of a running thread, whose `pc` is past its ECALL. The environment is asked once at most, and
@@ -117,22 +130,47 @@ impl Guest {
         }
     }
 
-    /// Makes a call, by its number: each has a function of its own, or answers a value.
+    /// Makes a call, by its number.
     fn make_call<O: Outside>(
         &mut self,
         alloc: Global,
         tid: u32,
         thread: &Thread,
         outside: &mut O,
-    ) -> Result<CallRecord, Memory>
+    ) -> CallResult
         requires there { thread_at (state_of self.old) tid ≡ Some thread.now }
         requires running { thread.now.waits_at ≡ None }
         requires fits { IsThread thread.now }
-        ensures { ComesTo O.gives (syscall_of (register thread.now.regs 17)) tid thread.now
-            self.old result self.new outside.old outside.new }
+        ensures { ComesTo O.gives (call_row (state_of self.old) tid thread.now)
+            (put_out (state_of self.old).memory thread.now) (CallMayGrow (state_of self.old) tid (Some thread.now))
+            tid thread.now self.old result self.new outside.old outside.new }
     {
-        match syscall_of(thread.regs.registers[NUMBER]) {
-            Syscall::Read => self.read(alloc, tid, thread, outside),
+        let call = syscall_of(thread.regs.registers[NUMBER]);
+        match request_of(call, thread) {
+            Some(requested) => self.ask(alloc, tid, requested, outside),
+            None => self.make_quiet_call(alloc, tid, call, thread),
+        }
+    }
+
+    /// Makes a call that asks nobody: each has a function of its own, or answers a value.
+    #[tactic(auto, unfolding(rrv_model::specs::CallRows::row_of))]
+    fn make_quiet_call(
+        &mut self,
+        alloc: Global,
+        tid: u32,
+        call: Syscall,
+        thread: &Thread,
+    ) -> CallResult
+        requires there { thread_at (state_of self.old) tid ≡ Some thread.now }
+        requires running { thread.now.waits_at ≡ None }
+        requires fits { IsThread thread.now }
+        requires quiet { IsQuiet call }
+        ensures makes { IfOk result (λ r. Makes (row_of call tid (state_of self.old) thread.now)
+            (puts call (state_of self.old).memory thread.now r.result) tid self.old r self.new) }
+        ensures memory { OnErr result (MayGrow call tid (state_of self.old) thread.now) }
+        ensures refused { OnErr result (self.new ≡ self.old) }
+    {
+        match call {
             Syscall::Write => self.write(alloc, tid, thread),
             Syscall::Writev => self.writev(alloc, tid, thread),
             Syscall::Exit => self.exit(alloc, tid, thread),
@@ -147,9 +185,8 @@ impl Guest {
             Syscall::Clone => self.clone_thread(alloc, tid, thread),
             Syscall::Mmap => self.mmap(alloc, tid, thread),
             Syscall::Mprotect => Ok(self.mprotect(alloc, tid, thread)),
-            Syscall::Getrandom => self.getrandom(alloc, tid, thread, outside),
-            Syscall::ClockGettime => self.clock_gettime(alloc, tid, thread, outside),
             Syscall::Other => Ok(self.answer(alloc, tid, failure(NO_SUCH_CALL))),
+            Syscall::Read | Syscall::Getrandom | Syscall::ClockGettime => unreachable!(),
         }
     }
 
@@ -177,7 +214,7 @@ impl Guest {
     }
 
     /// write(fd, buf, len)
-    fn write(&mut self, alloc: Global, tid: u32, thread: &Thread) -> Result<CallRecord, Memory>
+    fn write(&mut self, alloc: Global, tid: u32, thread: &Thread) -> CallResult
         ensures makes { IfOk result (λ r. Makes (write_row (state_of self.old) thread.now)
             (puts Write (state_of self.old).memory thread.now r.result) tid self.old r self.new) }
         ensures memory { OnErr result (PutsBytes (state_of self.old) thread.now) }
@@ -185,11 +222,10 @@ impl Guest {
     {
         let descriptor = thread.regs.registers[10];
         let address = thread.regs.registers[11];
-        let len = thread.regs.registers[12];
-        if descriptor != 1 && descriptor != 2 {
+        let count = thread.regs.registers[12].min(MAX_TRANSFER);
+        if !is_output(descriptor) {
             return Ok(self.answer(alloc, tid, failure(BAD_DESCRIPTOR)));
         }
-        let count = len.min(MAX_TRANSFER);
         if !self.space.is_readable(address, count) {
             return Ok(self.answer(alloc, tid, failure(BAD_ADDRESS)));
         }
@@ -203,7 +239,7 @@ impl Guest {
     }
 
     /// exit(status)
-    fn exit(&mut self, alloc: Global, tid: u32, thread: &Thread) -> Result<CallRecord, Memory>
+    fn exit(&mut self, alloc: Global, tid: u32, thread: &Thread) -> CallResult
         requires { IsRunning (thread_at (state_of self.old) tid) }
         ensures makes { IfOk result (λ r.
             Makes (exit_row tid (state_of self.old) thread.now) [] tid self.old r self.new) }
@@ -223,13 +259,7 @@ impl Guest {
     }
 
     /// An exit that clears a word and wakes a thread.
-    fn exit_clearing(
-        &mut self,
-        alloc: Global,
-        tid: u32,
-        clear: u32,
-        status: u32,
-    ) -> Result<CallRecord, Memory>
+    fn exit_clearing(&mut self, alloc: Global, tid: u32, clear: u32, status: u32) -> CallResult
         requires running { IsRunning (thread_at (state_of self.old) tid) }
         requires allowed { IsTrue (writable (state_of self.old).memory clear 4) }
         ensures makes { IfOk result (λ r. Makes (clearing_row clear tid status) [] tid self.old r self.new) }

@@ -2,18 +2,16 @@
 
 ghost use Rattle.std.specs.Prelude.{◌≡◌, ◌++◌, length};
 ghost use Rattle.std.specs.Int.{w64, to_le_bytes};
-ghost use Rattle.rrv_model.specs.declared.syscall.Syscall.TheVariants.{ClockGettime};
+ghost use Rattle.rrv_model.specs.State.{State};
+ghost use Rattle.rrv_model.specs.CallRows.{clock_gettime_row};
 ghost use Rattle.guest_calls.specs.Asking.{TellsMoment};
-ghost use Rattle.guest_calls.specs.Carries.{ComesTo};
+ghost use Rattle.guest_calls.specs.Requests.{requested_row, IsRequested, NamesClock};
 
-use crate::calls::{BAD_ADDRESS, INVALID, failure};
-use crate::guest::Guest;
+use crate::calls::INVALID;
 use crate::outside::Outside;
+use crate::request::{Request, Wanted};
 use crate::room::Room;
 use rrv_model::machine::Thread;
-use rrv_model::record::CallRecord;
-use rrv_model::refusal::Memory;
-use std::alloc::Global;
 
 /// CLOCK_MONOTONIC, the greater of the two clocks; CLOCK_REALTIME is 0.
 const MONOTONIC: u32 = 1;
@@ -31,7 +29,7 @@ fn put_moment(into: &mut [u8], seconds: u64, nanoseconds: u32)
 
 impl Room {
     /// Takes the moment of a clock, for which there is room.
-    fn take_moment<O: Outside>(&mut self, clock: u32, outside: &mut O)
+    pub(crate) fn take_moment<O: Outside>(&mut self, clock: u32, outside: &mut O)
         requires { length self.old.bytes.items ≡ 16 }
         ensures { TellsMoment O.gives clock self.new.bytes.items outside.old outside.new }
     {
@@ -40,27 +38,19 @@ impl Room {
     }
 }
 
-impl Guest {
-    /// clock_gettime(id, ts)
-    pub(crate) fn clock_gettime<O: Outside>(
-        &mut self,
-        alloc: Global,
-        tid: u32,
-        thread: &Thread,
-        outside: &mut O,
-    ) -> Result<CallRecord, Memory>
-        ensures { ComesTo O.gives ClockGettime tid thread.now self.old result self.new outside.old outside.new }
-    {
-        let clock = thread.regs.registers[10];
-        let address = thread.regs.registers[11];
-        if MONOTONIC < clock {
-            return Ok(self.answer(alloc, tid, failure(INVALID)));
-        }
-        if !self.space.is_writable(address, MOMENT_BYTES) {
-            return Ok(self.answer(alloc, tid, failure(BAD_ADDRESS)));
-        }
-        let mut room = self.make_room(alloc, address, MOMENT_BYTES)?;
-        room.take_moment(clock, outside);
-        Ok(self.write_answer(tid, address, 0, room))
+/// clock_gettime(id, ts)
+pub(crate) fn clock_request(thread: &Thread) -> Result<Request, u32>
+    ensures row { (s : State) → clock_gettime_row s thread.now ≡ requested_row s result }
+    ensures fits { IsRequested result }
+    ensures clock { NamesClock thread.now result }
+{
+    let clock = thread.regs.registers[10];
+    if MONOTONIC < clock {
+        return Err(INVALID);
     }
+    Ok(Request {
+        wanted: Wanted::Moment(clock),
+        address: thread.regs.registers[11],
+        count: MOMENT_BYTES,
+    })
 }

@@ -14,7 +14,7 @@ ghost use Rattle.guest_calls.specs.Carries.{KeepsRest, Makes};
 ghost use Rattle.guest_calls.specs.Clones.{MayHaveChild, makes_child, with_child_at, words_at};
 ghost use Rattle.guest_calls.specs.Growth.{Succeeds};
 
-use crate::calls::{BAD_ADDRESS, INVALID, TRY_AGAIN, failure};
+use crate::calls::{BAD_ADDRESS, CallResult, INVALID, TRY_AGAIN, failure};
 use crate::changes::{A0, with_register};
 use crate::guest::Guest;
 use guest_threads::Threads;
@@ -162,12 +162,7 @@ fn with_child(alloc: Global, threads: &Threads, child: Thread) -> Result<Threads
 
 impl Guest {
     /// clone(flags, stack, ptid, tls, ctid)
-    pub(crate) fn clone_thread(
-        &mut self,
-        alloc: Global,
-        tid: u32,
-        thread: &Thread,
-    ) -> Result<CallRecord, Memory>
+    pub(crate) fn clone_thread(&mut self, alloc: Global, tid: u32, thread: &Thread) -> CallResult
         requires fits { IsThread thread.now }
         requires running { thread.now.waits_at ≡ None }
         ensures makes { IfOk result (λ r. Makes (clone_row (state_of self.old) thread.now) [] tid self.old r self.new) }
@@ -202,13 +197,7 @@ impl Guest {
     }
 
     /// Makes a child under the next tid, which is written at the places and answered.
-    fn make_child(
-        &mut self,
-        alloc: Global,
-        tid: u32,
-        thread: &Thread,
-        places: &[u32],
-    ) -> Result<CallRecord, Memory>
+    fn make_child(&mut self, alloc: Global, tid: u32, thread: &Thread, places: &[u32]) -> CallResult
         requires { MayHaveChild self.old thread.now places.now }
         ensures makes { IfOk result (λ r.
             Makes (makes_child (state_of self.old) thread.now places.now) [] tid self.old r self.new) }
@@ -222,12 +211,7 @@ impl Guest {
 
     /// A child under the next tid, which is written at the places. The space comes last of what can be refused, so that
     /// a refusal leaves all as before.
-    fn add_child(
-        &mut self,
-        alloc: Global,
-        thread: &Thread,
-        places: &[u32],
-    ) -> Result<CallRecord, Memory>
+    fn add_child(&mut self, alloc: Global, thread: &Thread, places: &[u32]) -> CallResult
         requires { MayHaveChild self.old thread.now places.now }
         ensures state { OnOk result (state_of self.new ≡ with_child_at places.now thread.now (state_of self.old)) }
         ensures record_is { IfOk result (λ r. let tid = (state_of self.old).next_tid in

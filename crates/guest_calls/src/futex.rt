@@ -7,11 +7,10 @@ ghost use Rattle.guest_calls.specs.Guest.{state_of};
 ghost use Rattle.guest_calls.specs.Carries.{Makes};
 ghost use Rattle.guest_calls.specs.Growth.{BeginsWait};
 
-use crate::calls::{BAD_ADDRESS, INVALID, NO_SUCH_CALL, TRY_AGAIN, failure};
+use crate::calls::{BAD_ADDRESS, CallResult, INVALID, NO_SUCH_CALL, TRY_AGAIN, failure};
 use crate::guest::Guest;
 use rrv_model::machine::Thread;
 use rrv_model::record::CallRecord;
-use rrv_model::refusal::Memory;
 use std::alloc::Global;
 
 /// FUTEX_WAKE; FUTEX_WAIT is 0.
@@ -28,12 +27,7 @@ fn operation_of(op: u32) -> u32
 
 impl Guest {
     /// futex(a, op, val, timeout)
-    pub(crate) fn futex(
-        &mut self,
-        alloc: Global,
-        tid: u32,
-        thread: &Thread,
-    ) -> Result<CallRecord, Memory>
+    pub(crate) fn futex(&mut self, alloc: Global, tid: u32, thread: &Thread) -> CallResult
         requires { IsRunning (thread_at (state_of self.old) tid) }
         ensures makes { IfOk result (λ r.
             Makes (futex_row tid (state_of self.old) thread.now) [] tid self.old r self.new) }
@@ -74,7 +68,7 @@ impl Guest {
     }
 
     /// A running thread waits at an address, last in the waiting order; when it is woken it finds 0.
-    fn begin_wait(&mut self, alloc: Global, tid: u32, address: u32) -> Result<CallRecord, Memory>
+    fn begin_wait(&mut self, alloc: Global, tid: u32, address: u32) -> CallResult
         requires { IsRunning (thread_at (state_of self.old) tid) }
         ensures makes { IfOk result (λ r. Makes (Returns 0 [] (waits tid address)) [] tid self.old r self.new) }
         ensures refused { OnErr result (self.new ≡ self.old) }

@@ -17,6 +17,7 @@ mod outside;
 mod parts;
 mod put;
 mod read;
+mod request;
 mod room;
 mod steps;
 mod writev;

@@ -8,13 +8,12 @@ ghost use Rattle.guest_calls.specs.Guest.{state_of};
 ghost use Rattle.guest_calls.specs.Carries.{Makes};
 ghost use Rattle.guest_calls.specs.Growth.{RaisesBreak, Succeeds};
 
-use crate::calls::{INVALID, NO_MEMORY, failure};
+use crate::calls::{CallResult, INVALID, NO_MEMORY, failure};
 use crate::guest::Guest;
 use crate::memory_changes::{pages_for, permissions_of};
 use rrv_model::limits::PAGE_BYTES;
 use rrv_model::machine::Thread;
 use rrv_model::record::CallRecord;
-use rrv_model::refusal::Memory;
 use std::alloc::Global;
 
 /// READ and WRITE.
@@ -51,12 +50,7 @@ fn is_mapping(thread: &Thread) -> bool
 
 impl Guest {
     /// brk(a)
-    pub(crate) fn brk(
-        &mut self,
-        alloc: Global,
-        tid: u32,
-        thread: &Thread,
-    ) -> Result<CallRecord, Memory>
+    pub(crate) fn brk(&mut self, alloc: Global, tid: u32, thread: &Thread) -> CallResult
         ensures makes { IfOk result (λ r. Makes (brk_row (state_of self.old) thread.now) [] tid self.old r self.new) }
         ensures memory { OnErr result (RaisesBreak (state_of self.old) thread.now) }
         ensures refused { OnErr result (self.new ≡ self.old) }
@@ -124,12 +118,7 @@ impl Guest {
     }
 
     /// mmap(a, len, prot, flags, ..)
-    pub(crate) fn mmap(
-        &mut self,
-        alloc: Global,
-        tid: u32,
-        thread: &Thread,
-    ) -> Result<CallRecord, Memory>
+    pub(crate) fn mmap(&mut self, alloc: Global, tid: u32, thread: &Thread) -> CallResult
         ensures makes { IfOk result (λ r. Makes (mmap_row (state_of self.old) thread.now) [] tid self.old r self.new) }
         ensures memory { OnErr result (Succeeds (mmap_row (state_of self.old) thread.now)) }
         ensures refused { OnErr result (self.new ≡ self.old) }

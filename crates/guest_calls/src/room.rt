@@ -1,8 +1,12 @@
 //! Room for what the outside answers.
 
-ghost use Rattle.std.specs.Prelude.{◌≡◌, [], length, vec_len, vec_capacity, IfOk};
+ghost use Rattle.std.specs.Prelude.{◌≡◌, ◌≤◌, [], length, vec_len, vec_capacity, IfOk};
+ghost use Rattle.rrv_model.specs.declared.limits.TheConstants.{MAX_TRANSFER};
 ghost use Rattle.rrv_model.specs.CallRows.{range};
+ghost use Rattle.guest_calls.specs.Requests.{HasRoom, Takes};
 
+use crate::outside::Outside;
+use crate::request::Wanted;
 use rrv_model::record::Written;
 use rrv_model::refusal::Memory;
 use rrv_model::sequence::Sequence;
@@ -27,6 +31,23 @@ impl Room {
         let bytes = vec![in alloc; 0u8; count as usize]?;
         let written = Vec::with_capacity(alloc, 1)?;
         Ok(Room { bytes, written })
+    }
+
+    /// Takes what the outside answers, and tells what the call then returns.
+    pub(crate) fn take<O: Outside>(&mut self, wanted: Wanted, outside: &mut O) -> u32
+        requires most { length self.old.bytes.items ≤ MAX_TRANSFER }
+        requires room { HasRoom wanted (length self.old.bytes.items) }
+        ensures { Takes O.gives wanted (length self.old.bytes.items) result self.new.bytes.items
+            outside.old outside.new }
+    {
+        match wanted {
+            Wanted::Input => self.take_input(outside),
+            Wanted::Random => self.take_random(outside),
+            Wanted::Moment(clock) => {
+                self.take_moment(clock, outside);
+                0
+            }
+        }
     }
 
     /// What a call wrote that wrote these bytes. It takes no memory.

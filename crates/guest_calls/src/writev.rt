@@ -8,12 +8,10 @@ ghost use Rattle.guest_calls.specs.Guest.{state_of};
 ghost use Rattle.guest_calls.specs.Carries.{Makes};
 ghost use Rattle.guest_calls.specs.Growth.{ReadsBuffers};
 
-use crate::calls::{BAD_ADDRESS, BAD_DESCRIPTOR, INVALID, failure, put_of};
+use crate::calls::{BAD_ADDRESS, BAD_DESCRIPTOR, CallResult, INVALID, failure, is_output, put_of};
 use crate::guest::Guest;
 use guest_buffers::{join_buffers, list_buffers, total_len};
 use rrv_model::machine::Thread;
-use rrv_model::record::CallRecord;
-use rrv_model::refusal::Memory;
 use std::alloc::Global;
 
 /// The most buffers of one call.
@@ -25,12 +23,7 @@ const MAX_TOTAL: u64 = 0x7FFF_FFFF;
 
 impl Guest {
     /// writev(fd, iov, cnt)
-    pub(crate) fn writev(
-        &mut self,
-        alloc: Global,
-        tid: u32,
-        thread: &Thread,
-    ) -> Result<CallRecord, Memory>
+    pub(crate) fn writev(&mut self, alloc: Global, tid: u32, thread: &Thread) -> CallResult
         ensures makes { IfOk result (λ r. Makes (writev_row (state_of self.old) thread.now)
             (puts Writev (state_of self.old).memory thread.now r.result) tid self.old r self.new) }
         ensures memory { OnErr result (ReadsBuffers (state_of self.old) thread.now) }
@@ -39,7 +32,7 @@ impl Guest {
         let descriptor = thread.regs.registers[10];
         let address = thread.regs.registers[11];
         let count = thread.regs.registers[12];
-        if descriptor != 1 && descriptor != 2 {
+        if !is_output(descriptor) {
             return Ok(self.answer(alloc, tid, failure(BAD_DESCRIPTOR)));
         }
         if MAX_BUFFERS < count {

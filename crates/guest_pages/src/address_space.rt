@@ -16,7 +16,7 @@ use crate::mapping::{
     remove_range, same_pages, view_page,
 };
 use crate::page::{
-    Access, Page, PageView, copy_bytes, half_at, put_byte, put_bytes, put_half, put_word, word_at,
+    Access, PageView, Pages, copy_bytes, half_at, put_byte, put_bytes, put_half, put_word, word_at,
 };
 use crate::snapshot::{Kept, Snapshot, free_number, keep, kept_under, release};
 use rrv_model::limits::MAX_PAGES;
@@ -30,7 +30,7 @@ use std::marker::Model;
 #[derive(Drop)]
 pub struct Space {
     alloc: Global,
-    pages: BTreeMap<u32, Page>,
+    pages: Pages,
     snapshots: Vec<Option<Kept>>,
 }
 

@@ -11,10 +11,9 @@ ghost use Rattle.guest_pages.specs.Snapshots.{IsPageOf};
 ghost use Rattle.guest_pages.specs.WholePages.{IsCopyOf, IsCopyOfBytes};
 ghost use Rattle.guest_pages.specs.declared.page.Page.{Page};
 
-use crate::page::{Page, PageView};
+use crate::page::{Page, PageView, Pages};
 use rrv_model::machine::Permissions;
 use std::alloc::{AllocError, Global};
-use std::collections::BTreeMap;
 
 /// A page of zeros.
 pub(crate) fn clear_page(alloc: Global, permissions: Permissions) -> Result<Page, AllocError>
@@ -26,7 +25,7 @@ pub(crate) fn clear_page(alloc: Global, permissions: Permissions) -> Result<Page
 
 /// How many of some pages aren't there.
 #[tactic(auto, using(crate::proofs::MissingPages::missing_more, crate::proofs::MissingPages::missing_none))]
-pub(crate) fn count_missing(pages: &BTreeMap<u32, Page>, first: u32, count: u32) -> u32
+pub(crate) fn count_missing(pages: &Pages, first: u32, count: u32) -> u32
     requires { first + count < 2 ^ 32 }
     ensures { result ≡ length (missing pages.now.entries first count) }
 {
@@ -44,7 +43,7 @@ pub(crate) fn count_missing(pages: &BTreeMap<u32, Page>, first: u32, count: u32)
 #[tactic(auto, using(crate::proofs::MissingPages::missing_more, crate::proofs::MissingPages::missing_none, crate::proofs::Ranges::one_absent))]
 pub(crate) fn list_missing(
     alloc: Global,
-    pages: &BTreeMap<u32, Page>,
+    pages: &Pages,
     first: u32,
     count: u32,
 ) -> Result<Vec<u32>, AllocError>
@@ -65,7 +64,7 @@ pub(crate) fn list_missing(
 /// Adds pages of zeros that aren't there: all or none. To add none takes no memory.
 pub(crate) fn add_pages(
     alloc: Global,
-    pages: &mut BTreeMap<u32, Page>,
+    pages: &mut Pages,
     numbers: &[u32],
     permissions: Permissions,
 ) -> Result<(), AllocError>
@@ -93,7 +92,7 @@ pub(crate) fn add_pages(
 /// Puts a page of zeros at a number.
 pub(crate) fn add_page(
     alloc: Global,
-    pages: &mut BTreeMap<u32, Page>,
+    pages: &mut Pages,
     number: u32,
     permissions: Permissions,
 ) -> Result<(), AllocError>
@@ -110,7 +109,7 @@ pub(crate) fn add_page(
 /// Puts a copy of a page at a number.
 pub(crate) fn insert_page(
     alloc: Global,
-    pages: &mut BTreeMap<u32, Page>,
+    pages: &mut Pages,
     number: u32,
     page: PageView<'_>,
 ) -> Result<(), AllocError>
@@ -126,7 +125,7 @@ pub(crate) fn insert_page(
 }
 
 /// Gives a page that is there the permissions and the bytes of another.
-pub(crate) fn overwrite_page(pages: &mut BTreeMap<u32, Page>, number: u32, page: PageView<'_>)
+pub(crate) fn overwrite_page(pages: &mut Pages, number: u32, page: PageView<'_>)
     requires { IsStrictlySortedBy nat_cmp (keys_of pages.old.entries) }
     ensures here { IsSome (page_at pages.old.entries number) →
         IsSomeAnd (page_at pages.new.entries number) (IsCopyOf page.entry) }
@@ -154,7 +153,7 @@ fn overwrite_bytes(bytes: &mut [u8; 4096], from: &[u8; 4096])
 }
 
 /// Takes pages away.
-fn remove_pages(pages: &mut BTreeMap<u32, Page>, numbers: &[u32])
+fn remove_pages(pages: &mut Pages, numbers: &[u32])
     requires { IsStrictlySortedBy nat_cmp (keys_of pages.old.entries) }
     ensures removed { (q : ℕ) → has_number numbers.now q ≡ true → page_at pages.new.entries q ≡ None }
     ensures kept { (q : ℕ) → has_number numbers.now q ≡ false →
@@ -167,12 +166,7 @@ fn remove_pages(pages: &mut BTreeMap<u32, Page>, numbers: &[u32])
 }
 
 /// Fills the pages of a range that are there with zeros, and sets their permissions.
-pub(crate) fn clear_pages(
-    pages: &mut BTreeMap<u32, Page>,
-    first: u32,
-    count: u32,
-    permissions: Permissions,
-)
+pub(crate) fn clear_pages(pages: &mut Pages, first: u32, count: u32, permissions: Permissions)
     requires low { first + count < 2 ^ 32 }
     requires ordered { IsStrictlySortedBy nat_cmp (keys_of pages.old.entries) }
     ensures cleared { (q : ℕ) → first ≤ q → q < first + count → IsSome (page_at pages.old.entries q) →
@@ -186,7 +180,7 @@ pub(crate) fn clear_pages(
     }
 }
 
-fn clear_number(pages: &mut BTreeMap<u32, Page>, number: u32, permissions: Permissions)
+fn clear_number(pages: &mut Pages, number: u32, permissions: Permissions)
     requires { IsStrictlySortedBy nat_cmp (keys_of pages.old.entries) }
     ensures here { IsSome (page_at pages.old.entries number) →
         IsSomeAnd (page_at pages.new.entries number) (IsClear permissions) }
@@ -207,11 +201,7 @@ fn clear_bytes(bytes: &mut [u8; 4096])
 }
 
 /// Adds permissions to a page that is there.
-pub(crate) fn join_permissions(
-    pages: &mut BTreeMap<u32, Page>,
-    number: u32,
-    permissions: Permissions,
-)
+pub(crate) fn join_permissions(pages: &mut Pages, number: u32, permissions: Permissions)
     requires { IsStrictlySortedBy nat_cmp (keys_of pages.old.entries) }
     ensures here { (p : Page) → page_at pages.old.entries number ≡ Some p →
         IsSomeAnd (page_at pages.new.entries number) (IsJoined permissions p) }
@@ -236,7 +226,7 @@ fn union(first: Permissions, second: Permissions) -> Permissions
 }
 
 /// Takes the pages of a range away.
-pub(crate) fn remove_range(pages: &mut BTreeMap<u32, Page>, first: u32, count: u32)
+pub(crate) fn remove_range(pages: &mut Pages, first: u32, count: u32)
     requires low { first + count < 2 ^ 32 }
     requires ordered { IsStrictlySortedBy nat_cmp (keys_of pages.old.entries) }
     ensures removed { (q : ℕ) → first ≤ q → q < first + count → page_at pages.new.entries q ≡ None }
@@ -251,7 +241,7 @@ pub(crate) fn remove_range(pages: &mut BTreeMap<u32, Page>, first: u32, count: u
 }
 
 /// Takes a page away, where it is there.
-pub(crate) fn remove_number(pages: &mut BTreeMap<u32, Page>, number: u32)
+pub(crate) fn remove_number(pages: &mut Pages, number: u32)
     ensures here { page_at pages.new.entries number ≡ None }
     ensures others { (q : ℕ) → q ≢ number → page_at pages.new.entries q ≡ page_at pages.old.entries q }
     ensures ordered { IsStrictlySortedBy nat_cmp (keys_of pages.new.entries) }
@@ -261,12 +251,7 @@ pub(crate) fn remove_number(pages: &mut BTreeMap<u32, Page>, number: u32)
 }
 
 /// Sets the permissions of the pages of a range that are there.
-pub(crate) fn protect_range(
-    pages: &mut BTreeMap<u32, Page>,
-    first: u32,
-    count: u32,
-    permissions: Permissions,
-)
+pub(crate) fn protect_range(pages: &mut Pages, first: u32, count: u32, permissions: Permissions)
     requires low { first + count < 2 ^ 32 }
     requires ordered { IsStrictlySortedBy nat_cmp (keys_of pages.old.entries) }
     ensures protected { (q : ℕ) → first ≤ q → q < first + count →
@@ -281,7 +266,7 @@ pub(crate) fn protect_range(
     }
 }
 
-fn protect_number(pages: &mut BTreeMap<u32, Page>, number: u32, permissions: Permissions)
+fn protect_number(pages: &mut Pages, number: u32, permissions: Permissions)
     requires { IsStrictlySortedBy nat_cmp (keys_of pages.old.entries) }
     ensures here { AreProtected permissions (page_at pages.old.entries number) (page_at pages.new.entries number) }
     ensures others { (q : ℕ) → q ≢ number → page_at pages.new.entries q ≡ page_at pages.old.entries q }
@@ -295,7 +280,7 @@ fn protect_number(pages: &mut BTreeMap<u32, Page>, number: u32, permissions: Per
 
 /// Whether all pages of a range are there.
 #[tactic(auto, unfolding(rrv_model::specs::Memory::all_mapped), using(crate::proofs::Ranges::one_absent, crate::proofs::Ranges::all_mapped_more))]
-pub(crate) fn all_there(pages: &BTreeMap<u32, Page>, first: u32, count: u32) -> bool
+pub(crate) fn all_there(pages: &Pages, first: u32, count: u32) -> bool
     requires { first + count < 2 ^ 32 }
     ensures { result ≡ all_mapped (memory_in pages.now.entries) first count }
 {
@@ -309,7 +294,7 @@ pub(crate) fn all_there(pages: &BTreeMap<u32, Page>, first: u32, count: u32) -> 
 
 /// The least page of a range that is there.
 #[tactic(auto, using(crate::proofs::Facts::is_mapped_in))]
-pub(crate) fn first_there(pages: &BTreeMap<u32, Page>, first: u32, count: u32) -> Option<u32>
+pub(crate) fn first_there(pages: &Pages, first: u32, count: u32) -> Option<u32>
     requires { first + count < 2 ^ 32 }
     ensures some { IfSome result (λ number. (first ≤ number) × (number < first + count)
         × (is_mapped (memory_in pages.now.entries) number ≡ true)) }
@@ -325,7 +310,7 @@ pub(crate) fn first_there(pages: &BTreeMap<u32, Page>, first: u32, count: u32) -
 }
 
 /// What a reader sees at a number.
-pub(crate) fn view_page(pages: &BTreeMap<u32, Page>, number: u32) -> Option<PageView<'_>>
+pub(crate) fn view_page(pages: &Pages, number: u32) -> Option<PageView<'_>>
     ensures { IsPageOf (memory_in pages.now.entries) number result }
 {
     let page = pages.get(&number)?;
@@ -336,7 +321,7 @@ pub(crate) fn view_page(pages: &BTreeMap<u32, Page>, number: u32) -> Option<Page
 }
 
 /// Whether two maps have the same pages.
-pub(crate) fn same_pages(pages: &BTreeMap<u32, Page>, others: &BTreeMap<u32, Page>) -> bool
+pub(crate) fn same_pages(pages: &Pages, others: &Pages) -> bool
     ensures all { result ≡ true → (q : ℕ) → q < 0x80000 →
         SamePage (page_at pages.now.entries q) (page_at others.now.entries q) }
     ensures one { result ≡ false → (q : ℕ)
@@ -353,8 +338,8 @@ pub(crate) fn same_pages(pages: &BTreeMap<u32, Page>, others: &BTreeMap<u32, Pag
 /// The numbers of the pages at which two maps differ, rising. It takes no memory where none does.
 pub(crate) fn list_changed(
     alloc: Global,
-    pages: &BTreeMap<u32, Page>,
-    others: &BTreeMap<u32, Page>,
+    pages: &Pages,
+    others: &Pages,
 ) -> Result<Vec<u32>, AllocError>
     ensures listed { IfOk result (λ numbers.
         ListsOthers (SameAt pages.now.entries others.now.entries) 0x80000 numbers.items) }
@@ -371,7 +356,7 @@ pub(crate) fn list_changed(
     Ok(numbers)
 }
 
-fn same_at(pages: &BTreeMap<u32, Page>, others: &BTreeMap<u32, Page>, number: u32) -> bool
+fn same_at(pages: &Pages, others: &Pages, number: u32) -> bool
     ensures same { result ≡ true → SamePage (page_at pages.now.entries number) (page_at others.now.entries number) }
     ensures differ { result ≡ false →
         SamePage (page_at pages.now.entries number) (page_at others.now.entries number) → ⊥ }

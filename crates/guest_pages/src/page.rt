@@ -7,6 +7,7 @@ ghost use Rattle.guest_pages.specs.Space.{page_passes, test_of};
 
 use rrv_model::machine::Permissions;
 use std::alloc::AllocError;
+use std::collections::BTreeMap;
 
 /// A page of 4,096 bytes.
 #[derive(Drop)]
@@ -16,6 +17,9 @@ pub struct Page {
     /// Its bytes, by their place in the page.
     pub bytes: Box<[u8; 4096]>,
 }
+
+/// Pages, by their number.
+pub(crate) type Pages = BTreeMap<u32, Page>;
 
 impl Clone for Page {
     ghost use Rattle.std.specs.Prelude.{◌≡◌};

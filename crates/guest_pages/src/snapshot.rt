@@ -3,9 +3,8 @@
 ghost use Rattle.std.specs.Prelude.{◌≡◌, ◌≢◌, ◌<◌, ◌≤◌, ℕ, Some, None, IsSome, IfOk, OnOk, OnErr, vec_len};
 ghost use Rattle.guest_pages.specs.Space.{memory_in, kept_at, ArePages};
 
-use crate::page::Page;
+use crate::page::Pages;
 use std::alloc::AllocError;
-use std::collections::BTreeMap;
 use std::marker::Model;
 
 /// A token for the memory that a space had when it was made. The space keeps that memory until
@@ -42,7 +41,7 @@ impl Snapshot {
 /// The pages that a space had at a moment.
 #[derive(Drop)]
 pub struct Kept {
-    pages: BTreeMap<u32, Page>,
+    pages: Pages,
 }
 
 impl Model for Kept {
@@ -59,7 +58,7 @@ impl Model for Kept {
 
 impl Kept {
     /// A copy of some pages.
-    pub(crate) fn copy(pages: &BTreeMap<u32, Page>) -> Result<Kept, AllocError>
+    pub(crate) fn copy(pages: &Pages) -> Result<Kept, AllocError>
         requires { ArePages pages.now.entries }
         ensures { IfOk result (λ kept. memory_in kept ≡ memory_in pages.now.entries) }
     {
@@ -68,7 +67,7 @@ impl Kept {
     }
 
     /// Its pages, by their number.
-    pub(crate) fn pages(&self) -> &BTreeMap<u32, Page>
+    pub(crate) fn pages(&self) -> &Pages
         ensures entries { result.now.entries ≡ self.now }
         ensures are_pages { ArePages self.now }
     {

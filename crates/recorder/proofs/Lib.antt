@@ -1,5 +1,4 @@
 pub mod Sizes
-pub mod Outcomes
 pub mod Silence
 pub mod Turns
 pub mod Growth

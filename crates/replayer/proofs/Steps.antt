@@ -12,11 +12,10 @@ use Rattle.rrv_model.specs.declared.record.Record.{Record}
 use Rattle.rrv_model.specs.State.{State}
 use Rattle.rrv_model.specs.FrameStep.{FrameStep}
 use Rattle.rrv_model.specs.Opening.{Opens}
-use Rattle.rrv_model.specs.Output.{Chunk, FramePuts, PutFrom}
+use Rattle.rrv_model.specs.Output.{Chunk, FramePuts}
 use Rattle.rrv_model.specs.StateAt.{StateAtFrom, total}
-use Rattle.rrv_model.specs.Recording.{EndsIn, items_of, frames_of, frame_record}
-use Rattle.rrv_model.proofs.RunLaws.{frames_append, numbered-append, at_total_first, frames-append, items-append}
-use Rattle.rrv_model.proofs.FrameLaws.{one_state_after_frame}
+use Rattle.rrv_model.specs.Recording.{EndsIn, items_of, frame_record}
+use Rattle.rrv_model.proofs.RunLaws.{frames_append, numbered-append, output_append, items-append}
 use Rattle.replayer.specs.Replayed.{IsNextFrame, IsReplayed, OutputOf, PutsByCall}
 use Rattle.serial_sched.specs.Slices.{CallPuts}
 use Rattle.guest_calls.specs.Guest.{chunks_of}
@@ -63,27 +62,12 @@ replayed_first r o s index_is item_is opens =
 
 -- ---- output
 
-put_append : (frames : List Frame) (s last new : State) (f : Frame) (chunks more : List Chunk) → PutFrom s frames chunks →
-    StateAtFrom s frames (total frames) last → FrameStep last f new → FramePuts last f f.end more → PutFrom s (frames ++ f ∷ []) (chunks ++ more)
-put_append [] s last new f chunks more h at step puts =
-    let here = subst (λ (m : State). FrameStep m f new) at.1 step in
-    let told = subst (λ (m : State). FramePuts m f f.end more) at.1 puts in
-    (new, more, [], here, told, refl, ap (λ cs. cs ++ more) h ∙ sym (append-nil more))
-put_append (g ∷ frames) s last new f chunks more h at step puts =
-    let open_ = at_total_first s g frames last at in
-    let e : open_.0 ≡ h.0 = one_state_after_frame s g open_.0 h.0 open_.1 h.3 in
-    let rest = put_append frames h.0 last new f h.2 more h.5 (subst (λ (m : State). StateAtFrom m frames (total frames) last) e open_.2) step puts in
-    (h.0, h.1, h.2 ++ more, h.3, h.4, rest, ap (λ cs. cs ++ more) h.6 ∙ append_assoc h.1 h.2 more)
-
-output_append : (rest : List Item) (last new : State) (f : Frame) (chunks more : List Chunk) → OutputOf rest chunks → EndsIn rest last → FrameStep last f new →
+replays_append : (rest : List Item) (last new : State) (f : Frame) (chunks more : List Chunk) → OutputOf rest chunks → EndsIn rest last → FrameStep last f new →
     FramePuts last f f.end more → OutputOf (rest ++ items.Frame f ∷ []) (chunks ++ more)
-output_append [] last new f chunks more h at step puts = absurd h
-output_append (items.Opening o ∷ rest) last new f chunks more h at step puts =
-    let e : at.0 ≡ h.0 = at.1.state_is ∙ sym h.1.state_is in
-    let from_there = subst (λ (m : State). StateAtFrom m (frames_of rest) (total (frames_of rest)) last) e at.2 in
-    (h.0, h.1, subst (λ (fs : List Frame). PutFrom h.0 fs (chunks ++ more)) (sym (frames-append rest f)) (put_append (frames_of rest) h.0 last new f chunks more h.2 from_there step puts))
-output_append (items.Frame g ∷ rest) last new f chunks more h at step puts = absurd h
-output_append (items.Part p ∷ rest) last new f chunks more h at step puts = absurd h
+replays_append [] last new f chunks more h at step puts = absurd h
+replays_append (items.Opening o ∷ rest) last new f chunks more h at step puts = output_append o rest last new f chunks more h at step puts
+replays_append (items.Frame g ∷ rest) last new f chunks more h at step puts = absurd h
+replays_append (items.Part p ∷ rest) last new f chunks more h at step puts = absurd h
 
 pub replayed_next : (guest : ℕ) (records : List Record) (r : Record) (old new : State) (chunks more : List Chunk) → IsReplayed guest records old chunks →
     IsNextFrame guest (length records) r old new more → IsReplayed guest (records ++ r ∷ []) new (chunks ++ more)
@@ -96,7 +80,7 @@ replayed_next guest records r old new chunks more h next =
       numbered = numbered-append guest 0 records f h.numbered refl (omega arith);
       ends = both.1;
       puts = subst (λ (is : List Item). OutputOf is (chunks ++ more)) (sym (items-append records f))
-          (output_append (items_of records) old new next.frame chunks more h.puts h.ends next.step next.puts);
+          (replays_append (items_of records) old new next.frame chunks more h.puts h.ends next.step next.puts);
     } in
     subst (λ (q : Record). IsReplayed guest (records ++ q ∷ []) new (chunks ++ more)) same replayed
 

@@ -12,7 +12,7 @@ use Rattle.rrv_model.specs.declared.record.CallRecord.{CallRecord}
 use Rattle.rrv_model.specs.Memory.{Memory, IsMemory, mapped, unmapped, protected, page_count, page_bytes, pages_for, highest_free_up_to, readable, writable, all_mapped, all_free}
 use Rattle.rrv_model.specs.State.{State, IsState, IsThread, IsRunning, thread_at, register}
 use Rattle.rrv_model.specs.Step.{word_at}
-use Rattle.rrv_model.specs.CallRows.{Row, Returns, NoResult, AsksInput, AsksRandom, AsksTime, argument, set_register, fails, only_returns, unchanged, range, transfer, is_output, read_row, write_row, writev_row, buffers_at, clipped, all_readable, total_len, exit_row, exit_group_row, clears, leaves, ends, wakes, waits, waits_at, waiters, change_thread, set_tid_address_row, futex_row, clone_row, child_of, tid_places, are_clone_flags, has_flag, all_writable, permissions_of, page_limit, brk_row, munmap_row, mmap_place, maps_at, mmap_row, mprotect_row, getrandom_row, clock_gettime_row, row_of, syscall_of}
+use Rattle.rrv_model.specs.CallRows.{Row, Returns, NoResult, AsksInput, AsksRandom, AsksTime, argument, set_register, fails, only_returns, range, transfer, is_output, read_row, write_row, writev_row, buffers_at, clipped, all_readable, total_len, exit_row, exit_group_row, clears, wakes, waits, waits_at, waiters, set_tid_address_row, futex_row, clone_row, child_of, tid_places, are_clone_flags, has_flag, all_writable, permissions_of, page_limit, brk_row, munmap_row, mmap_place, maps_at, mmap_row, mprotect_row, getrandom_row, clock_gettime_row, row_of, syscall_of}
 use Rattle.rrv_model.specs.declared.syscall.Syscall.{Syscall}
 use Rattle.rrv_model.specs.declared.syscall.Syscall.TheVariants as calls
 use Rattle.rrv_model.specs.Calls.{Answer, Silence, Bytes, Time, Calls, HasRecord, after_call, call_row, writes, results}

@@ -2,14 +2,17 @@
 use Rattle.std.proofs.Common.{◌≡◌, ℕ, ◌+◌, ◌-◌, Bool, true, false, nat_le, List, [], ◌∷◌, ◌++◌, length, refl, sym, ◌∙◌, ap, subst, arith}
 use Rattle.std.specs.Prelude.{MatchBool}
 use Rattle.std.proofs.lemmas.Bool.Decides.{nat_tests}
+use Rattle.std.proofs.lemmas.List.{append-nil, append_assoc}
 use Rattle.std.proofs.lemmas.List.Sums.{sum_by-cons}
 use Rattle.rrv_model.specs.declared.record.Frame.{Frame}
+use Rattle.rrv_model.specs.declared.record.Opening.{Opening}
 use Rattle.rrv_model.specs.declared.record.Part.{Part}
 use Rattle.rrv_model.specs.declared.record.Item.{Item}
 use Rattle.rrv_model.specs.declared.record.Item.TheVariants as items
 use Rattle.rrv_model.specs.declared.record.Record.{Record}
 use Rattle.rrv_model.specs.State.{State}
 use Rattle.rrv_model.specs.FrameStep.{Steps, FrameStep}
+use Rattle.rrv_model.specs.Output.{Chunk, FramePuts, Output, PutFrom}
 use Rattle.rrv_model.specs.StateAt.{total, StateAtFrom}
 use Rattle.rrv_model.specs.Recording.{IsNumbered, ItemsFollow, Starts, EndsIn, OneEnd, FramesAppend, items_of, frames_of, frame_record, base_after, row_after}
 use Rattle.rrv_model.proofs.FrameLaws.{one_end, one_state_after_frame}
@@ -119,3 +122,24 @@ frames_append records guest old new f h numbered at step =
       record { guest = guest; numbered = numbered-append guest 0 records r numbered refl (omega arith); starts = subst Starts same longer.0 },
       subst (λ (is : List Item). EndsIn is new) same longer.1,
     )
+
+-- ---- a longer output
+
+put_append : (frames : List Frame) (s last new : State) (f : Frame) (chunks more : List Chunk) → PutFrom s frames chunks →
+    StateAtFrom s frames (total frames) last → FrameStep last f new → FramePuts last f f.end more → PutFrom s (frames ++ f ∷ []) (chunks ++ more)
+put_append [] s last new f chunks more h at step puts =
+    let here = subst (λ (m : State). FrameStep m f new) at.1 step in
+    let told = subst (λ (m : State). FramePuts m f f.end more) at.1 puts in
+    (new, more, [], here, told, refl, ap (λ cs. cs ++ more) h ∙ sym (append-nil more))
+put_append (g ∷ frames) s last new f chunks more h at step puts =
+    let open_ = at_total_first s g frames last at in
+    let e : open_.0 ≡ h.0 = one_state_after_frame s g open_.0 h.0 open_.1 h.3 in
+    let rest = put_append frames h.0 last new f h.2 more h.5 (subst (λ (m : State). StateAtFrom m frames (total frames) last) e open_.2) step puts in
+    (h.0, h.1, h.2 ++ more, h.3, h.4, rest, ap (λ cs. cs ++ more) h.6 ∙ append_assoc h.1 h.2 more)
+
+pub output_append : (o : Opening) (rest : List Item) (last new : State) (f : Frame) (chunks more : List Chunk) → Output o (frames_of rest) chunks →
+    EndsIn (items.Opening o ∷ rest) last → FrameStep last f new → FramePuts last f f.end more → Output o (frames_of (rest ++ items.Frame f ∷ [])) (chunks ++ more)
+output_append o rest last new f chunks more h at step puts =
+    let e : at.0 ≡ h.0 = at.1.state_is ∙ sym h.1.state_is in
+    let from_there = subst (λ (m : State). StateAtFrom m (frames_of rest) (total (frames_of rest)) last) e at.2 in
+    (h.0, h.1, subst (λ (fs : List Frame). PutFrom h.0 fs (chunks ++ more)) (sym (frames-append rest f)) (put_append (frames_of rest) h.0 last new f chunks more h.2 from_there step puts))

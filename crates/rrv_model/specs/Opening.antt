@@ -86,7 +86,8 @@ stack_words file name =
 -- the image and the stack, of zeros
 abbrev pub bare_memory : List ℕ → Memory
 bare_memory file =
-    mapped stack_at stack_bytes (record { read = Bool.true; write = Bool.true; execute = Bool.false }) (image_memory file)
+    mapped stack_at stack_bytes (record { read = Bool.true; write = Bool.true; execute = Bool.false })
+    (image_memory file)
 
 abbrev pub memory_with_words : List ℕ → List ℕ → Memory
 memory_with_words file name =

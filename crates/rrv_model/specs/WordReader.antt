@@ -108,11 +108,13 @@ by_code code w =
     else if code == 0b0010111 then Some (Auipc (rd_of w) (u_immediate w))
     else if code == 0b1101111 then Some (Jal (rd_of w) (j_immediate w))
     else if code == 0b1100111 then if_zero (funct3 w) (Some (Jalr (rd_of w) (rs1_of w) (i_immediate w)))
-    else if code == 0b1100011 then option_map (λ t. Branch t (rs1_of w) (rs2_of w) (b_immediate w)) (branch_of (funct3 w))
+    else if code == 0b1100011 then
+    option_map (λ t. Branch t (rs1_of w) (rs2_of w) (b_immediate w)) (branch_of (funct3 w))
     else if code == 0b0000011 then option_map (λ k. Load k (rd_of w) (rs1_of w) (i_immediate w)) (load_of (funct3 w))
     else if code == 0b0100011 then option_map (λ k. Store k (rs1_of w) (rs2_of w) (s_immediate w)) (store_of (funct3 w))
     else if code == 0b0010011 then immediate_or_shift (immediate_of (funct3 w)) w
-    else if code == 0b0110011 then option_map (λ op. Op op (rd_of w) (rs1_of w) (rs2_of w)) (op_of (funct3 w) (funct7 w))
+    else if code == 0b0110011 then
+    option_map (λ op. Op op (rd_of w) (rs1_of w) (rs2_of w)) (op_of (funct3 w) (funct7 w))
     else if code == 0b0001111 then fence_of (funct3 w)
     else if code == 0b1110011 then system_of w
     else if code == 0b0101111 then if_two (funct3 w) (atomic_of (funct5 w) w)

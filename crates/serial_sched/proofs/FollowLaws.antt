@@ -1,6 +1,8 @@
 -- Where a frame leads nowhere.
 use Rattle.std.proofs.Common.{◌≡◌, ◌≢◌, ℕ, ◌≤◌, List, false, is_some, Option, Some, None, Result, Ok, Err, OnOk, IsErrOf, refl, sym, ◌∙◌, ap, subst}
+use Rattle.std.specs.Prelude.{IsErrAnd}
 use Rattle.std.proofs.lemmas.Bool.{false≢true}
+use Rattle.rrv_model.specs.declared.limits.TheConstants.{MAX_QUANTUM}
 use Rattle.rrv_model.specs.declared.machine.FaultKind.{FaultKind}
 use Rattle.rrv_model.specs.declared.machine.GuestEnd.{GuestEnd}
 use Rattle.rrv_model.specs.declared.record.CallRecord.{CallRecord}
@@ -16,8 +18,9 @@ use Rattle.guest_calls.specs.Asking.{Question, CallIsAnswered}
 use Rattle.guest_calls.specs.Growth.{CallMayGrow}
 use Rattle.guest_calls.specs.Runs.{RunsTo, RunsToCall}
 use Rattle.serial_sched.specs.Answered.{answered, Recalls}
-use Rattle.serial_sched.specs.Slices.{CallPuts}
-use Rattle.serial_sched.specs.Follows.{CallMeetsNoMemory, EndMeetsNoMemory, FrameMeetsNoMemory, Reaches, ReachesCall, ReachesFault}
+use Rattle.serial_sched.specs.declared.fault.FollowFault.{FollowFault}
+use Rattle.serial_sched.specs.declared.fault.FollowFault.TheVariants as faults
+use Rattle.serial_sched.specs.Follows.{CallMeetsNoMemory, EndMeetsNoMemory, Follows, FrameMeetsNoMemory, Reaches, ReachesCall, ReachesFault}
 use Rattle.serial_sched.proofs.OneStep.{call_reached, reached, one_run_end, one_called}
 use Rattle.serial_sched.proofs.RecordedAnswers.{told_again}
 use Rattle.serial_sched.proofs.SliceLaws.{call_puts, ends_in_call}
@@ -85,25 +88,20 @@ call_put tid count q r answer old called after chunks e run calls puts =
 
 -- ---- a frame by its end
 
-pub frame_followed : (old new : State) (f : Frame) (end : End) → f.end ≡ end → old.ended ≡ None → f.count ≤ 1_048_576 → FrameStepBy end old f.tid f.count new →
-    FrameStep old f new
-frame_followed old new f end e runs limit goes =
-    record { runs = runs; limit = limit; goes = subst (λ (x : End). FrameStepBy x old f.tid f.count new) (sym e) goes }
+module _ {T : Type 0} (f : Frame) (old new : State) where
+  pub frame_followed : (r : Result T FollowFault) → old.ended ≡ None → f.count ≤ MAX_QUANTUM → Follows f.end old f.tid f.count r new → OnOk r (FrameStep old f new)
+  frame_followed (Ok x) runs limit follows = record { runs = runs; limit = limit; goes = follows }
+  frame_followed (Err e) runs limit follows = tt
 
-pub frame_meets : (old : State) (f : Frame) (end : End) → f.end ≡ end → old.ended ≡ None → f.count ≤ 1_048_576 → EndMeetsNoMemory end old f.tid f.count →
-    FrameMeetsNoMemory old f
-frame_meets old f end e runs limit meets =
-    record { runs = runs; limit = limit; meets = subst (λ (x : End). EndMeetsNoMemory x old f.tid f.count) (sym e) meets }
+  pub frame_goes_nowhere : (r : Result T FollowFault) → Follows f.end old f.tid f.count r new → IsErrOf r faults.GoesNowhere → (other : State) → FrameStep old f other → ⊥
+  frame_goes_nowhere (Ok x) follows e other p = cc
+  frame_goes_nowhere (Err faults.GoesNowhere) follows e other p = follows other p.goes
+  frame_goes_nowhere (Err faults.Memory) follows e other p = cc
 
-pub frame_leads : (old new : State) (f : Frame) (end : End) → f.end ≡ end → FrameStep old f new → FrameStepBy end old f.tid f.count new
-frame_leads old new f end e p = subst (λ (x : End). FrameStepBy x old f.tid f.count new) e p.goes
-
-pub frame_puts : (old : State) (f : Frame) (end : End) (chunks : List Chunk) → f.end ≡ end → CallPuts end old f chunks → CallPuts f.end old f chunks
-frame_puts old f end chunks e p = subst (λ (x : End). CallPuts x old f chunks) (sym e) p
-
-pub on_ok : {T E : Type 0} {P : Type 0} (r : Result T E) → P → OnOk r P
-on_ok (Ok x) p = p
-on_ok (Err x) p = tt
+  pub frame_meets : (r : Result T FollowFault) → old.ended ≡ None → f.count ≤ MAX_QUANTUM → Follows f.end old f.tid f.count r new → IsErrOf r faults.Memory → FrameMeetsNoMemory old f
+  frame_meets (Ok x) runs limit follows e = absurd cc
+  frame_meets (Err faults.GoesNowhere) runs limit follows e = absurd cc
+  frame_meets (Err faults.Memory) runs limit follows e = record { runs = runs; limit = limit; meets = follows }
 
 -- the exit of a `?`
 one_error : {A E : Type 0} (r : Result A E) (x y : E) → r ≡ Err x → r ≡ Err y → x ≡ y
@@ -111,6 +109,14 @@ one_error r x y p q = cc
 
 pub again : {A B E : Type 0} (r : Result A E) (y x f : E) → r ≡ Err y → y ≡ x → r ≡ Err f → IsErrOf {T = B} (Err x) f
 again r y x f p q e = let w : x ≡ f = sym q ∙ one_error r y f p e in ap Err w
+
+-- at that exit the error is the one that was found
+pub refused : {A B : Type 0} (r : Result A FollowFault) (x : FollowFault) (end : End) (tid count : ℕ) (old new : State) → IsErrAnd r (λ y. y ≡ x) →
+    (IsErrOf {T = B} (Err x) faults.GoesNowhere → (other : State) → FrameStepBy end old tid count other → ⊥) →
+    (IsErrOf {T = B} (Err x) faults.Memory → EndMeetsNoMemory end old tid count) → Follows end old tid count r new
+refused (Ok y) x end tid count old new is nowhere memory = absurd is
+refused (Err faults.GoesNowhere) x end tid count old new is nowhere memory = nowhere (ap Err (sym is))
+refused (Err faults.Memory) x end tid count old new is nowhere memory = memory (ap Err (sym is))
 
 pub same_kinds : (end : RunEnd) (a b : FaultKind) → end ≡ ends.Fault a → end ≡ ends.Fault b → a ≡ b
 same_kinds end a b p q = cc

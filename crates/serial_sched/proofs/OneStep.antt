@@ -1,8 +1,5 @@
 -- From a state a thread goes one way at most.
-use Rattle.std.proofs.Common.{◌≡◌, ℕ, zero, suc, ◌+◌, ◌-◌, ◌<◌, ◌≤◌, Option, Some, None, refl, sym, ◌∙◌, ◌≢◌, ap, cond, subst, arith}
-use Rattle.std.specs.Ordering.{nat_cmp}
-use Rattle.std.specs.Cmp.{nat_cmp_total, eq_by_cmp_equiv}
-use Rattle.std.specs.FinMap.{FinMap, get, insert, get-insert}
+use Rattle.std.proofs.Common.{◌≡◌, ℕ, zero, suc, ◌+◌, ◌-◌, ◌<◌, ◌≤◌, Option, Some, None, refl, sym, ◌∙◌, ◌≢◌, ap, subst, arith}
 use Rattle.rrv_model.specs.declared.machine.FaultKind.{FaultKind}
 use Rattle.rrv_model.specs.declared.machine.Thread.{Thread}
 use Rattle.rrv_model.specs.State.{State, thread_at, IsRunning}
@@ -10,6 +7,7 @@ use Rattle.rrv_model.specs.Step.{Hart, HartStep, Outcome, Next, Called, Faulted,
 use Rattle.rrv_model.specs.FrameStep.{Steps}
 use Rattle.rrv_model.proofs.CallLaws.{same_thread}
 use Rattle.rrv_model.proofs.FrameLaws.{one_outcome, one_step, one_end}
+use Rattle.rrv_model.proofs.Threads.{get-insert_same}
 use Rattle.rv_machine.specs.declared.run.RunEnd.{RunEnd}
 use Rattle.rv_machine.specs.declared.run.RunEnd.TheVariants as ends
 use Rattle.guest_calls.specs.Runs.{RunsTo, RunsToCall}
@@ -159,10 +157,6 @@ running_at ends.Call n tid s a h p =
 running_at (ends.Fault kind) n tid s a h p =
     running_before (n - 1) tid s a p.steps (running _ p.faults.thread p.faults.step.there p.faults.step.running)
 running_at ends.Memory n tid s a h p = absurd p
-
-pub get-insert_same : (m : FinMap nat_cmp Thread) (k : ℕ) (v : Thread) → get (insert m k v) k ≡ Some v
-get-insert_same m k v =
-    get-insert nat_cmp_total m k v k ∙ ap (λ b. cond b (Some v) (get m k)) ((eq_by_cmp_equiv nat_cmp_total).refl k)
 
 -- a thread runs on behind its ECALL
 pub running_behind : (s : State) (tid : ℕ) (a : State) → CallsFrom s tid a → IsRunning (thread_at a tid)

@@ -16,16 +16,17 @@ use Rattle.rrv_model.specs.Step.{ThreadMayStore, ThreadMayTakeMemory}
 use Rattle.rrv_model.specs.CallRows.{change_thread, syscall_of}
 use Rattle.rrv_model.specs.Calls.{Answer, Calls}
 use Rattle.rrv_model.specs.FrameStep.{EndsInCall, FrameStep, Steps, closed, closed_at_end}
-use Rattle.rrv_model.specs.Output.{CallPutsAt, Chunk, put_out_by, puts}
-use Rattle.rrv_model.specs.RecordText.{HasCallText}
+use Rattle.rrv_model.specs.Output.{CallPutsAt, Chunk, call_in, put_out_by, puts}
+use Rattle.rrv_model.specs.RecordText.{HasCallText, HasFrameText, HasTidAndCount}
 use Rattle.guest_calls.specs.Guest.{GuestValue, chunks_of, counted, state_of}
 use Rattle.guest_calls.specs.Snapshots.{guest_snapshots}
 use Rattle.guest_calls.specs.Runs.{RunsToCall, RunsToFault, before_call}
 use Rattle.guest_calls.specs.Asking.{Question, CallAsks, CallIsAnswered}
 use Rattle.guest_calls.specs.Growth.{CallMayGrow}
 use Rattle.serial_sched.specs.Asking.{Gives}
-use Rattle.serial_sched.specs.Slices.{CanRun, CallsToGrow, IsSliceOf, IsUntouched, IsWhole, NextMayGrow}
-use Rattle.serial_sched.proofs.OneStep.{call_reached, get-insert_same, running_behind, steps_end_none}
+use Rattle.serial_sched.specs.Slices.{CanRun, FitsChoice, IsSliceOf, IsUntouched, IsWhole, NextMayGrow}
+use Rattle.rrv_model.proofs.Threads.{get-insert_same}
+use Rattle.serial_sched.proofs.OneStep.{call_reached, running_behind, steps_end_none}
 use Rattle.serial_sched.proofs.Ecalls.{call_may_take, store_may_take}
 
 -- ---- what a call puts out
@@ -70,35 +71,10 @@ call_runs_on limit tid count s called p runs =
 
 -- ---- where an instruction finds no memory
 
--- where nothing has run, the first instruction found no memory
-none_ran : {E : Type 0} (P : State → Type 0) (r : Result Frame E) (tid count : ℕ) (s last : State) → Steps count tid s last → P last →
-    OnErr r (count ≡ 0) → OnErr r (P s)
-none_ran P (Ok f) tid count s last steps p e = tt
-none_ran P (Err x) tid count s last steps p e =
-    let q : last ≡ s = subst (λ (n : ℕ). Steps n tid s last) e steps in subst P q p
-
-pub store_took : {E : Type 0} (r : Result Frame E) (tid count : ℕ) (s last : State) → Steps count tid s last → ThreadMayStore last tid →
-    OnErr r (count ≡ 0) → OnErr r (ThreadMayTakeMemory s tid)
-store_took r tid count s last steps stores e = none_ran (λ (x : State). ThreadMayTakeMemory x tid) r tid count s last steps (store_may_take last tid stores) e
-
-pub store_grows : {E : Type 0} (r : Result Frame E) (tid count : ℕ) (s last : State) → Steps count tid s last → ThreadMayStore last tid →
-    OnErr r (count ≡ 0) → OnErr r (NextMayGrow s tid)
-store_grows r tid count s last steps stores e = none_ran (λ (x : State). NextMayGrow x tid) r tid count s last steps (inl stores) e
-
-pub refused_call_took : {E : Type 0} (r : Result Frame E) (limit tid count : ℕ) (s called : State) → RunsToCall limit tid count s called →
-    OnErr r (count - 1 ≡ 0) → OnErr r (ThreadMayTakeMemory s tid)
-refused_call_took r limit tid count s called p first =
-    none_ran (λ (x : State). ThreadMayTakeMemory x tid) r tid (count - 1) s p.before p.steps (call_may_take p.before tid called p.calls) first
-
--- the last of the steps is a call that may grow
-calls_to_grow : (limit tid count : ℕ) (s called : State) (p : RunsToCall limit tid count s called) → CallMayGrow called tid (thread_at called tid) →
-    CallsToGrow p.before tid
-calls_to_grow limit tid count s called p grows = record { called = called; calls = p.calls; grows = grows }
-
-pub refused_call_grows : {E : Type 0} (r : Result Frame E) (limit tid count : ℕ) (s called : State) → RunsToCall limit tid count s called →
-    CallMayGrow called tid (thread_at called tid) → OnErr r (count - 1 ≡ 0) → OnErr r (NextMayGrow s tid)
-refused_call_grows r limit tid count s called p grows first =
-    none_ran (λ (x : State). NextMayGrow x tid) r tid (count - 1) s p.before p.steps (inr (calls_to_grow limit tid count s called p grows)) first
+-- what may find no memory may take some
+grow_may_take : (s : State) (tid : ℕ) → NextMayGrow s tid → ThreadMayTakeMemory s tid
+grow_may_take s tid (inl stores) = store_may_take s tid stores
+grow_may_take s tid (inr calls) = call_may_take s tid calls.called calls.calls
 
 -- a run to a call and what the call does end a slice
 pub ends_in_call : (limit tid count : ℕ) (s called after new : State) (answer : Answer) (r : CallRecord) → RunsToCall limit tid count s called →
@@ -132,23 +108,46 @@ pub record Counts {O : Type 0} (old : GuestValue) (count : ℕ) (new : GuestValu
 abbrev preempt : Choice → ℕ → Frame
 preempt choice count = record { tid = choice.tid; count = count; end = ends.Preempt }
 
+-- a slice whose frame ends in no call
+quiet_slice : {O : Type 0} (gives : Gives O) (old new : GuestValue) (choice : Choice) (before after : O) (f : Frame) → call_in f.end ≡ None →
+    FrameStep (state_of old) f (state_of new) → HasFrameText f.end f.tid f.count → FitsChoice f.end (state_of old) f choice →
+    Counts old f.count new before after → IsSliceOf gives old choice f new before after
+quiet_slice gives old new choice before after f none frame text fits counts = record {
+  frame = frame;
+  text = text;
+  fits = fits;
+  puts = rw none tt;
+  keeps = rw none counts.put;
+  ran = counts.ran;
+  snapshots = counts.snapshots;
+  answered = rw none counts.environment;
+  unasked = λ _. counts.environment;
+}
+
+-- what comes of a slice that ends before an instruction which found no memory: none where it would be the first one
+pub record StopsShort {O E : Type 0} (gives : Gives O) (old new : GuestValue) (choice : Choice) (before after : O) (r : Result Frame E) : Type 0 where
+  pub slice : IfOk r (λ f. IsSliceOf gives old choice f new before after)
+  pub memory : OnErr r (ThreadMayTakeMemory (state_of old) choice.tid)
+  pub grows : OnErr r (NextMayGrow (state_of old) choice.tid)
+  pub refused : OnErr r (IsUntouched old new before after)
+
+-- counting nothing changes nothing
+counted_none : (n : ℕ) → n < 2 ^ 64 → counted n 0 ≡ n
+counted_none n low = omega arith
+
 module _ {O : Type 0} (gives : Gives O) (old new : GuestValue) (choice : Choice) (before after : O) (can : CanRun (state_of old) choice) where
+  counted_text : (count : ℕ) → 1 ≤ count → count ≤ choice.quantum → HasTidAndCount choice.tid count
+  counted_text count some within =
+      let most = can.quantum.1 in record { tid_low = can.tid.0; tid_high = can.tid.1; count_low = some; count_high = omega arith }
+
   preempted : (count : ℕ) (last : State) → 1 ≤ count → count ≤ choice.quantum → Steps count choice.tid (state_of old) last →
       IsWhole (state_of old) choice.tid count choice.quantum → state_of new ≡ closed last → Counts old count new before after →
       IsSliceOf gives old choice (preempt choice count) new before after
   preempted count last some within steps whole closes counts =
       let most = can.quantum.1 in
-      record {
-        frame = record { runs = can.runs; limit = omega arith; goes = record { some = some; last = last; steps = steps; new_is = closes } };
-        text = record { tid_low = can.tid.0; tid_high = can.tid.1; count_low = some; count_high = omega arith };
-        fits = (refl, whole);
-        puts = tt;
-        keeps = counts.put;
-        ran = counts.ran;
-        snapshots = counts.snapshots;
-        answered = counts.environment;
-        unasked = λ _. counts.environment;
-      }
+      quiet_slice gives old new choice before after (preempt choice count) refl
+      (record { runs = can.runs; limit = omega arith; goes = record { some = some; last = last; steps = steps; new_is = closes } })
+      (counted_text count some within) (refl, whole) counts
 
   -- the whole quantum
   pub limit_slice : (f : Frame) (count : ℕ) (last : State) → f ≡ preempt choice count → count ≡ choice.quantum →
@@ -160,58 +159,57 @@ module _ {O : Type 0} (gives : Gives O) (old new : GuestValue) (choice : Choice)
       (preempted count last (omega arith) (omega arith) (subst (λ n. Steps n choice.tid (state_of old) last) (sym e) steps) (inl e) closes counts)
 
   -- less, since there was no memory
-  pub short_slice : {E : Type 0} (r : Result Frame E) (count : ℕ) (last : State) → count < choice.quantum →
-      Steps count choice.tid (state_of old) last → ThreadMayTakeMemory last choice.tid → NextMayGrow last choice.tid → OnOk r (1 ≤ count) →
-      IfOk r (λ f. f ≡ preempt choice count) → OnOk r (state_of new ≡ closed last) → Counts old count new before after →
-      IfOk r (λ f. IsSliceOf gives old choice f new before after)
-  short_slice (Ok f) count last within steps takes grows some frame closes counts =
-      same_frame gives old new choice before after (preempt choice count) f frame
-      (preempted count last some (omega arith) steps
-      (inr (within, record { last = last; steps = steps; takes = takes; grows = grows })) closes counts)
-  short_slice (Err x) count last within steps takes grows some frame closes counts = tt
-
-  -- the next instruction stores
-  pub short_store : {E : Type 0} (r : Result Frame E) (count : ℕ) (last : State) → count < choice.quantum →
-      Steps count choice.tid (state_of old) last → ThreadMayStore last choice.tid → OnOk r (1 ≤ count) →
-      IfOk r (λ f. f ≡ preempt choice count) → OnOk r (state_of new ≡ closed last) → Counts old count new before after →
-      IfOk r (λ f. IsSliceOf gives old choice f new before after)
-  short_store r count last within steps stores some frame closes counts =
-      short_slice r count last within steps (store_may_take last choice.tid stores) (inl stores) some frame closes counts
+  pub stops_short : {E : Type 0} (r : Result Frame E) (count : ℕ) (last : State) → old.ran < 2 ^ 64 → count < choice.quantum →
+      Steps count choice.tid (state_of old) last → NextMayGrow last choice.tid → OnOk r (1 ≤ count) → IfOk r (λ f. f ≡ preempt choice count) →
+      OnOk r (state_of new ≡ closed last) → OnErr r (count ≡ 0) → OnErr r (state_of new ≡ last) → Counts old count new before after →
+      StopsShort gives old new choice before after r
+  stops_short (Ok f) count last low within steps grows some frame closes none same counts =
+      let takes : ThreadMayTakeMemory last choice.tid = grow_may_take last choice.tid grows in
+      let slice : IsSliceOf gives old choice (preempt choice count) new before after =
+      preempted count last some (omega arith) steps
+      (inr (within, record { last = last; steps = steps; takes = takes; grows = grows })) closes counts in
+      record { slice = same_frame gives old new choice before after (preempt choice count) f frame slice; memory = tt; grows = tt; refused = tt }
+  stops_short (Err x) count last low within steps grows some frame closes none same counts =
+      let stays : last ≡ state_of old = subst (λ (n : ℕ). Steps n choice.tid (state_of old) last) none steps in
+      let first : NextMayGrow (state_of old) choice.tid = subst (λ (s : State). NextMayGrow s choice.tid) stays grows in
+      record {
+        slice = tt;
+        memory = grow_may_take (state_of old) choice.tid first;
+        grows = first;
+        refused = record {
+          state = same ∙ stays;
+          ran = counts.ran ∙ ap (counted old.ran) none ∙ counted_none old.ran low;
+          put = counts.put;
+          snapshots = counts.snapshots;
+          environment = counts.environment;
+        };
+      }
 
   -- the ECALL is taken back
-  pub short_call : {E : Type 0} (r : Result Frame E) (count : ℕ) (called back : State) →
+  pub call_stops_short : {E : Type 0} (r : Result Frame E) (count : ℕ) (called back : State) → old.ran < 2 ^ 64 →
       RunsToCall choice.quantum choice.tid count (state_of old) called → CallMayGrow called choice.tid (thread_at called choice.tid) →
       back ≡ before_call choice.tid called → OnOk r (1 ≤ count - 1) → IfOk r (λ f. f ≡ preempt choice (count - 1)) →
-      OnOk r (state_of new ≡ closed back) → Counts old (count - 1) new before after →
-      IfOk r (λ f. IsSliceOf gives old choice f new before after)
-  short_call r count called back p grows e some frame closes counts =
+      OnOk r (state_of new ≡ closed back) → OnErr r (count - 1 ≡ 0) → OnErr r (state_of new ≡ back) → Counts old (count - 1) new before after →
+      StopsShort gives old new choice before after r
+  call_stops_short r count called back low p grows e some frame closes none same counts =
       let least = p.some in let within = p.within in
       let at : back ≡ p.before = e ∙ p.back in
-      short_slice r (count - 1) back (omega arith) (subst (λ (x : State). Steps (count - 1) choice.tid (state_of old) x) (sym at) p.steps)
-      (subst (λ (x : State). ThreadMayTakeMemory x choice.tid) (sym at) (call_may_take p.before choice.tid called p.calls))
-      (subst (λ (x : State). NextMayGrow x choice.tid) (sym at)
-      (inr (calls_to_grow choice.quantum choice.tid count (state_of old) called p grows))) some frame closes counts
+      stops_short r (count - 1) back low (omega arith) (subst (λ (x : State). Steps (count - 1) choice.tid (state_of old) x) (sym at) p.steps)
+      (subst (λ (x : State). NextMayGrow x choice.tid) (sym at) (inr (record { called = called; calls = p.calls; grows = grows })))
+      some frame closes none same counts
 
   pub fault_slice : (count : ℕ) (kind : FaultKind) (last : State) → RunsToFault choice.quantum choice.tid count kind (state_of old) last →
       state_of new ≡ closed_at_end (guest_ends.Faulted kind) last → Counts old count new before after →
       IsSliceOf gives old choice (record { tid = choice.tid; count = count; end = ends.Fault kind }) new before after
   fault_slice count kind last p closes counts =
       let most = can.quantum.1 in let some = p.some in let within = p.within in
-      record {
-        frame = record {
-          runs = can.runs;
-          limit = omega arith;
-          goes = record { some = p.some; before = last; steps = p.steps; faults = p.faults; new_is = closes };
-        };
-        text = record { tid_low = can.tid.0; tid_high = can.tid.1; count_low = p.some; count_high = omega arith };
-        fits = (refl, p.within);
-        puts = tt;
-        keeps = counts.put;
-        ran = counts.ran;
-        snapshots = counts.snapshots;
-        answered = counts.environment;
-        unasked = λ _. counts.environment;
-      }
+      quiet_slice gives old new choice before after (record { tid = choice.tid; count = count; end = ends.Fault kind }) refl
+      (record {
+        runs = can.runs;
+        limit = omega arith;
+        goes = record { some = p.some; before = last; steps = p.steps; faults = p.faults; new_is = closes };
+      })
+      (counted_text count p.some p.within) (refl, p.within) counts
 
   pub call_slice : (f : Frame) (count : ℕ) (called after_call : State) (answer : Answer) (r : CallRecord) →
       f ≡ record { tid = choice.tid; count = count; end = ends.Call r } → RunsToCall choice.quantum choice.tid count (state_of old) called →
@@ -229,7 +227,7 @@ module _ {O : Type 0} (gives : Gives O) (old new : GuestValue) (choice : Choice)
           limit = omega arith;
           goes = ends_in_call choice.quantum choice.tid count (state_of old) called after_call (state_of new) answer r p calls closes;
         };
-        text = (record { tid_low = can.tid.0; tid_high = can.tid.1; count_low = p.some; count_high = omega arith }, text);
+        text = (counted_text count p.some p.within, text);
         fits = (refl, p.within);
         puts = call_puts choice.quantum choice.tid count (state_of old) called after_call answer r (chunks_of new.put) p calls puts;
         keeps = tt;
@@ -238,27 +236,6 @@ module _ {O : Type 0} (gives : Gives O) (old new : GuestValue) (choice : Choice)
         answered = record { called = called; reaches = reaches; answered = answered };
         unasked = λ no. unasked (λ asks. no (record { called = called; reaches = reaches; asks = asks }));
       })
-
--- ---- refusals
-
--- counting nothing changes nothing
-counted_none : (n : ℕ) → n < 2 ^ 64 → counted n 0 ≡ n
-counted_none n low = omega arith
-
--- where nothing has run, nothing has changed
-pub untouched : {O E : Type 0} (r : Result Frame E) (tid count : ℕ) (old new : GuestValue) (last : State) (before after : O) →
-    old.ran < 2 ^ 64 → Steps count tid (state_of old) last → OnErr r (count ≡ 0) → OnErr r (state_of new ≡ last) →
-    Counts old count new before after → OnErr r (IsUntouched old new before after)
-untouched (Ok f) tid count old new last before after low steps none same counts = tt
-untouched (Err x) tid count old new last before after low steps none same counts =
-    let stays : last ≡ state_of old = subst (λ (n : ℕ). Steps n tid (state_of old) last) none steps in
-    record {
-      state = same ∙ stays;
-      ran = counts.ran ∙ ap (counted old.ran) none ∙ counted_none old.ran low;
-      put = counts.put;
-      snapshots = counts.snapshots;
-      environment = counts.environment;
-    }
 
 -- ---- a guest of which no thread runs
 
@@ -269,14 +246,6 @@ pub stuck_slice : {O : Type 0} (gives : Gives O) (old new : GuestValue) (choice 
     FrameStep (state_of old) f (state_of new) → new.ran ≡ counted old.ran 0 → new.put ≡ old.put →
     guest_snapshots new ≡ guest_snapshots old → IsSliceOf gives old choice f new outside outside
 stuck_slice gives old new choice outside f is step ran put snapshots =
-    same_frame gives old new choice outside outside stuck f is (record {
-      frame = subst (λ (x : Frame). FrameStep (state_of old) x (state_of new)) is step;
-      text = (refl, refl);
-      fits = tt;
-      puts = tt;
-      keeps = put;
-      ran = ran;
-      snapshots = snapshots;
-      answered = refl;
-      unasked = λ _. refl;
-    })
+    same_frame gives old new choice outside outside stuck f is
+    (quiet_slice gives old new choice outside outside stuck refl (subst (λ (x : Frame). FrameStep (state_of old) x (state_of new)) is step)
+    (refl, refl) tt (record { ran = ran; put = put; snapshots = snapshots; environment = refl }))

@@ -1,15 +1,18 @@
 -- Where the steps of a frame lead.
-use Rattle.std.specs.Prelude.{◌≡◌, ℕ, ◌-◌, ◌<◌, ◌≤◌, ◌⊎◌, None}
+use Rattle.std.specs.Prelude.{◌≡◌, ℕ, ◌-◌, ◌<◌, ◌≤◌, ◌⊎◌, None, Result, Ok, Err}
+use Rattle.rrv_model.specs.declared.limits.TheConstants.{MAX_QUANTUM}
 use Rattle.rrv_model.specs.declared.machine.FaultKind.{FaultKind}
 use Rattle.rrv_model.specs.declared.record.End.{End}
 use Rattle.rrv_model.specs.declared.record.End.TheVariants as frame_ends
 use Rattle.rrv_model.specs.declared.record.Frame.{Frame}
 use Rattle.rrv_model.specs.State.{State, thread_at}
 use Rattle.rrv_model.specs.Step.{CallsFrom, FaultsFrom, ThreadMayStore}
-use Rattle.rrv_model.specs.FrameStep.{Steps}
+use Rattle.rrv_model.specs.FrameStep.{FrameStepBy, Steps}
 use Rattle.rv_machine.specs.declared.run.RunEnd.{RunEnd}
 use Rattle.rv_machine.specs.declared.run.RunEnd.TheVariants.{Limit, Call, Fault, Memory}
 use Rattle.guest_calls.specs.Growth.{CallMayGrow}
+use Rattle.serial_sched.specs.declared.fault.FollowFault.{FollowFault}
+use Rattle.serial_sched.specs.declared.fault.FollowFault.TheVariants as follow_faults
 
 -- the last of so many instructions is a call
 pub record ReachesCall (count tid : ℕ) (old new : State) : Type 0 where
@@ -52,8 +55,14 @@ EndMeetsNoMemory (frame_ends.Call r) old tid count = MeetsNoMemory old tid count
 EndMeetsNoMemory (frame_ends.Fault kind) old tid count = MeetsNoMemory old tid count
 EndMeetsNoMemory frame_ends.Stuck old tid count = ⊥
 
+-- what following a frame of such an end comes to: the state that it leads to, or why there is none
+abbrev pub Follows : {T : Type 0} → End → State → ℕ → ℕ → Result T FollowFault → State → Type 0
+Follows end old tid count (Ok x) new = FrameStepBy end old tid count new
+Follows end old tid count (Err follow_faults.GoesNowhere) new = (other : State) → FrameStepBy end old tid count other → ⊥
+Follows end old tid count (Err follow_faults.Memory) new = EndMeetsNoMemory end old tid count
+
 -- the guest could go on, but one of the frame's instructions finds no memory
 pub record FrameMeetsNoMemory (old : State) (f : Frame) : Type 0 where
   pub runs : old.ended ≡ None
-  pub limit : f.count ≤ 1_048_576
+  pub limit : f.count ≤ MAX_QUANTUM
   pub meets : EndMeetsNoMemory f.end old f.tid f.count

@@ -1,5 +1,6 @@
 -- What the slice of a choice does.
 use Rattle.std.specs.Prelude.{◌≡◌, ℕ, ◌^◌, ◌<◌, ◌≤◌, ◌⊎◌, List, Option, None, IfNone, IfSome}
+use Rattle.rrv_model.specs.declared.limits.TheConstants.{MAX_QUANTUM, MIN_QUANTUM}
 use Rattle.rrv_model.specs.declared.record.Choice.{Choice}
 use Rattle.rrv_model.specs.declared.record.End.{End}
 use Rattle.rrv_model.specs.declared.record.End.TheVariants.{Preempt, Call, Fault, Stuck}
@@ -53,7 +54,7 @@ KeepsPut end old new = IfNone (call_in end) (new ≡ old)
 
 -- the quantum is within the limits
 abbrev pub IsQuantum : ℕ → Type 0
-IsQuantum quantum = (64 ≤ quantum) × (quantum ≤ 1_048_576)
+IsQuantum quantum = (MIN_QUANTUM ≤ quantum) × (quantum ≤ MAX_QUANTUM)
 
 -- the guest hasn't ended, and some thread runs
 abbrev pub IsLive : State → Type 0

@@ -32,7 +32,7 @@ pub struct RoundRobin {
     pub quantum: u32,
     /// The tid that was chosen last, or 0.
     pub last: u32,
-    ghost fits: { (64 ≤ quantum) × (quantum ≤ 1_048_576) },
+    ghost fits: { IsQuantum quantum },
 }
 
 impl RoundRobin {

@@ -2,14 +2,14 @@
 
 ghost use Rattle.std.specs.Prelude.{◌≡◌, ◌≤◌, ◌⊎◌, None, IfOk, OnOk, IsErrOf};
 ghost use Rattle.rrv_model.specs.State.{State};
-ghost use Rattle.rrv_model.specs.FrameStep.{FrameStep, FrameStepBy, Steps, Preempts, EndsInCall, EndsInFault, IsStuck};
+ghost use Rattle.rrv_model.specs.FrameStep.{FrameStep, Steps};
 ghost use Rattle.rrv_model.specs.Output.{CallPutsAt};
 ghost use Rattle.rv_machine.specs.declared.run.RunEnd.{RunEnd};
 ghost use Rattle.guest_calls.specs.Snapshots.{guest_snapshots};
 ghost use Rattle.guest_calls.specs.Guest.{state_of, counted, chunks_of};
 ghost use Rattle.guest_calls.specs.Runs.{RunsTo};
 ghost use Rattle.serial_sched.specs.Slices.{CallPuts, KeepsPut};
-ghost use Rattle.serial_sched.specs.Follows.{CallMeetsNoMemory, FrameMeetsNoMemory, MeetsNoMemory, Reaches};
+ghost use Rattle.serial_sched.specs.Follows.{Follows, FrameMeetsNoMemory, MeetsNoMemory, Reaches};
 
 use crate::comparison::is_same_call;
 use crate::fault::FollowFault;
@@ -38,6 +38,18 @@ pub fn follow(alloc: Global, guest: &mut Guest, frame: &Frame) -> Result<(), Fol
     if MAX_QUANTUM < frame.count {
         return Err(FollowFault::GoesNowhere);
     }
+    follow_to_end(alloc, guest, frame)
+}
+
+fn follow_to_end(alloc: Global, guest: &mut Guest, frame: &Frame) -> Result<(), FollowFault>
+    requires { (state_of guest.old).ended ≡ None }
+    ensures follows { Follows frame.now.end (state_of guest.old) frame.now.tid frame.now.count result
+        (state_of guest.new) }
+    ensures puts { OnOk result (CallPuts frame.now.end (state_of guest.old) frame.now (chunks_of guest.new.put)) }
+    ensures keeps { OnOk result (KeepsPut frame.now.end guest.old.put guest.new.put) }
+    ensures ran { OnOk result (guest.new.ran ≡ counted guest.old.ran frame.now.count) }
+    ensures snapshots { guest_snapshots guest.new ≡ guest_snapshots guest.old }
+{
     match &frame.end {
         End::Preempt => follow_preempt(guest, frame.tid, frame.count),
         End::Call(told) => follow_call(alloc, guest, frame.tid, frame.count, told),
@@ -63,19 +75,31 @@ pub fn steps(guest: &mut Guest, tid: u32, count: u32) -> Result<(), FollowFault>
 }
 
 fn follow_preempt(guest: &mut Guest, tid: u32, count: u32) -> Result<(), FollowFault>
-    ensures follows { OnOk result (Preempts (state_of guest.old) tid count (state_of guest.new)) }
+    ensures follows { Follows End.Preempt (state_of guest.old) tid count result (state_of guest.new) }
     ensures ran { OnOk result (guest.new.ran ≡ counted guest.old.ran count) }
     ensures snapshots { guest_snapshots guest.new ≡ guest_snapshots guest.old }
     ensures put { OnOk result (guest.new.put ≡ guest.old.put) }
-    ensures nowhere { IsErrOf result FollowFault.GoesNowhere
-        → (new : State) → Preempts (state_of guest.old) tid count new → ⊥ }
-    ensures memory { IsErrOf result FollowFault.Memory → MeetsNoMemory (state_of guest.old) tid count }
 {
     if count == 0 {
         return Err(FollowFault::GoesNowhere);
     }
     steps(guest, tid, count)?;
     guest.close_slice(None);
+    Ok(())
+}
+
+fn follow_stuck(guest: &mut Guest, tid: u32, count: u32) -> Result<(), FollowFault>
+    ensures follows { Follows End.Stuck (state_of guest.old) tid count result (state_of guest.new) }
+    ensures ran { OnOk result (guest.new.ran ≡ counted guest.old.ran count) }
+    ensures snapshots { guest_snapshots guest.new ≡ guest_snapshots guest.old }
+    ensures put { OnOk result (guest.new.put ≡ guest.old.put) }
+{
+    // No instruction is counted; the count fits 64 bits, which this line tells the proof.
+    let _ran = guest.ran();
+    if tid != 0 || count != 0 || guest.has_running() {
+        return Err(FollowFault::GoesNowhere);
+    }
+    guest.close_slice(Some(GuestEnd::Stuck));
     Ok(())
 }
 
@@ -87,14 +111,10 @@ fn follow_call(
     told: &CallRecord,
 ) -> Result<(), FollowFault>
     requires { (state_of guest.old).ended ≡ None }
-    ensures follows { OnOk result (EndsInCall (state_of guest.old) tid count told.now (state_of guest.new)) }
+    ensures follows { Follows (End.Call told.now) (state_of guest.old) tid count result (state_of guest.new) }
     ensures puts { OnOk result (CallPutsAt (state_of guest.old) tid count told.now.result (chunks_of guest.new.put)) }
     ensures ran { OnOk result (guest.new.ran ≡ counted guest.old.ran count) }
     ensures snapshots { guest_snapshots guest.new ≡ guest_snapshots guest.old }
-    ensures nowhere { IsErrOf result FollowFault.GoesNowhere
-        → (new : State) → EndsInCall (state_of guest.old) tid count told.now new → ⊥ }
-    ensures memory { IsErrOf result FollowFault.Memory
-        → MeetsNoMemory (state_of guest.old) tid count ⊎ CallMeetsNoMemory (state_of guest.old) tid count }
 {
     match run_whole(guest, tid, count)? {
         RunEnd::Call => {
@@ -111,13 +131,10 @@ fn follow_call(
 }
 
 fn follow_fault(guest: &mut Guest, tid: u32, count: u32, kind: FaultKind) -> Result<(), FollowFault>
-    ensures follows { OnOk result (EndsInFault (state_of guest.old) tid count kind (state_of guest.new)) }
+    ensures follows { Follows (End.Fault kind) (state_of guest.old) tid count result (state_of guest.new) }
     ensures ran { OnOk result (guest.new.ran ≡ counted guest.old.ran count) }
     ensures snapshots { guest_snapshots guest.new ≡ guest_snapshots guest.old }
     ensures put { OnOk result (guest.new.put ≡ guest.old.put) }
-    ensures nowhere { IsErrOf result FollowFault.GoesNowhere
-        → (new : State) → EndsInFault (state_of guest.old) tid count kind new → ⊥ }
-    ensures memory { IsErrOf result FollowFault.Memory → MeetsNoMemory (state_of guest.old) tid count }
 {
     match run_whole(guest, tid, count)? {
         RunEnd::Fault(found) => {
@@ -129,24 +146,6 @@ fn follow_fault(guest: &mut Guest, tid: u32, count: u32, kind: FaultKind) -> Res
         }
         _ => Err(FollowFault::GoesNowhere),
     }
-}
-
-fn follow_stuck(guest: &mut Guest, tid: u32, count: u32) -> Result<(), FollowFault>
-    ensures follows { OnOk result (IsStuck (state_of guest.old) tid count (state_of guest.new)) }
-    ensures ran { OnOk result (guest.new.ran ≡ counted guest.old.ran count) }
-    ensures snapshots { guest_snapshots guest.new ≡ guest_snapshots guest.old }
-    ensures put { OnOk result (guest.new.put ≡ guest.old.put) }
-    ensures nowhere { IsErrOf result FollowFault.GoesNowhere
-        → (new : State) → IsStuck (state_of guest.old) tid count new → ⊥ }
-    ensures memory { IsErrOf result FollowFault.Memory → ⊥ }
-{
-    // No instruction is counted; the count fits 64 bits, which this line tells the proof.
-    let _ran = guest.ran();
-    if tid != 0 || count != 0 || guest.has_running() {
-        return Err(FollowFault::GoesNowhere);
-    }
-    guest.close_slice(Some(GuestEnd::Stuck));
-    Ok(())
 }
 
 /// Runs just so many instructions of a thread, of which only the last may be a call or a fault.

@@ -119,7 +119,8 @@ impl MemDisk {
     pub fn crash(&self, alloc: Global, len: u64, fill: u8) -> Result<MemDisk, Memory>
         requires no_shorter { (memory_state self.now).pending.least ≤ len }
         requires no_longer { len ≤ (memory_state self.now).pending.greatest }
-        ensures filled { IfOk result (λ disk. IsFilledCrash (memory_state self.now).pending len fill (memory_state disk).content) }
+        ensures filled { IfOk result (λ disk.
+            IsFilledCrash (memory_state self.now).pending len fill (memory_state disk).content) }
         ensures may { IfOk result (λ disk. IsCrash (memory_state self.now).pending (memory_state disk).content) }
         ensures started { IfOk result (λ disk. memory_state disk ≡ started_with (memory_state disk).content) }
         ensures failures { IfOk result (λ disk. memory_failures disk ≡ 0) }

@@ -1,6 +1,6 @@
 use Rattle.std.proofs.Common.{ℕ, List, inl, inr, refl, sym, ◌∙◌, ap, subst}
 use Rattle.std.proofs.lemmas.Bool.{false≢true}
-use Rattle.std.proofs.lemmas.Result.{err_from_is_err_and}
+use Rattle.rrv_model.specs.declared.record.End.TheVariants as ends
 use Rattle.rrv_model.specs.State.{State}
 use Rattle.rrv_model.specs.FrameStep.{EndsInCall}
 use Rattle.guest_calls.specs.Guest.{state_of, chunks_of}
@@ -8,7 +8,7 @@ use Rattle.serial_sched.specs.Answered.{Recalls}
 use Rattle.serial_sched.specs.declared.fault.FollowFault.TheVariants as faults
 use Rattle.serial_sched.proofs.SliceLaws.{call_running, call_runs_on}
 use Rattle.serial_sched.proofs.RecordedAnswers.{recalled}
-use Rattle.serial_sched.proofs.FollowLaws.{again, no_call, other_than_call, other_record, call_followed, call_put, call_meets}
+use Rattle.serial_sched.proofs.FollowLaws.{refused, no_call, other_than_call, other_record, call_followed, call_put, call_meets}
 use Rattle.serial_sched.proofs.following.follow_call.Goals as goal
 
 pub call-requires-clause-running : goal.call-requires-clause-running
@@ -21,27 +21,23 @@ call-requires-clause-runs c =
     let p = rw c.in-Call.is at c.in_ok-run_whole.ensures.runs in
     call_runs_on c.args.count c.args.tid c.args.count (state_of c.args.guest.now) (state_of c.run_whole.new.guest) p c.requires
 
-pub returns-in_err-run_whole-clause-nowhere : goal.returns-in_err-run_whole-clause-nowhere
-returns-in_err-run_whole-clause-nowhere c =
-    let r = err_from_is_err_and c.from_residual.result c.from_residual.ensures.1 in
-    λ e new p. no_call (state_of c.args.guest.now) c.args.tid c.args.count c.args.told.now
-    (c.in_err-run_whole.ensures.nowhere (again c.from_residual.result r.0 c.in_err-run_whole.field-0.0 faults.GoesNowhere r.1 r.2 e)) new p
+pub returns-in_err-run_whole-clause-follows : goal.returns-in_err-run_whole-clause-follows
+returns-in_err-run_whole-clause-follows c =
+    refused c.from_residual.result c.in_err-run_whole.field-0.0 (ends.Call c.args.told.now) c.args.tid c.args.count (state_of c.args.guest.now) (state_of c.run_whole.new.guest)
+    c.from_residual.ensures.1 (λ e. no_call (state_of c.args.guest.now) c.args.tid c.args.count c.args.told.now (c.in_err-run_whole.ensures.nowhere e))
+    (λ e. inl (c.in_err-run_whole.ensures.memory e))
 
-pub returns-in_err-run_whole-clause-memory : goal.returns-in_err-run_whole-clause-memory
-returns-in_err-run_whole-clause-memory c =
-    let r = err_from_is_err_and c.from_residual.result c.from_residual.ensures.1 in
-    λ e. inl (c.in_err-run_whole.ensures.memory (again c.from_residual.result r.0 c.in_err-run_whole.field-0.0 faults.Memory r.1 r.2 e))
+pub returns-in_err-found-in-Call-clause-follows : goal.returns-in_err-found-in-Call-clause-follows
+returns-in_err-found-in-Call-clause-follows c =
+    let p = rw c.in-Call.is at c.in_ok-run_whole.ensures.runs in
+    refused {B = Unit {0}} c.from_residual-in_err-found-in-Call.result faults.Memory (ends.Call c.args.told.now) c.args.tid c.args.count (state_of c.args.guest.now) (state_of c.call.new.self)
+    c.from_residual-in_err-found-in-Call.ensures.1 (λ e. absurd cc)
+    (λ e. inr (call_meets c.args.count c.args.tid c.args.count (state_of c.args.guest.now) (state_of c.run_whole.new.guest) p c.in_err-found-in-Call.ensures.memory))
 
-pub returns-in_err-found-in-Call-clause-memory : goal.returns-in_err-found-in-Call-clause-memory
-returns-in_err-found-in-Call-clause-memory c =
-    λ e. let p = rw c.in-Call.is at c.in_ok-run_whole.ensures.runs in
-    inr (call_meets c.args.count c.args.tid c.args.count (state_of c.args.guest.now) (state_of c.run_whole.new.guest) p
-    c.in_err-found-in-Call.ensures.memory)
-
-pub returns-then-not-is_same_call-clause-nowhere : goal.returns-then-not-is_same_call-clause-nowhere
-returns-then-not-is_same_call-clause-nowhere c =
+pub returns-then-not-is_same_call-clause-follows : goal.returns-then-not-is_same_call-clause-follows
+returns-then-not-is_same_call-clause-follows c =
     let run = rw c.in-Call.is at c.in_ok-run_whole.ensures.runs in
-    λ e new p. other_record recalled c.args.tid c.args.count c.in_ok-found-in-Call.found c.args.told.now (state_of c.args.guest.now) (state_of c.run_whole.new.guest)
+    λ new p. other_record recalled c.args.tid c.args.count c.in_ok-found-in-Call.found c.args.told.now (state_of c.args.guest.now) (state_of c.run_whole.new.guest)
     c.of-outside.result c.call.new.outside (λ question answer given. subst (λ (bytes : List ℕ). Recalls bytes question answer) c.of-outside.ensures given)
     (λ same. false≢true (c.if-not-is_same_call.ensures.1 same)) run c.in_ok-found-in-Call.ensures.answered new p
 
@@ -59,7 +55,7 @@ returns-else-not-is_same_call-clause-puts c =
     (state_of c.run_whole.new.guest) (state_of c.call.new.self) (chunks_of c.close_slice.new.self.put) (c.if-not-is_same_call.ensures.0 refl) run
     c.in_ok-found-in-Call.ensures.calls.1 (ap chunks_of c.close_slice.ensures.put ∙ c.in_ok-found-in-Call.ensures.puts)
 
-pub returns-in_default-clause-nowhere : goal.returns-in_default-clause-nowhere
-returns-in_default-clause-nowhere c =
-    λ e new p. other_than_call c.in_ok-run_whole.field-0 c.args.tid c.args.count c.args.told.now (state_of c.args.guest.now) (state_of c.run_whole.new.guest)
+pub returns-in_default-clause-follows : goal.returns-in_default-clause-follows
+returns-in_default-clause-follows c =
+    λ new p. other_than_call c.in_ok-run_whole.field-0 c.args.tid c.args.count c.args.told.now (state_of c.args.guest.now) (state_of c.run_whole.new.guest)
     c.in_default.not-Call c.in_ok-run_whole.ensures.runs new p

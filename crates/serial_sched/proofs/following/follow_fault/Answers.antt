@@ -1,23 +1,21 @@
 use Rattle.std.proofs.Common.{◌≡◌, sym, ◌∙◌, subst, rules}
-use Rattle.std.proofs.lemmas.Result.{err_from_is_err_and}
 use denote.Enum.Bare.{differs_true, differs_false}
 use Rattle.rrv_model.specs.contracts.machine.FaultKind.{the_type}
 use Rattle.rrv_model.specs.declared.machine.FaultKind.{FaultKind}
+use Rattle.rrv_model.specs.declared.record.End.TheVariants as ends
 use Rattle.rrv_model.specs.Step.{FaultsFrom}
 use Rattle.guest_calls.specs.Guest.{state_of}
-use Rattle.serial_sched.specs.declared.fault.FollowFault.TheVariants as faults
-use Rattle.serial_sched.proofs.FollowLaws.{other_than_fault, no_fault, again, same_kinds}
+use Rattle.serial_sched.proofs.FollowLaws.{other_than_fault, no_fault, refused, same_kinds}
 use Rattle.serial_sched.proofs.following.follow_fault.Goals as goal
 
-pub returns-in_err-found-clause-nowhere : goal.returns-in_err-found-clause-nowhere
-returns-in_err-found-clause-nowhere c =
-    let r = err_from_is_err_and c.from_residual.result c.from_residual.ensures.1 in
-    λ e new p. no_fault (state_of c.args.guest.now) c.args.tid c.args.count c.args.kind
-    (c.in_err-found.ensures.nowhere (again c.from_residual.result r.0 c.in_err-found.field-0.0 faults.GoesNowhere r.1 r.2 e)) new p
+pub returns-in_err-found-clause-follows : goal.returns-in_err-found-clause-follows
+returns-in_err-found-clause-follows c =
+    refused c.from_residual.result c.in_err-found.field-0.0 (ends.Fault c.args.kind) c.args.tid c.args.count (state_of c.args.guest.now) (state_of c.run_whole.new.guest)
+    c.from_residual.ensures.1 (λ e. no_fault (state_of c.args.guest.now) c.args.tid c.args.count c.args.kind (c.in_err-found.ensures.nowhere e)) c.in_err-found.ensures.memory
 
-pub returns-then-ne-clause-nowhere : goal.returns-then-ne-clause-nowhere
-returns-then-ne-clause-nowhere c =
-    λ e new p. other_than_fault c.in_ok-found.field-0 c.args.tid c.args.count c.args.kind (state_of c.args.guest.now) (state_of c.run_whole.new.guest)
+pub returns-then-ne-clause-follows : goal.returns-then-ne-clause-follows
+returns-then-ne-clause-follows c =
+    λ new p. other_than_fault c.in_ok-found.field-0 c.args.tid c.args.count c.args.kind (state_of c.args.guest.now) (state_of c.run_whole.new.guest)
     (λ k. differs_true the_type c.in-Fault.found c.args.kind (sym c.ne.ensures ∙ c.if-ne.true)
     (same_kinds c.in_ok-found.field-0 c.in-Fault.found c.args.kind c.in-Fault.is k)) c.in_ok-found.ensures.runs new p
 
@@ -33,7 +31,7 @@ returns-else-ne-clause-follows c =
       new_is = c.close_slice.ensures.state;
     }
 
-pub returns-in_default-clause-nowhere : goal.returns-in_default-clause-nowhere
-returns-in_default-clause-nowhere c =
-    λ e new p. other_than_fault c.in_ok-found.field-0 c.args.tid c.args.count c.args.kind (state_of c.args.guest.now) (state_of c.run_whole.new.guest)
+pub returns-in_default-clause-follows : goal.returns-in_default-clause-follows
+returns-in_default-clause-follows c =
+    λ new p. other_than_fault c.in_ok-found.field-0 c.args.tid c.args.count c.args.kind (state_of c.args.guest.now) (state_of c.run_whole.new.guest)
     (λ k. c.in_default.not-Fault c.args.kind k) c.in_ok-found.ensures.runs new p

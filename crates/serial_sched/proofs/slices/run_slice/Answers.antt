@@ -1,9 +1,8 @@
-use Rattle.std.proofs.Common.{◌-◌, refl, sym, ◌∙◌, ap, subst, arith}
-use Rattle.rrv_model.specs.State.{State, thread_at, IsRunning}
-use Rattle.rrv_model.specs.FrameStep.{Steps}
+use Rattle.std.proofs.Common.{inl, refl, sym, ◌∙◌, ap, subst, arith}
+use Rattle.rrv_model.specs.State.{thread_at, IsRunning}
 use Rattle.guest_calls.specs.Guest.{GuestValue, state_of, chunks_of}
 use Rattle.guest_calls.specs.Runs.{before_call}
-use Rattle.serial_sched.proofs.SliceLaws.{call_running, call_runs_on, limit_slice, call_slice, fault_slice, short_store, store_took, store_grows, short_call, refused_call_took, refused_call_grows, untouched}
+use Rattle.serial_sched.proofs.SliceLaws.{call_running, call_runs_on, limit_slice, call_slice, fault_slice, stops_short, call_stops_short}
 use Rattle.serial_sched.proofs.slices.run_slice.Goals as goal
 
 pub call-requires-clause-running : goal.call-requires-clause-running
@@ -58,87 +57,38 @@ returns-in-Fault-clause-is_slice g c =
       environment = refl;
     })
 
--- ---- a store that finds no memory
+-- ---- where there was no memory
 
-pub returns-in-Memory-clause-is_slice : goal.returns-in-Memory-clause-is_slice
-returns-in-Memory-clause-is_slice g c =
+pub returns-in-Memory : goal.returns-in-Memory
+returns-in-Memory g c =
     let p = rw c.in-Memory.is at c.run_thread-run.ensures.runs in
-    short_store g.O.Outside.gives c.args.guest.now c.stop_short-in-Memory.new.guest c.args.choice c.args.outside.now c.args.outside.now c.requires
-    c.stop_short-in-Memory.result c.run_thread-run.result.count (state_of c.run_thread-run.new.self) p.within p.steps p.takes
-    c.stop_short-in-Memory.ensures.some c.stop_short-in-Memory.ensures.frame c.stop_short-in-Memory.ensures.closes
-    (record {
-      ran = c.stop_short-in-Memory.ensures.ran ∙ c.run_thread-run.ensures.ran;
-      put = c.stop_short-in-Memory.ensures.put ∙ c.run_thread-run.ensures.put;
-      snapshots = c.stop_short-in-Memory.ensures.snapshots ∙ c.run_thread-run.ensures.snapshots;
-      environment = refl;
-    })
-
-pub returns-in-Memory-clause-memory : goal.returns-in-Memory-clause-memory
-returns-in-Memory-clause-memory g c =
-    let p = rw c.in-Memory.is at c.run_thread-run.ensures.runs in
-    store_took c.stop_short-in-Memory.result c.args.choice.tid c.run_thread-run.result.count (state_of c.args.guest.now) (state_of c.run_thread-run.new.self)
-    p.steps p.takes c.stop_short-in-Memory.ensures.none
-
-pub returns-in-Memory-clause-grows : goal.returns-in-Memory-clause-grows
-returns-in-Memory-clause-grows g c =
-    let p = rw c.in-Memory.is at c.run_thread-run.ensures.runs in
-    store_grows c.stop_short-in-Memory.result c.args.choice.tid c.run_thread-run.result.count (state_of c.args.guest.now) (state_of c.run_thread-run.new.self)
-    p.steps p.takes c.stop_short-in-Memory.ensures.none
-
-pub returns-in-Memory-clause-refused : goal.returns-in-Memory-clause-refused
-returns-in-Memory-clause-refused g c =
-    let p = rw c.in-Memory.is at c.run_thread-run.ensures.runs in
-    untouched c.stop_short-in-Memory.result c.args.choice.tid c.run_thread-run.result.count c.args.guest.now c.stop_short-in-Memory.new.guest
-    (state_of c.run_thread-run.new.self) c.args.outside.now c.args.outside.now (omega (arith, c.ran-ran.ensures)) p.steps
+    let short =
+    stops_short g.O.Outside.gives c.args.guest.now c.stop_short-in-Memory.new.guest c.args.choice c.args.outside.now c.args.outside.now c.requires
+    c.stop_short-in-Memory.result c.run_thread-run.result.count (state_of c.run_thread-run.new.self) (omega (arith, c.ran-ran.ensures))
+    p.within p.steps (inl p.takes) c.stop_short-in-Memory.ensures.some c.stop_short-in-Memory.ensures.frame c.stop_short-in-Memory.ensures.closes
     c.stop_short-in-Memory.ensures.none c.stop_short-in-Memory.ensures.refused
     (record {
       ran = c.stop_short-in-Memory.ensures.ran ∙ c.run_thread-run.ensures.ran;
       put = c.stop_short-in-Memory.ensures.put ∙ c.run_thread-run.ensures.put;
       snapshots = c.stop_short-in-Memory.ensures.snapshots ∙ c.run_thread-run.ensures.snapshots;
       environment = refl;
-    })
+    }) in
+    record { is_slice = short.slice; memory = short.memory; grows = short.grows; refused = short.refused }
 
--- ---- a call that finds no memory
-
-pub returns-in-Err-clause-is_slice : goal.returns-in-Err-clause-is_slice
-returns-in-Err-clause-is_slice g c =
+pub returns-in-Err : goal.returns-in-Err
+returns-in-Err g c =
     let p = rw c.in-Call.is at c.run_thread-run.ensures.runs in
-    short_call g.O.Outside.gives c.args.guest.now c.stop_short.new.guest c.args.choice c.args.outside.now c.call.new.outside c.requires
-    c.stop_short.result c.run_thread-run.result.count (state_of c.run_thread-run.new.self) (state_of c.take_back.new.self) p c.in-Err.ensures.memory
+    let short =
+    call_stops_short g.O.Outside.gives c.args.guest.now c.stop_short.new.guest c.args.choice c.args.outside.now c.call.new.outside c.requires
+    c.stop_short.result c.run_thread-run.result.count (state_of c.run_thread-run.new.self) (state_of c.take_back.new.self)
+    (omega (arith, c.ran-ran.ensures)) p c.in-Err.ensures.memory
     (c.take_back.ensures.state ∙ ap (λ (v : GuestValue). before_call c.args.choice.tid (state_of v)) c.in-Err.ensures.refused)
-    c.stop_short.ensures.some c.stop_short.ensures.frame c.stop_short.ensures.closes
+    c.stop_short.ensures.some c.stop_short.ensures.frame c.stop_short.ensures.closes c.stop_short.ensures.none c.stop_short.ensures.refused
     (record {
       ran = c.stop_short.ensures.ran ∙ c.take_back.ensures.ran ∙ ap (λ (v : GuestValue). v.ran_before_call) c.in-Err.ensures.refused
           ∙ c.run_thread-run.ensures.ran_before_call c.in-Call.is;
       put = c.stop_short.ensures.put ∙ c.take_back.ensures.put ∙ ap (λ (v : GuestValue). v.put) c.in-Err.ensures.refused ∙ c.run_thread-run.ensures.put;
       snapshots = c.stop_short.ensures.snapshots ∙ c.take_back.ensures.snapshots ∙ c.in-Err.ensures.keeps.snapshots ∙ c.run_thread-run.ensures.snapshots;
       environment = c.in-Err.ensures.refused_unasked;
-    })
-
-pub returns-in-Err-clause-memory : goal.returns-in-Err-clause-memory
-returns-in-Err-clause-memory g c =
-    let p = rw c.in-Call.is at c.run_thread-run.ensures.runs in
-    refused_call_took c.stop_short.result c.args.choice.quantum c.args.choice.tid c.run_thread-run.result.count (state_of c.args.guest.now)
-    (state_of c.run_thread-run.new.self) p c.stop_short.ensures.none
-
-pub returns-in-Err-clause-grows : goal.returns-in-Err-clause-grows
-returns-in-Err-clause-grows g c =
-    let p = rw c.in-Call.is at c.run_thread-run.ensures.runs in
-    refused_call_grows c.stop_short.result c.args.choice.quantum c.args.choice.tid c.run_thread-run.result.count (state_of c.args.guest.now)
-    (state_of c.run_thread-run.new.self) p c.in-Err.ensures.memory c.stop_short.ensures.none
-
-pub returns-in-Err-clause-refused : goal.returns-in-Err-clause-refused
-returns-in-Err-clause-refused g c =
-    let p = rw c.in-Call.is at c.run_thread-run.ensures.runs in
-    let back = c.take_back.ensures.state ∙ ap (λ (v : GuestValue). before_call c.args.choice.tid (state_of v)) c.in-Err.ensures.refused ∙ p.back in
-    untouched c.stop_short.result c.args.choice.tid (c.run_thread-run.result.count - 1) c.args.guest.now c.stop_short.new.guest
-    (state_of c.take_back.new.self) c.args.outside.now c.call.new.outside (omega (arith, c.ran-ran.ensures))
-    (subst (λ (x : State). Steps (c.run_thread-run.result.count - 1) c.args.choice.tid (state_of c.args.guest.now) x) (sym back) p.steps)
-    c.stop_short.ensures.none c.stop_short.ensures.refused
-    (record {
-      ran = c.stop_short.ensures.ran ∙ c.take_back.ensures.ran ∙ ap (λ (v : GuestValue). v.ran_before_call) c.in-Err.ensures.refused
-          ∙ c.run_thread-run.ensures.ran_before_call c.in-Call.is;
-      put = c.stop_short.ensures.put ∙ c.take_back.ensures.put ∙ ap (λ (v : GuestValue). v.put) c.in-Err.ensures.refused ∙ c.run_thread-run.ensures.put;
-      snapshots = c.stop_short.ensures.snapshots ∙ c.take_back.ensures.snapshots ∙ c.in-Err.ensures.keeps.snapshots ∙ c.run_thread-run.ensures.snapshots;
-      environment = c.in-Err.ensures.refused_unasked;
-    })
+    }) in
+    record { is_slice = short.slice; memory = short.memory; grows = short.grows; refused = short.refused }

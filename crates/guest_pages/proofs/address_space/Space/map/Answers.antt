@@ -1,50 +1,36 @@
 use Rattle.std.proofs.Common.{◌≡◌, ◌∙◌, ℕ, ◌+◌, ◌*◌, ◌≤◌, List, true, false, IsSome, length, sym, ap, subst, arith}
 use Rattle.rrv_model.specs.declared.machine.Permissions.{Permissions}
-use Rattle.rrv_model.specs.Memory.{Memory, all_mapped, mapped, page_count, page_bytes}
-use Rattle.guest_pages.specs.declared.page.Page.{Page}
-use Rattle.guest_pages.specs.Space.{SpaceValue, ArePages, memory_in, memory_of, page_at}
+use Rattle.rrv_model.specs.Memory.{all_mapped, mapped, page_count, page_bytes}
+use Rattle.guest_pages.specs.Space.{SpaceValue, ArePages, memory_of, page_at}
 use Rattle.guest_pages.specs.Mapping.{missing, has_number}
 use Rattle.guest_pages.proofs.MissingPages.{missing_some, page_count_mapped, absent_before, mapped_in, pages_mapped, cleared_after, others_after}
 use Rattle.guest_pages.proofs.address_space.Space.map.Goals as goal
 
 -- how many pages are mapped once the missing ones are added
-count_after : (pages : List (ℕ × Page)) (s : SpaceValue) (permissions : Permissions) (page count : ℕ) → ArePages pages →
-    memory_in pages ≡ memory_of s → page + count ≤ 0x80000 →
-    page_count (mapped (page * page_bytes) (count * page_bytes) permissions (memory_of s)) ≡ length pages + length (missing pages page count)
-count_after pages s permissions page count h same high =
-    ap (λ (m : Memory). page_count (mapped (page * page_bytes) (count * page_bytes) permissions m)) (sym same)
-    ∙ page_count_mapped pages permissions page count h high
+count_after : {inside s : SpaceValue} (permissions : Permissions) (page count : ℕ) → ArePages inside.pages → inside ≡ s → page + count ≤ 0x80000 →
+    page_count (mapped (page * page_bytes) (count * page_bytes) permissions (memory_of s)) ≡ length inside.pages + length (missing inside.pages page count)
+count_after {inside} {s} permissions page count h view high =
+    ap (λ (t : SpaceValue). page_count (mapped (page * page_bytes) (count * page_bytes) permissions (memory_of t))) (sym view)
+    ∙ page_count_mapped inside.pages permissions page count h high
 
 pub returns-then-len-more-clause-refused : goal.returns-then-len-more-clause-refused
-returns-then-len-more-clause-refused c = omega (
-  arith,
-  c.len.ensures.len,
-  c.count_missing-more.ensures,
-  count_after c.self.inside.pages.entries c.args.self.now c.args.permissions c.args.page c.args.count c.self.invariant
-      (ap memory_of c.self.view_is) c.requires.high,
-)
+returns-then-len-more-clause-refused c =
+    let count = count_after c.args.permissions c.args.page c.args.count c.self.invariant c.self.view_is c.requires.high in
+    omega (arith, c.len.ensures.len, c.count_missing-more.ensures, count)
 
 pub returns-in_default-clause-refused : goal.returns-in_default-clause-refused
-returns-in_default-clause-refused c = omega (
-  arith,
-  c.len.ensures.len,
-  c.count_missing-more.ensures,
-  count_after c.self.inside.pages.entries c.args.self.now c.args.permissions c.args.page c.args.count c.self.invariant
-      (ap memory_of c.self.view_is) c.requires.high,
-)
+returns-in_default-clause-refused c =
+    let count = count_after c.args.permissions c.args.page c.args.count c.self.invariant c.self.view_is c.requires.high in
+    omega (arith, c.len.ensures.len, c.count_missing-more.ensures, count)
 
 pub add_pages-requires-clause-absent : goal.add_pages-requires-clause-absent
 add_pages-requires-clause-absent c = λ q h.
     absent_before c.self.inside.pages.entries c.args.page c.args.count q (ap (λ (numbers : List ℕ). has_number numbers q) (sym (c.as_slice.ensures.value ∙ c.in-Ok.ensures.listed)) ∙ h)
 
 pub returns-in_default-add_pages-clause-refused : goal.returns-in_default-add_pages-clause-refused
-returns-in_default-add_pages-clause-refused c = omega (
-  arith,
-  c.len.ensures.len,
-  c.count_missing-more.ensures,
-  count_after c.self.inside.pages.entries c.args.self.now c.args.permissions c.args.page c.args.count c.self.invariant
-      (ap memory_of c.self.view_is) c.requires.high,
-)
+returns-in_default-add_pages-clause-refused c =
+    let count = count_after c.args.permissions c.args.page c.args.count c.self.invariant c.self.view_is c.requires.high in
+    omega (arith, c.len.ensures.len, c.count_missing-more.ensures, count)
 
 pub invariant_of-self-2 : goal.invariant_of-self-2
 invariant_of-self-2 c =

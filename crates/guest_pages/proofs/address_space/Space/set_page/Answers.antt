@@ -1,8 +1,7 @@
-use Rattle.std.proofs.Common.{◌≡◌, ◌∙◌, ℕ, false, ◌+◌, List, Some, None, Option, is_some, length, sym, ap, subst, arith}
-use Rattle.rrv_model.specs.Memory.{Memory, page_count, is_mapped}
-use Rattle.guest_pages.specs.declared.page.Page.{Page}
+use Rattle.std.proofs.Common.{◌≡◌, ◌∙◌, Bool, false, ◌+◌, Some, None, Option, is_some, length, ℕ, sym, ap, subst, arith}
+use Rattle.rrv_model.specs.Memory.{page_count, is_mapped}
 use Rattle.guest_pages.specs.declared.page.PageView.{PageView}
-use Rattle.guest_pages.specs.Space.{SpaceValue, ArePages, memory_in, memory_of, page_at}
+use Rattle.guest_pages.specs.Space.{SpaceValue, ArePages, memory_of, page_at}
 use Rattle.guest_pages.specs.WholePages.{with_page, MayHave}
 use Rattle.guest_pages.proofs.Facts.{is_mapped_in}
 use Rattle.guest_pages.proofs.MissingPages.{no_page}
@@ -37,29 +36,23 @@ returns-then-contains_key-clause-set c =
     ∙ ap (λ (p : Option PageView). with_page c.args.number p (memory_of c.args.self.now)) (sym c.in-Some.is)
 
 -- how many pages are mapped once a page stands where none was
-count_after : (pages : List (ℕ × Page)) (s : SpaceValue) (n : ℕ) (o : Option PageView) (v : PageView) → ArePages pages →
-    memory_in pages ≡ memory_of s → o ≡ Some v → MayHave n o → is_some (page_at pages n) ≡ false →
-    page_count (with_page n o (memory_of s)) ≡ length pages + 1
-count_after pages s n o v h same is may absent =
+count_after : {inside s : SpaceValue} {page : Option PageView} {there : Bool} (n : ℕ) (v : PageView) → ArePages inside.pages →
+    inside ≡ s → page ≡ Some v → MayHave n page → there ≡ is_some (page_at inside.pages n) → there ≡ false →
+    page_count (with_page n page (memory_of s)) ≡ length inside.pages + 1
+count_after {inside} {s} {page} {there} n v h view is may found absent =
     ap (λ (p : Option PageView). page_count (with_page n p (memory_of s))) is
-    ∙ ap (λ (m : Memory). page_count (with_page n (Some v) m)) (sym same)
-    ∙ page_count_put pages v n h (subst (λ (p : Option PageView). MayHave n p) is may).1 (no_page (page_at pages n) absent)
+    ∙ ap (λ (t : SpaceValue). page_count (with_page n (Some v) (memory_of t))) (sym view)
+    ∙ page_count_put inside.pages v n h (subst (λ (p : Option PageView). MayHave n p) is may).1 (no_page (page_at inside.pages n) (sym found ∙ absent))
 
 pub returns-then-len-clause-refused : goal.returns-then-len-clause-refused
-returns-then-len-clause-refused c = omega (
-  arith,
-  c.len.ensures.len,
-  count_after c.self.inside.pages.entries c.args.self.now c.args.number c.args.page c.in-Some.page c.self.invariant
-      (ap memory_of c.self.view_is) c.in-Some.is c.requires (sym c.contains_key.ensures ∙ c.if-contains_key.false),
-)
+returns-then-len-clause-refused c =
+    let count = count_after c.args.number c.in-Some.page c.self.invariant c.self.view_is c.in-Some.is c.requires c.contains_key.ensures c.if-contains_key.false in
+    omega (arith, c.len.ensures.len, count)
 
 pub returns-in_default-insert_page-clause-refused : goal.returns-in_default-insert_page-clause-refused
-returns-in_default-insert_page-clause-refused c = omega (
-  arith,
-  c.len.ensures.len,
-  count_after c.self.inside.pages.entries c.args.self.now c.args.number c.args.page c.in-Some.page c.self.invariant
-      (ap memory_of c.self.view_is) c.in-Some.is c.requires (sym c.contains_key.ensures ∙ c.if-contains_key.false),
-)
+returns-in_default-insert_page-clause-refused c =
+    let count = count_after c.args.number c.in-Some.page c.self.invariant c.self.view_is c.in-Some.is c.requires c.contains_key.ensures c.if-contains_key.false in
+    omega (arith, c.len.ensures.len, count)
 
 pub returns-then-len-clause-too_many : goal.returns-then-len-clause-too_many
 returns-then-len-clause-too_many c = λ e.
