@@ -1,0 +1,22 @@
+//! A group: up to 16 recorders send records through one queue, and one flusher commits them to a log and tells each recorder,
+//! by a word, how many of its records are durable. No lock is taken.
+//!
+//! The words of a group of n guests: 0 to n - 1 are the durable counts, n the halt word, and from n + 1 on stands one more than
+//! a guest sent once it has left, else 0.
+#![tactic(auto)]
+
+mod fault;
+mod flusher_seat;
+mod group;
+mod queue;
+mod recorder_seat;
+mod report;
+mod start;
+mod steps;
+mod words;
+
+pub use fault::SubmitFault;
+pub use flusher_seat::FlusherSeat;
+pub use group::Group;
+pub use recorder_seat::RecorderSeat;
+pub use report::{Report, end};
