@@ -12,6 +12,7 @@ mod guests;
 mod limits;
 mod logs;
 mod machine;
+mod many;
 mod rows;
 mod texts;
 mod worked;

@@ -51,7 +51,7 @@ fn a_body_of_two_records(rt: HostRuntime) -> Result<(), Fail> {
         Row::Records(1, 0),
         Row::Records(0, 2),
         Row::Close,
-        Row::Call(0, 1, 3),
+        Row::Call(0, 1, 1, 3),
     ];
     play(&rt, rt.alloc(), 0, &rows)
 }
@@ -79,10 +79,10 @@ fn two_guests_in_one_body(rt: HostRuntime) -> Result<(), Fail> {
         Row::Close,
         Row::Records(1, 2),
         Row::Opening(1, &OPENING[17..113], b"b"),
-        Row::Call(1, 1, 9),
+        Row::Call(1, 1, 1, 9),
         Row::Records(4, 2),
         Row::Opening(4, &OPENING[17..113], b"f"),
-        Row::Call(4, 1, 6),
+        Row::Call(4, 1, 1, 6),
     ];
     play_on(&rt, alloc, &mut machine, &rows)
 }

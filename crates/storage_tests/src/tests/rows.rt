@@ -3,6 +3,7 @@
 use super::device::{Device, bytes_from, bytes_of};
 use super::machine::{Machine, new_disk};
 use super::same;
+use super::worked::call_at;
 use recover::OpenFault;
 use rrv_model::record::{End, Item, Record};
 use std::alloc::Global;
@@ -22,6 +23,10 @@ pub(crate) enum Row<'a> {
     Body(&'a [u8]),
     /// A next body of so many bytes, each this one.
     Long(usize, u8),
+    /// The call records of guest 0 of the indexes from one up to another, behind the body's bytes.
+    Calls(u32, u32),
+    /// Commits each of these as a body.
+    CommitCalls(u32, u32),
     /// Commits the body; the refusal, where it is refused.
     Commit(Option<LogFault>),
     RaiseGuest(u32),
@@ -35,8 +40,8 @@ pub(crate) enum Row<'a> {
     Records(u32, u32),
     /// The first record of a guest is an opening from this file, with this name.
     Opening(u32, &'a [u8], &'a [u8]),
-    /// The second record of a guest is a call of this tid, after so many instructions.
-    Call(u32, u32, u32),
+    /// The record of a guest of this index is a call of this tid, after so many instructions.
+    Call(u32, u32, u32, u32),
     Len(u64),
     Failures(u64),
     /// The least and the greatest length that a crash may leave. No call of the disk fails from then on.
@@ -88,6 +93,27 @@ fn look(
     Ok(())
 }
 
+fn put_calls(machine: &mut Machine, from: u32, to: u32) -> Result<(), Fail> {
+    for index in from..to {
+        machine.put(&call_at(index))?;
+    }
+    Ok(())
+}
+
+fn commit_calls(
+    rt: &impl Abort,
+    alloc: Global,
+    machine: &mut Machine,
+    from: u32,
+    to: u32,
+) -> Result<(), Fail> {
+    for index in from..to {
+        let outcome = machine.commit_of(alloc, &call_at(index))?;
+        same(rt, &index, outcome, None);
+    }
+    Ok(())
+}
+
 fn take(
     rt: &impl Abort,
     alloc: Global,
@@ -100,6 +126,8 @@ fn take(
         Row::Adopt(gate, segments) => machine.adopt(gate, segments)?,
         Row::Body(bytes) => machine.put(bytes)?,
         Row::Long(count, byte) => machine.put_many(count, byte)?,
+        Row::Calls(from, to) => put_calls(machine, from, to)?,
+        Row::CommitCalls(from, to) => commit_calls(rt, alloc, machine, from, to)?,
         Row::Commit(want) => same(rt, &place, machine.commit(alloc)?, want),
         Row::RaiseGuest(to) => machine.raise_guest(to)?,
         Row::NextGuest(want) => same(rt, &place, machine.next_guest()?, want),
@@ -111,9 +139,10 @@ fn take(
             let record = machine.item(alloc, guest, 0)?;
             same(rt, &place, opening_in(&record), Some((guest, 0, elf, name)));
         }
-        Row::Call(guest, tid, count) => {
-            let record = machine.item(alloc, guest, 1)?;
-            same(rt, &place, call_in(&record), Some((guest, 1, tid, count)));
+        Row::Call(guest, index, tid, count) => {
+            let record = machine.item(alloc, guest, index)?;
+            let want = Some((guest, index, tid, count));
+            same(rt, &place, call_in(&record), want);
         }
         Row::Lengths(least, greatest) => same(rt, &place, machine.lengths()?, (least, greatest)),
         Row::Len(_) | Row::Failures(_) | Row::All(_) | Row::Bytes(..) => {

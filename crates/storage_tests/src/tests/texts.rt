@@ -2,28 +2,14 @@
 
 use super::same;
 use recover::{OpenFault, ReadFault};
-use std::alloc::{AllocError, Global};
-use std::fmt::Display;
-use std::process::Abort;
 use std::test::Fail;
 use trace_disk::DiskFailed;
 use trace_log::LogFault;
 
-// Ends the test where a value prints another text.
-fn prints(
-    rt: &impl Abort,
-    alloc: Global,
-    value: &impl Display,
-    want: &str,
-) -> Result<(), AllocError> {
-    let text = format!(in alloc; "{value}")?;
-    same(rt, &"a text", text.as_str(), want);
-    Ok(())
-}
-
 #[test]
 fn says_why_no_body_is_committed(rt: HostRuntime) -> Result<(), Fail> {
-    prints(&rt, rt.alloc(), &DiskFailed, "device failed")?;
+    let told = format!(in rt.alloc(); "{DiskFailed}")?;
+    same(&rt, &"a text", told.as_str(), "device failed");
     for (fault, text) in [
         (LogFault::DeviceFailed, "device failed"),
         (LogFault::Broken, "log is broken"),
@@ -31,7 +17,8 @@ fn says_why_no_body_is_committed(rt: HostRuntime) -> Result<(), Fail> {
         (LogFault::Memory, "out of memory"),
         (LogFault::NotEmpty, "disk is not empty"),
     ] {
-        prints(&rt, rt.alloc(), &fault, text)?;
+        let told = format!(in rt.alloc(); "{fault}")?;
+        same(&rt, &"a text", told.as_str(), text);
     }
     Ok(())
 }
@@ -49,14 +36,16 @@ fn says_why_no_store_is_opened(rt: HostRuntime) -> Result<(), Fail> {
         (OpenFault::DeviceFailed, "device failed"),
         (OpenFault::Memory, "out of memory"),
     ] {
-        prints(&rt, rt.alloc(), &fault, text)?;
+        let told = format!(in rt.alloc(); "{fault}")?;
+        same(&rt, &"a text", told.as_str(), text);
     }
     for (fault, text) in [
         (ReadFault::DeviceFailed, "device failed"),
         (ReadFault::Damaged, "damaged record"),
         (ReadFault::Memory, "out of memory"),
     ] {
-        prints(&rt, rt.alloc(), &fault, text)?;
+        let told = format!(in rt.alloc(); "{fault}")?;
+        same(&rt, &"a text", told.as_str(), text);
     }
     Ok(())
 }

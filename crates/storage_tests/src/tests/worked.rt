@@ -19,6 +19,14 @@ pub(crate) const CALL: [u8; 29] = [
     0x00, 0x03, 0x00, 0x00, 0x00, 0x00, 0x00, 0x00, 0x00, 0x00, 0x00, 0x00, 0x00,
 ];
 
+/// The call record of guest 0 of this index, after as many instructions as that.
+pub(crate) fn call_at(index: u32) -> [u8; 29] {
+    let mut bytes = CALL;
+    bytes[4..8].copy_from_slice(&index.to_le_bytes());
+    bytes[17..21].copy_from_slice(&index.to_le_bytes());
+    bytes
+}
+
 /// What a crash puts wherever it may change a byte: a closed gate, one that is neither, an open one.
 pub(crate) const FILLS: [u8; 3] = [0x00, 0x37, 0xA5];
 
