@@ -59,7 +59,8 @@ NamesClock t (Ok q) = IsClockOf t q.wanted
 NamesClock t (Err errno) = Unit {0}
 
 -- the outside gave these bytes where there was so much room, and the call then returns this value
-abbrev pub Takes : {O : Type 0} → (O → Question → Answer → O → Type 0) → Wanted → (room value : ℕ) → List ℕ → O → O → Type 0
+abbrev pub Takes : {O : Type 0} → (O → Question → Answer → O → Type 0)
+    → Wanted → (room value : ℕ) → List ℕ → O → O → Type 0
 Takes gives wants.Input room value bytes before after =
     (value ≡ length bytes) × (length bytes ≤ room) × gives before (Input room) (Bytes bytes) after
 Takes gives wants.Random room value bytes before after =

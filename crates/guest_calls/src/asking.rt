@@ -35,7 +35,8 @@ impl Guest {
         requires { IsRequested requested }
         ensures { (t : Thread) → NamesClock t requested →
             ComesTo O.gives (requested_row (state_of self.old) requested) (λ _. [])
-            (Asks (requested_row (state_of self.old) requested)) tid t self.old result self.new outside.old outside.new }
+            (Asks (requested_row (state_of self.old) requested))
+            tid t self.old result self.new outside.old outside.new }
     {
         let request = match requested {
             Ok(request) => request,

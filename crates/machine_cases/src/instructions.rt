@@ -1,13 +1,12 @@
 //! Lines of instructions.
 
-ghost use Rattle.rrv_model.specs.State.{AreRegs};
-
 use crate::lines::{number, number_or_none};
 use guest_pages::Space;
 use rrv_model::machine::{FaultKind, Permissions, Regs, Reservation};
 use rv_decode::{decode, encode};
 use rv_machine::{Stepped, step};
 use std::alloc::Global;
+use test_guests::harts::regs_with;
 
 /// Where the instruction stands.
 const CODE: u32 = 0x1_0000;
@@ -112,39 +111,6 @@ fn want_of(word: u32, before: &State, text: &str) -> Option<Want> {
     Some(want)
 }
 
-/// Puts a word into a register that isn't x0.
-fn put(regs: &mut Regs, number: usize, word: u32)
-    requires { AreRegs regs.old }
-    ensures { AreRegs regs.new }
-{
-    if number != 0 && number < 32 {
-        regs.registers[number] = word;
-    }
-}
-
-/// The registers at a place, all of them 0.
-fn regs_at(pc: u32) -> Regs
-    ensures { AreRegs result }
-{
-    Regs {
-        pc,
-        registers: [0; 32],
-    }
-}
-
-/// The registers of a state; all that it doesn't tell are 0.
-fn regs_of(state: &State) -> Regs
-    ensures { AreRegs result }
-{
-    let [a0, a1, a2, a3] = state.arguments;
-    let mut regs = regs_at(state.pc);
-    put(&mut regs, 10, a0);
-    put(&mut regs, 11, a1);
-    put(&mut regs, 12, a2);
-    put(&mut regs, 13, a3);
-    regs
-}
-
 /// The pages of the instruction and the data.
 fn space_of(alloc: Global, word: u32, before: &State) -> Option<Space> {
     let all = Permissions {
@@ -162,7 +128,7 @@ fn space_of(alloc: Global, word: u32, before: &State) -> Option<Space> {
 /// One step of a word; None where no memory is left.
 fn outcome_of(alloc: Global, word: u32, before: &State) -> Option<Outcome> {
     let mut space = space_of(alloc, word, before)?;
-    let mut regs = regs_of(before);
+    let mut regs = regs_with(before.pc, before.arguments);
     let mut reserved = before.reserved;
     let end = step(&mut regs, &mut space, &mut reserved).ok()?;
     Some(Outcome {

@@ -58,7 +58,8 @@ EndMeetsNoMemory frame_ends.Stuck old tid count = ⊥
 -- what following a frame of such an end comes to: the state that it leads to, or why there is none
 abbrev pub Follows : {T : Type 0} → End → State → ℕ → ℕ → Result T FollowFault → State → Type 0
 Follows end old tid count (Ok x) new = FrameStepBy end old tid count new
-Follows end old tid count (Err follow_faults.GoesNowhere) new = (other : State) → FrameStepBy end old tid count other → ⊥
+Follows end old tid count (Err follow_faults.GoesNowhere) new =
+    (other : State) → FrameStepBy end old tid count other → ⊥
 Follows end old tid count (Err follow_faults.Memory) new = EndMeetsNoMemory end old tid count
 
 -- the guest could go on, but one of the frame's instructions finds no memory

@@ -10,9 +10,10 @@ use guest_calls::Guest;
 use rrv_model::record::Frame;
 use runs::{follow_all, record};
 use std::alloc::Global;
+use std::fs;
 use std::process::ExitCode;
 use std::rt::Files;
-use std::{env, fs};
+use test_guests::arguments::arguments;
 use test_guests::files::file_of;
 
 /// How often this program's own small one is followed.
@@ -72,12 +73,8 @@ fn run_words<R: Files + AllocGlobal>(rt: &R, words: &[String]) -> Option<Outcome
 }
 
 fn main(rt: HostRuntime) -> ExitCode {
-    let words: Vec<String> = match env::args(&rt) {
-        Ok(words) => match words.skip(1).collect(rt.alloc()) {
-            Ok(words) => words,
-            Err(_) => return ExitCode::from(1),
-        },
-        Err(_) => return ExitCode::from(2),
+    let Ok(words) = arguments(&rt) else {
+        return ExitCode::from(2);
     };
     let Some(outcome) = run_words(&rt, words.as_slice()) else {
         return ExitCode::from(1);

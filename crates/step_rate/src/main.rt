@@ -6,9 +6,10 @@ mod countdown;
 use countdown::COUNTDOWN;
 use elf_load::image::parse;
 use guest_calls::{Guest, RunEnd};
+use std::fs;
 use std::process::ExitCode;
 use std::rt::Files;
-use std::{env, fs};
+use test_guests::arguments::arguments;
 use test_guests::files::file_of;
 
 /// How many instructions run between two looks at how a run ended.
@@ -68,12 +69,8 @@ fn run_words<R: Files + AllocGlobal>(rt: &R, words: &[String]) -> Option<Outcome
 }
 
 fn main(rt: HostRuntime) -> ExitCode {
-    let words: Vec<String> = match env::args(&rt) {
-        Ok(words) => match words.skip(1).collect(rt.alloc()) {
-            Ok(words) => words,
-            Err(_) => return ExitCode::from(1),
-        },
-        Err(_) => return ExitCode::from(2),
+    let Ok(words) = arguments(&rt) else {
+        return ExitCode::from(2);
     };
     let Some(outcome) = run_words(&rt, words.as_slice()) else {
         return ExitCode::from(1);

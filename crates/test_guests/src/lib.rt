@@ -1,7 +1,9 @@
-//! What tests share: words of instructions, small ELF files, guests of these, and outsides.
+//! What tests share: words of instructions, registers and threads, small ELF files, guests of these, and outsides.
 #![tactic(auto)]
 
+pub mod arguments;
 pub mod files;
+pub mod harts;
 pub mod outsides;
 pub mod trial;
 pub mod words;

@@ -6,13 +6,14 @@ ghost use Rattle.guest_calls.specs.Snapshots.{guest_snapshots};
 use crate::tests::rows::{Row, play, same, trial_of};
 use guest_calls::{Guest, SetPageFault, SetRestFault};
 use guest_pages::{PageView, Snapshot};
-use rrv_model::machine::{GuestEnd, Permissions, Regs, Thread};
-use rrv_model::record::{CheckpointRest, ThreadPart};
+use rrv_model::machine::{GuestEnd, Permissions, Thread};
+use rrv_model::record::CheckpointRest;
 use rrv_model::sequence::Sequence;
 use std::alloc::Global;
 use std::fmt::Display;
 use std::process::Abort;
 use std::test::Fail;
+use test_guests::harts::part_of;
 use test_guests::trial::{Question, Trial};
 
 const MMAP: u32 = 222;
@@ -179,25 +180,9 @@ fn the_limit_of_pages_put_into_a_guest(rt: HostRuntime) -> Result<(), Fail> {
     play(&rt, rt.alloc(), &mut trial, &rows)
 }
 
-/// A thread with its tid in x1, which runs or waits at an address.
-fn part(tid: u32, waits_at: Option<u32>) -> ThreadPart {
-    let mut registers = [0; 32];
-    registers[1] = tid;
-    let regs = Regs {
-        pc: 0x1_0000,
-        registers,
-    };
-    let thread = Thread {
-        regs,
-        waits_at,
-        clear: 0,
-    };
-    ThreadPart { tid, thread }
-}
-
 /// A rest with a thread that waits and one that runs, up to the given break.
 fn rest_with(alloc: Global, program_break: u32, tids: [u32; 2]) -> Result<CheckpointRest, Fail> {
-    let threads = [part(tids[0], Some(8)), part(tids[1], None)];
+    let threads = [part_of(tids[0], Some(8)), part_of(tids[1], None)];
     Ok(CheckpointRest {
         program_break,
         next_tid: 8,
@@ -247,7 +232,7 @@ fn the_rest_of_a_checkpoint_is_taken(rt: HostRuntime) -> Result<(), Fail> {
     ];
     play(&rt, rt.alloc(), &mut trial, &rows)?;
     same(&rt, &"thread 1", thread_of(&trial, 1), None);
-    let thread = part(7, None).thread;
+    let thread = part_of(7, None).thread;
     same(&rt, &"thread 7", thread_of(&trial, 7), Some(thread));
     Ok(())
 }

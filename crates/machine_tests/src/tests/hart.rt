@@ -9,6 +9,7 @@ use rrv_model::machine::{FaultKind, Permissions, Regs, Reservation};
 use rv_machine::{Run, RunEnd, Stepped, run_hart, step};
 use std::process::Abort;
 use std::test::Fail;
+use test_guests::harts::regs_with;
 
 const CODE: u32 = 0x1_0000;
 
@@ -19,39 +20,6 @@ const ALL: Permissions = Permissions {
     write: true,
     execute: true,
 };
-
-/// Puts a word into a register that isn't x0.
-fn put(regs: &mut Regs, number: usize, word: u32)
-    requires { AreRegs regs.old }
-    ensures { AreRegs regs.new }
-{
-    if number != 0 && number < 32 {
-        regs.registers[number] = word;
-    }
-}
-
-/// The registers at the first instruction, all of them 0.
-fn regs_at(pc: u32) -> Regs
-    ensures { AreRegs result }
-{
-    Regs {
-        pc,
-        registers: [0; 32],
-    }
-}
-
-/// The registers at the first instruction, with these in a0 to a3.
-fn regs_with(arguments: [u32; 4]) -> Regs
-    ensures { AreRegs result }
-{
-    let [a0, a1, a2, a3] = arguments;
-    let mut regs = regs_at(CODE);
-    put(&mut regs, 10, a0);
-    put(&mut regs, 11, a1);
-    put(&mut regs, 12, a2);
-    put(&mut regs, 13, a3);
-    regs
-}
 
 /// A memory of three instructions, and a word of data.
 fn space_with<R: Abort + AllocGlobal>(rt: &R, words: [u32; 3], data: u32) -> Space {
@@ -92,7 +60,7 @@ fn step_once(
 fn reserves_and_stores(rt: HostRuntime) -> Result<(), Fail> {
     // lr.w a0, (a1), then sc.w a2, a3, (a1)
     let mut space = space_with(&rt, [0x1005_A52F, 0x18D5_A62F, 0], 5);
-    let mut regs = regs_with([0, DATA, 9, 7]);
+    let mut regs = regs_with(CODE, [0, DATA, 9, 7]);
     let mut reservation = None;
     let found = step_once(&mut regs, &mut space, &mut reservation, 10)?;
     let want = (Stepped::Next, 5, Some(5), Some(DATA));
@@ -116,7 +84,7 @@ fn run_up_to(regs: &mut Regs, space: &mut Space, limit: u32) -> Ran
 fn runs_to_a_call_and_a_fault(rt: HostRuntime) {
     // addi a0, a0, 1, twice, then ecall, and then no instruction
     let mut space = space_with(&rt, [0x0015_0513, 0x0015_0513, 0x0000_0073], 0);
-    let mut regs = regs_with([5, 0, 0, 0]);
+    let mut regs = regs_with(CODE, [5, 0, 0, 0]);
     let found = run_up_to(&mut regs, &mut space, 1);
     let end = RunEnd::Limit;
     same(&rt, &"one", found, (Run { count: 1, end }, 6, CODE + 4));

@@ -11,6 +11,7 @@ use rrv_model::record::ThreadPart;
 use std::alloc::Global;
 use std::process::Abort;
 use std::test::Fail;
+use test_guests::harts::part_of;
 
 const DONE: Result<(), ThreadFault> = Ok(());
 
@@ -258,22 +259,6 @@ fn says_why_it_refuses(rt: HostRuntime) -> Result<(), Fail> {
     Ok(())
 }
 
-/// A thread with its tid in x1, which runs or waits at an address.
-fn part(tid: u32, waits_at: Option<u32>) -> ThreadPart {
-    let mut registers = [0; 32];
-    registers[1] = tid;
-    let regs = Regs {
-        pc: 0x1_0000,
-        registers,
-    };
-    let thread = Thread {
-        regs,
-        waits_at,
-        clear: 0,
-    };
-    ThreadPart { tid, thread }
-}
-
 /// Plays rows on the threads that parts tell.
 fn play_parts(
     rt: &impl Abort,
@@ -298,7 +283,7 @@ fn refusal_of(
 
 #[test]
 fn threads_are_made_as_told(rt: HostRuntime) -> Result<(), Fail> {
-    let parts = [part(2, Some(8)), part(5, None), part(9, Some(8))];
+    let parts = [part_of(2, Some(8)), part_of(5, None), part_of(9, Some(8))];
     let rows = [
         Row::Live(3),
         Row::NextTid(12),
@@ -330,16 +315,16 @@ fn no_threads_at_all(rt: HostRuntime) -> Result<(), Fail> {
 
 #[test]
 fn no_state_has_these_threads(rt: HostRuntime) -> Result<(), Fail> {
-    let mut written = part(1, None);
+    let mut written = part_of(1, None);
     written.thread.regs.registers[0] = 1;
-    let running = part(1, None);
-    let waiting = part(2, Some(0));
+    let running = part_of(1, None);
+    let waiting = part_of(2, Some(0));
     let cases = [
         ([running, running], [2u32; 0].as_slice(), "a tid twice"),
         ([waiting, running], [2u32].as_slice(), "falling tids"),
-        ([part(0, None), waiting], [2u32].as_slice(), "tid 0"),
+        ([part_of(0, None), waiting], [2u32].as_slice(), "tid 0"),
         (
-            [running, part(3, None)],
+            [running, part_of(3, None)],
             [2u32; 0].as_slice(),
             "the next tid",
         ),
@@ -365,7 +350,7 @@ fn no_state_has_these_threads(rt: HostRuntime) -> Result<(), Fail> {
 fn sixteen_threads_at_most(rt: HostRuntime) -> Result<(), Fail> {
     let mut parts = Vec::new(rt.alloc());
     for tid in 1..18 {
-        parts.push(part(tid, None))?;
+        parts.push(part_of(tid, None))?;
     }
     let sixteen = parts.get(..16).ok_or("too few")?;
     play_parts(&rt, rt.alloc(), (sixteen, &[], 18), &[Row::Live(16)])?;

@@ -1,6 +1,6 @@
 use Rattle.std.proofs.Common.{◌<◌, ◌^◌, refl, rules, lit<}
 use Rattle.std.proofs.lemmas.List.Elements.{All-replicate}
-use Rattle.machine_cases.proofs.instructions.regs_at.Goals as goal
+use Rattle.test_guests.proofs.harts.regs_at.Goals as goal
 
 pub returns : goal.returns
 returns c = record {
