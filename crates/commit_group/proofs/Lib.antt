@@ -4,4 +4,9 @@ pub mod QueueRule
 pub mod WordRule
 pub mod Numbers
 pub mod Received
+pub mod Submitted
+pub mod Flushed
+pub mod Bodies
+pub mod Counts
+pub mod Worlds
 pub mod Ends

@@ -5,4 +5,7 @@ pub mod Numbers
 pub mod Seats
 pub mod Submits
 pub mod Flushes
+pub mod Bodies
+pub mod Turns
+pub mod Worlds
 pub mod Reports

@@ -1,5 +1,10 @@
 //! Why a call of a group was refused.
 
+ghost use Rattle.std.specs.Prelude.{◌≡◌};
+ghost use Rattle.commit_group.specs.declared.fault.FlushFault.TheVariants.{Memory};
+
+use rrv_model::refusal::Memory;
+use std::alloc::AllocError;
 use thiserror::Error;
 
 /// Why an item was not sent: of those that apply the greatest.
@@ -14,4 +19,37 @@ pub enum SubmitFault {
     /// The seat has left.
     #[error("left")]
     Left,
+}
+
+/// Why a turn of the flusher was refused.
+#[derive(Clone, Copy, Debug, PartialEq, Eq, Error)]
+pub enum FlushFault {
+    /// A call of the disk failed. The group is halted.
+    #[error("device failed")]
+    DeviceFailed,
+    /// The group was halted earlier.
+    #[error("halted")]
+    Halted,
+    /// The store or the number of segments would pass its limit. The group is halted.
+    #[error("too long")]
+    TooLong,
+    /// There was no memory. What was received waits for the next turn.
+    #[error("out of memory")]
+    Memory,
+}
+
+impl From<AllocError> for FlushFault {
+    ghost from_gives = { λ _ e. e ≡ Memory };
+
+    fn from(_: AllocError) -> Self {
+        FlushFault::Memory
+    }
+}
+
+impl From<Memory> for FlushFault {
+    ghost from_gives = { λ _ e. e ≡ Memory };
+
+    fn from(_: Memory) -> Self {
+        FlushFault::Memory
+    }
 }

@@ -5,6 +5,8 @@
 //! a guest sent once it has left, else 0.
 #![tactic(auto)]
 
+mod body;
+mod counting;
 mod fault;
 mod flusher_seat;
 mod group;
@@ -13,10 +15,14 @@ mod recorder_seat;
 mod report;
 mod start;
 mod steps;
+mod turn;
 mod words;
+mod world;
 
-pub use fault::SubmitFault;
+pub use fault::{FlushFault, SubmitFault};
 pub use flusher_seat::FlusherSeat;
 pub use group::Group;
 pub use recorder_seat::RecorderSeat;
 pub use report::{Report, end};
+pub use turn::Turn;
+pub use world::{failures_are_events, turns_are_events};

@@ -64,7 +64,7 @@ fn join_all(
     requires of_group { AllOf (id_of group.now) recorders.items }
     ensures joined { (k : ℕ) (r : RecorderValue) → slice_get recorders.items k ≡ Some r
         → IsTakenIn (received_of (view pass.old)) (flusher_of seat.old.me.0)
-            (slice_index result.0 k) (slice_index result.1 k) r }
+        (slice_index result.0 k) (slice_index result.1 k) r }
     ensures zeros { (k : ℕ) → length recorders.items ≤ k → (slice_index result.0 k ≡ 0) × (slice_index result.1 k ≡ 0) }
 {
     let mut sent = [0; 16];
