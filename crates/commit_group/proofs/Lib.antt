@@ -9,4 +9,5 @@ pub mod Flushed
 pub mod Bodies
 pub mod Counts
 pub mod Worlds
+pub mod WorldSteps
 pub mod Ends

@@ -8,4 +8,5 @@ pub mod Flushes
 pub mod Bodies
 pub mod Turns
 pub mod Worlds
+pub mod Steps
 pub mod Reports

@@ -25,4 +25,6 @@ pub use group::Group;
 pub use recorder_seat::RecorderSeat;
 pub use report::{Report, end};
 pub use turn::Turn;
-pub use world::{failures_are_events, turns_are_events};
+pub use world::{
+    failures_are_events, flusher_calls_are_events, recorder_calls_are_events, turns_are_events,
+};

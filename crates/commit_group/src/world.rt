@@ -1,5 +1,6 @@
 //! What the calls of a group are in the world of a recording.
 
+ghost use Rattle.commit_group.specs.Steps.{HaltLooksAreEvents, HaltsAreEvents, LeavesAreEvents, LeftLooksAreEvents, LooksAreEvents, PublishesAreEvents, SendsAreEvents};
 ghost use Rattle.commit_group.specs.Worlds.{FailuresAreEvents, TurnsAreEvents};
 
 use trace_disk::Disk;
@@ -12,4 +13,19 @@ pub fn turns_are_events<D: Disk>()
 /// And so is one that a failed call of the disk stopped.
 pub fn failures_are_events<D: Disk>()
     ensures { FailuresAreEvents D.honest D.state D.faults }
+{}
+
+/// Each call of a recorder's seat is one event, or a look for the halt and a push.
+pub fn recorder_calls_are_events()
+    ensures looks { LooksAreEvents }
+    ensures halt_looks { HaltLooksAreEvents }
+    ensures leaves { LeavesAreEvents }
+    ensures sends { SendsAreEvents }
+{}
+
+/// Each other call of the flusher's seat is one event.
+pub fn flusher_calls_are_events<D: Disk>()
+    ensures publishes { PublishesAreEvents D.state }
+    ensures halts { HaltsAreEvents D.state }
+    ensures left_looks { LeftLooksAreEvents D.state }
 {}

@@ -1,0 +1,142 @@
+-- Single calls of the seats are events.
+use Rattle.std.proofs.Common.{◌≡◌, ℕ, ◌+◌, ◌<◌, ◌==◌, Bool, true, false, List, [], ◌∷◌, ◌++◌, length, min, set, refl, sym, ap, ◌∙◌, subst}
+use Rattle.std.specs.Prelude.{slice_index}
+use Rattle.std.proofs.lemmas.List.{length-map, map_push, get_or-set_other}
+use mathlib.Core.Logic.{dite}
+use native.Mathlib.Decide.{ℕ_discrete}
+use Rattle.rrv_model.specs.declared.record.Record.{Record}
+use Rattle.rrv_model.specs.CrashModel.{DiskState}
+use Rattle.rrv_model.specs.Recovered.{of_guest}
+use Rattle.commit_core.specs.World.{Recorder, joined, flag}
+use Rattle.commit_core.specs.Events.{put, looked, looked_at_halt, gone, pushed}
+use Rattle.commit_core.proofs.Lists.{put_same, put_other}
+use Rattle.commit_group.specs.Numbers.{numbered}
+use Rattle.commit_group.specs.Seats.{FlusherValue, next_record}
+use Rattle.commit_group.specs.Steps.{LooksAreEvents, HaltLooksAreEvents, LeavesAreEvents, SendsAreEvents, PublishesAreEvents, HaltsAreEvents, LeftLooksAreEvents}
+
+-- ---- a recorder's seat
+
+pub looks_are_events : LooksAreEvents
+looks_are_events r w h =
+    let g = r.guest in
+    let one = looked (w.words g) (w.recorders g) in
+    let at : put w.recorders g one g ≡ one = put_same w.recorders g one in (
+      h.there,
+      record {
+        there = h.there;
+        sent = ap (λ (x : Recorder). x.sent) at ∙ h.sent;
+        seen = ap (λ (x : Recorder). x.seen) at ∙ ap (λ (n : ℕ). min (w.words g) n) (ap length h.sent ∙ length-map r.sent (numbered w.first_guest));
+        knows_halt = ap (λ (x : Recorder). x.knows_halt) at ∙ h.knows_halt;
+        left = ap (λ (x : Recorder). x.left) at ∙ h.left;
+      },
+    )
+
+pub halt_looks_are_events : HaltLooksAreEvents
+halt_looks_are_events r w found h word =
+    let g = r.guest in
+    let one = looked_at_halt (w.words w.guests) (w.recorders g) in
+    let at : put w.recorders g one g ≡ one = put_same w.recorders g one in (
+      h.there,
+      record {
+        there = h.there;
+        sent = ap (λ (x : Recorder). x.sent) at ∙ h.sent;
+        seen = ap (λ (x : Recorder). x.seen) at ∙ h.seen;
+        knows_halt = ap (λ (x : Recorder). x.knows_halt) at ∙ ap (λ (n : ℕ). n == 1) word ∙ flag_is found;
+        left = ap (λ (x : Recorder). x.left) at ∙ h.left;
+      },
+    )
+  where
+    flag_is : (b : Bool) → (flag b == 1) ≡ b
+    flag_is true = refl
+    flag_is false = refl
+
+pub leaves_are_events : LeavesAreEvents
+leaves_are_events r w h =
+    let g = r.guest in
+    let one = gone (w.recorders g) in
+    let at : put w.recorders g one g ≡ one = put_same w.recorders g one in (
+      h.there,
+      record {
+        there = h.there;
+        sent = ap (λ (x : Recorder). x.sent) at ∙ h.sent;
+        seen = ap (λ (x : Recorder). x.seen) at ∙ h.seen;
+        knows_halt = ap (λ (x : Recorder). x.knows_halt) at ∙ h.knows_halt;
+        left = ap (λ (x : Recorder). x.left) at;
+      },
+    )
+
+pub sends_are_events : SendsAreEvents
+sends_are_events r item rest w h here next room =
+    let g = r.guest in
+    let x = next_record r item in
+    let one = pushed (numbered w.first_guest x) rest (w.recorders g) in
+    let at : put w.recorders g one g ≡ one = put_same w.recorders g one in (
+      record { guest = h.there; next = next; room = room; here = h.left ∙ here },
+      record {
+        there = h.there;
+        sent = ap (λ (v : Recorder). v.sent) at ∙ ap (λ (l : List Record). l ++ numbered w.first_guest x ∷ []) h.sent ∙ sym (map_push (numbered w.first_guest) r.sent x);
+        seen = ap (λ (v : Recorder). v.seen) at ∙ h.seen;
+        knows_halt = ap (λ (v : Recorder). v.knows_halt) at ∙ h.knows_halt;
+        left = ap (λ (v : Recorder). v.left) at ∙ h.left;
+      },
+    )
+
+-- ---- the flusher's seat
+
+-- a list and a function that agree at each place below n, changed at one place
+set_again : (f : ℕ → ℕ) (l l' : List ℕ) (n g x : ℕ) → ((k : ℕ) → k < n → f k ≡ slice_index l k) → l' ≡ set l g x → slice_index l' g ≡ x → (k : ℕ) → k < n → put f g x k ≡ slice_index l' k
+set_again f l l' n g x same is here k low = dite (ℕ_discrete k g)
+    (λ e. ap (put f g x) e ∙ put_same f g x ∙ sym here ∙ ap (λ (j : ℕ). slice_index l' j) (sym e))
+    (λ ne. put_other f g x k ne ∙ same k low ∙ sym (get_or-set_other l g k x 0 ne) ∙ ap (λ (m : List ℕ). slice_index m k) (sym is))
+
+pub publishes_are_events : {D : Type 0} (state : D → DiskState) → PublishesAreEvents state
+publishes_are_events state stage old new log w g low is here h =
+    let count : length (of_guest (w.first_guest + g) (joined w.flusher.finished)) ≡ slice_index new.told g =
+    (λ i. length (of_guest (h.first_is i + g) (h.finished i))) ∙ sym here in
+    let low' : g < w.guests = subst (λ (n : ℕ). g < n) (sym h.guests) low in (
+      low',
+      record {
+        guests = h.guests ∙ ap (λ (f : FlusherValue). f.group.guests) (sym is);
+        first_is = h.first_is;
+        finished = h.finished ∙ ap (λ (f : FlusherValue). f.committed) (sym is);
+        waiting = h.waiting ∙ ap (λ (f : FlusherValue). f.waiting) (sym is);
+        told = set_again w.flusher.told old.told new.told w.guests g _ h.told
+            (ap (λ (f : FlusherValue). f.told) is ∙ ap (set old.told g) (sym here ∙ sym count)) (sym count);
+        totals = λ k l. h.totals k l ∙ ap (λ (f : FlusherValue). slice_index f.totals k) (sym is);
+        halted = h.halted ∙ ap (λ (f : FlusherValue). f.halted) (sym is);
+        stage_is = h.stage_is;
+        disk = h.disk;
+      },
+    )
+
+pub halts_are_events : {D : Type 0} (state : D → DiskState) → HaltsAreEvents state
+halts_are_events state stage first f log w h = (
+  tt,
+  record {
+    guests = h.guests;
+    first_is = h.first_is;
+    finished = h.finished;
+    waiting = h.waiting;
+    told = h.told;
+    totals = h.totals;
+    halted = refl;
+    stage_is = h.stage_is;
+    disk = h.disk;
+  },
+)
+
+pub left_looks_are_events : {D : Type 0} (state : D → DiskState) → LeftLooksAreEvents state
+left_looks_are_events state stage first old new log w g low is here h = (
+  subst (λ (n : ℕ). g < n) (sym h.guests) low,
+  record {
+    guests = h.guests ∙ ap (λ (f : FlusherValue). f.group.guests) (sym is);
+    first_is = h.first_is;
+    finished = h.finished ∙ ap (λ (f : FlusherValue). f.committed) (sym is);
+    waiting = h.waiting ∙ ap (λ (f : FlusherValue). f.waiting) (sym is);
+    told = λ k l. h.told k l ∙ ap (λ (f : FlusherValue). slice_index f.told k) (sym is);
+    totals = set_again w.flusher.totals old.totals new.totals w.guests g _ h.totals (ap (λ (f : FlusherValue). f.totals) is) here;
+    halted = h.halted ∙ ap (λ (f : FlusherValue). f.halted) (sym is);
+    stage_is = h.stage_is;
+    disk = h.disk;
+  },
+)

@@ -1,0 +1,97 @@
+//! What is sent, committed and seen.
+
+use super::rows::{Row, play};
+use super::stores::{crashes_leave, has_bytes};
+use commit_group::{FlushFault, SubmitFault, Turn};
+use std::test::Fail;
+
+// An opening of a file of 88 bytes and 255 frames of 64 instructions fill the queue; four turns commit all of it.
+#[test]
+fn full_queue(rt: HostRuntime) -> Result<(), Fail> {
+    let alloc = rt.alloc();
+    let batch = Row::Turn(Ok(Turn::Committed(64)));
+    let rows = [
+        Row::SendsAll(0, 256),
+        Row::Sends(0, Some(SubmitFault::Full)),
+        Row::Sent(0, 256),
+        Row::Looks(0, 0),
+        batch,
+        Row::Looks(0, 64),
+        batch,
+        batch,
+        batch,
+        Row::Turn(Ok(Turn::Idle)),
+        Row::Looks(0, 256),
+        Row::NextGuest(1),
+        Row::Leaves(0),
+        Row::Sends(0, Some(SubmitFault::Left)),
+        Row::Turn(Ok(Turn::Done)),
+    ];
+    let mut disk = play(&rt, alloc, 1, 0, &rows)?;
+    let gates = [(16, 0xA5), (1503, 0xA5), (2888, 0xA5), (4273, 0xA5), (5658, 0)];
+    has_bytes(&rt, &mut disk, 5659, &gates)?;
+    crashes_leave(&rt, alloc, &disk, &[256])
+}
+
+// Two guests send three items and one; one turn commits them, and a crash right behind its last sync loses none.
+#[test]
+fn two_guests_in_one_turn(rt: HostRuntime) -> Result<(), Fail> {
+    let alloc = rt.alloc();
+    let rows = [
+        Row::SendsAll(0, 2),
+        Row::SendsAll(1, 1),
+        Row::SendsAll(0, 1),
+        Row::Turn(Ok(Turn::Committed(4))),
+        Row::Looks(0, 3),
+        Row::Looks(1, 1),
+        Row::Looks(0, 3),
+        Row::Looks(1, 1),
+        Row::NextGuest(2),
+        Row::Leaves(0),
+        Row::Turn(Ok(Turn::Idle)),
+        Row::LooksForLeft(0, 4),
+        Row::LooksForLeft(1, 0),
+        Row::Leaves(1),
+        Row::Turn(Ok(Turn::Done)),
+    ];
+    let disk = play(&rt, alloc, 2, 0, &rows)?;
+    crashes_leave(&rt, alloc, &disk, &[3, 1])
+}
+
+// The flusher's halt is seen, and nothing is sent or committed from then on.
+#[test]
+fn halted_group(rt: HostRuntime) -> Result<(), Fail> {
+    let alloc = rt.alloc();
+    let rows = [
+        Row::SendsAll(0, 1),
+        Row::LooksForHalt(0, false),
+        Row::Halts,
+        Row::Turn(Err(FlushFault::Halted)),
+        Row::LooksForHalt(0, true),
+        Row::Sends(0, Some(SubmitFault::Halted)),
+        Row::SendsAtLast(0, Some(SubmitFault::Halted)),
+        Row::Looks(0, 0),
+    ];
+    let disk = play(&rt, alloc, 1, 0, &rows)?;
+    crashes_leave(&rt, alloc, &disk, &[])
+}
+
+// Each call of the disk fails in turn: the turn says so and halts the group, and nothing is told.
+#[test]
+fn failed_turn(rt: HostRuntime) -> Result<(), Fail> {
+    let alloc = rt.alloc();
+    for fails in 1..5 {
+        let rows = [
+            Row::SendsAll(0, 2),
+            Row::Turn(Err(FlushFault::DeviceFailed)),
+            Row::Turn(Err(FlushFault::Halted)),
+            Row::LooksForHalt(0, true),
+            Row::Looks(0, 0),
+        ];
+        let disk = play(&rt, alloc, 1, fails, &rows)?;
+        if fails < 3 {
+            crashes_leave(&rt, alloc, &disk, &[])?;
+        }
+    }
+    Ok(())
+}

@@ -1,0 +1,43 @@
+//! Items that are sent: an opening of a file of one jump to itself, and frames of its thread.
+
+ghost use Rattle.std.specs.Prelude.{IfOk};
+ghost use Rattle.rrv_model.specs.RecordText.{HasItemText};
+ghost use Rattle.rrv_model.specs.Recovered.{IsOpening};
+
+use rrv_model::limits::MAX_ELF;
+use rrv_model::record::{End, Frame, Item, Opening};
+use rrv_model::sequence::Sequence;
+use std::alloc::Global;
+use std::test::Fail;
+use test_guests::files::file_of;
+
+/// `j .`
+const JUMP_TO_ITSELF: [u32; 1] = [0x0000_006F];
+
+/// The opening of a guest named `a`.
+pub(crate) fn opening(alloc: Global) -> Result<Item, Fail>
+    ensures { IfOk result (λ item. IsOpening item × HasItemText item) }
+{
+    let elf = file_of(alloc, &JUMP_TO_ITSELF)?;
+    if elf.len() > MAX_ELF as usize {
+        return Err(Fail::new("a file too long"));
+    }
+    let name = Vec::from_slice(alloc, b"a")?;
+    Ok(Item::Opening(Opening {
+        elf: Sequence::from_vec(elf),
+        name: Sequence::from_vec(name),
+        random: [0; 16],
+    }))
+}
+
+/// The frame of a slice of 64 instructions.
+pub(crate) fn preempted() -> Item
+    ensures opens { IsOpening result → ⊥ }
+    ensures text { HasItemText result }
+{
+    Item::Frame(Frame {
+        tid: 1,
+        count: 64,
+        end: End::Preempt,
+    })
+}

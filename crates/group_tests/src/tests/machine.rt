@@ -1,0 +1,147 @@
+//! A group and a log on a disk in memory. What a call requires is tested here.
+
+ghost use Rattle.std.specs.Prelude.{◌≡◌, false, IfOk};
+ghost use Rattle.commit_group.specs.Submits.{CanSubmit};
+
+use super::items::{opening, preempted};
+use commit_group::{FlushFault, FlusherSeat, Group, RecorderSeat, SubmitFault, Turn};
+use rrv_model::record::Item;
+use std::alloc::Global;
+use std::sync::Wait;
+use std::test::Fail;
+use trace_disk::{FailOnce, MemDisk};
+use trace_log::Log;
+
+pub(crate) type Device = FailOnce<MemDisk>;
+
+/// What the guest of a seat sends next: an opening, and then frames.
+fn next_item(alloc: Global, seat: &RecorderSeat) -> Result<Item, Fail>
+    ensures { IfOk result (CanSubmit seat.now) }
+{
+    let _ = seat.guest();
+    match seat.sent() {
+        0 => opening(alloc),
+        u32::MAX => Err(Fail::new("too many items")),
+        _ => Ok(preempted()),
+    }
+}
+
+/// The seats of a group, and a log that takes a further commit unless the group has halted.
+#[derive(Drop)]
+pub(crate) struct Machine {
+    seats: Vec<RecorderSeat>,
+    flusher: FlusherSeat,
+    log: Log<Device>,
+    ghost whole: { flusher.halted ≡ false → log.is_broken ≡ false },
+}
+
+impl Machine {
+    /// A group of so many guests and a new store, on a disk that fails at this call of those behind the store's making,
+    /// counted from 1; at none with 0.
+    pub(crate) fn new(alloc: Global, guests: u32, fails: u64) -> Result<Machine, Fail> {
+        if guests == 0 || guests > 16 {
+            return Err(Fail::new("no such group"));
+        }
+        let fails = if fails == 0 { 0 } else { fails.saturating_add(2) };
+        let Ok(log) = Log::create(FailOnce::new(MemDisk::new(alloc), fails)) else {
+            return Err(Fail::new("no store"));
+        };
+        let (seats, flusher) = Group::make(alloc, guests)?;
+        Ok(Machine {
+            seats,
+            flusher,
+            log,
+        })
+    }
+
+    fn seat(&mut self, guest: u32) -> Result<&mut RecorderSeat, Fail> {
+        Ok(self.seats.get_mut(guest as usize).ok_or("no such guest")?)
+    }
+
+    /// The guest sends its next item; why it is refused.
+    pub(crate) fn try_submit<R: Wait>(
+        &mut self,
+        rt: &R,
+        alloc: Global,
+        guest: u32,
+    ) -> Result<Option<SubmitFault>, Fail> {
+        let seat = self.seat(guest)?;
+        let item = next_item(alloc, seat)?;
+        match seat.try_submit(rt, item) {
+            Ok(()) => Ok(None),
+            Err((_, fault)) => Ok(Some(fault)),
+        }
+    }
+
+    /// The same, but it waits where there is no room.
+    pub(crate) fn submit<R: Wait>(
+        &mut self,
+        rt: &R,
+        alloc: Global,
+        guest: u32,
+    ) -> Result<Option<SubmitFault>, Fail> {
+        let seat = self.seat(guest)?;
+        let item = next_item(alloc, seat)?;
+        match seat.submit(rt, item) {
+            Ok(()) => Ok(None),
+            Err((_, fault)) => Ok(Some(fault)),
+        }
+    }
+
+    pub(crate) fn look(&mut self, guest: u32) -> Result<u32, Fail> {
+        Ok(self.seat(guest)?.look())
+    }
+
+    pub(crate) fn look_halt(&mut self, guest: u32) -> Result<bool, Fail> {
+        Ok(self.seat(guest)?.look_halt())
+    }
+
+    pub(crate) fn leave(&mut self, guest: u32) -> Result<(), Fail> {
+        self.seat(guest)?.leave();
+        Ok(())
+    }
+
+    pub(crate) fn sent(&mut self, guest: u32) -> Result<u32, Fail> {
+        Ok(self.seat(guest)?.sent())
+    }
+
+    pub(crate) fn turn<R: Wait>(
+        &mut self,
+        rt: &R,
+        alloc: Global,
+    ) -> Result<Result<Turn, FlushFault>, Fail> {
+        if self.log.next_guest() > u32::MAX - self.flusher.guests() {
+            return Err(Fail::new("no number for a guest"));
+        }
+        Ok(self.flusher.turn(rt, alloc, &mut self.log))
+    }
+
+    pub(crate) fn halt(&mut self) {
+        self.flusher.halt();
+    }
+
+    pub(crate) fn publish(&mut self, guest: u32) -> Result<(), Fail> {
+        if guest >= self.flusher.guests() {
+            return Err(Fail::new("no such guest"));
+        }
+        self.flusher.publish(guest);
+        Ok(())
+    }
+
+    pub(crate) fn look_left(&mut self, guest: u32) -> Result<u64, Fail> {
+        if guest >= self.flusher.guests() {
+            return Err(Fail::new("no such guest"));
+        }
+        Ok(self.flusher.look_left(guest))
+    }
+
+    pub(crate) fn next_guest(&self) -> u32 {
+        self.log.next_guest()
+    }
+
+    /// The disk of the store, as it is now.
+    pub(crate) fn close(self) -> MemDisk {
+        let Machine { seats: _, flusher: _, log } = self;
+        log.close().into_inner()
+    }
+}

@@ -1,0 +1,84 @@
+//! A group by rows.
+
+use super::machine::Machine;
+use super::same;
+use commit_group::{FlushFault, SubmitFault, Turn};
+use std::alloc::Global;
+use std::process::Abort;
+use std::sync::Wait;
+use std::test::Fail;
+use trace_disk::MemDisk;
+
+/// What is done with a group, or what is to be found. A guest is named by its place.
+#[derive(Clone, Copy, Debug)]
+pub(crate) enum Row {
+    /// The guest sends its next item, an opening at first and then frames; why it is refused.
+    Sends(u32, Option<SubmitFault>),
+    /// It sends so many, all of them.
+    SendsAll(u32, u32),
+    /// It waits where there is no room.
+    SendsAtLast(u32, Option<SubmitFault>),
+    /// How many of its items are durable.
+    Looks(u32, u32),
+    LooksForHalt(u32, bool),
+    Leaves(u32),
+    /// How many it has sent.
+    Sent(u32, u32),
+    Turn(Result<Turn, FlushFault>),
+    Halts,
+    Publishes(u32),
+    LooksForLeft(u32, u64),
+    NextGuest(u32),
+}
+
+fn send_all(
+    rt: &(impl Abort + Wait),
+    alloc: Global,
+    machine: &mut Machine,
+    guest: u32,
+    count: u32,
+) -> Result<(), Fail> {
+    for _ in 0..count {
+        same(rt, &guest, machine.try_submit(rt, alloc, guest)?, None);
+    }
+    Ok(())
+}
+
+fn take(
+    rt: &(impl Abort + Wait),
+    alloc: Global,
+    machine: &mut Machine,
+    row: &Row,
+) -> Result<(), Fail> {
+    match *row {
+        Row::Sends(guest, want) => same(rt, row, machine.try_submit(rt, alloc, guest)?, want),
+        Row::SendsAll(guest, count) => send_all(rt, alloc, machine, guest, count)?,
+        Row::SendsAtLast(guest, want) => same(rt, row, machine.submit(rt, alloc, guest)?, want),
+        Row::Looks(guest, want) => same(rt, row, machine.look(guest)?, want),
+        Row::LooksForHalt(guest, want) => same(rt, row, machine.look_halt(guest)?, want),
+        Row::Leaves(guest) => machine.leave(guest)?,
+        Row::Sent(guest, want) => same(rt, row, machine.sent(guest)?, want),
+        Row::Turn(want) => same(rt, row, machine.turn(rt, alloc)?, want),
+        Row::Halts => machine.halt(),
+        Row::Publishes(guest) => machine.publish(guest)?,
+        Row::LooksForLeft(guest, want) => same(rt, row, machine.look_left(guest)?, want),
+        Row::NextGuest(want) => same(rt, row, machine.next_guest(), want),
+    }
+    Ok(())
+}
+
+/// Takes rows one after another, on a group of so many guests, and gives the disk of its store. A call of the disk fails behind the store's
+/// making, counted from 1; none with 0.
+pub(crate) fn play<R: Abort + Wait>(
+    rt: &R,
+    alloc: Global,
+    guests: u32,
+    fails: u64,
+    rows: &[Row],
+) -> Result<MemDisk, Fail> {
+    let mut machine = Machine::new(alloc, guests, fails)?;
+    for row in rows {
+        take(rt, alloc, &mut machine, row)?;
+    }
+    Ok(machine.close())
+}
