@@ -155,7 +155,7 @@ pub fn steps(alloc: Global, text: &str) -> Option<bool> {
     let found = outcome_of(alloc, word, &before)?;
     let wanted = Outcome {
         end: want.end,
-        regs: regs_of(&want.state),
+        regs: regs_with(want.state.pc, want.state.arguments),
         data: want.state.data,
         reserved: want.state.reserved,
     };
