@@ -1,6 +1,8 @@
 //! Items that are sent: an opening of a file of one jump to itself, and frames of its thread.
 
-ghost use Rattle.std.specs.Prelude.{IfOk};
+ghost use Rattle.std.specs.Prelude.{◌≤◌, IfOk, length};
+ghost use Rattle.rrv_model.specs.declared.limits.TheConstants.{MAX_ELF};
+ghost use Rattle.rrv_model.specs.Opening.{IsName};
 ghost use Rattle.rrv_model.specs.RecordText.{HasItemText};
 ghost use Rattle.rrv_model.specs.Recovered.{IsOpening};
 
@@ -14,6 +16,18 @@ use test_guests::files::file_of;
 /// `j .`
 const JUMP_TO_ITSELF: [u32; 1] = [0x0000_006F];
 
+fn opening_of(elf: Vec<u8>, name: Vec<u8>) -> Item
+    requires fits { length elf.items ≤ MAX_ELF }
+    requires named { IsName name.items }
+    ensures { IsOpening result × HasItemText result }
+{
+    Item::Opening(Opening {
+        elf: Sequence::from_vec(elf),
+        name: Sequence::from_vec(name),
+        random: [0; 16],
+    })
+}
+
 /// The opening of a guest named `a`.
 pub(crate) fn opening(alloc: Global) -> Result<Item, Fail>
     ensures { IfOk result (λ item. IsOpening item × HasItemText item) }
@@ -23,11 +37,7 @@ pub(crate) fn opening(alloc: Global) -> Result<Item, Fail>
         return Err(Fail::new("a file too long"));
     }
     let name = Vec::from_slice(alloc, b"a")?;
-    Ok(Item::Opening(Opening {
-        elf: Sequence::from_vec(elf),
-        name: Sequence::from_vec(name),
-        random: [0; 16],
-    }))
+    Ok(opening_of(elf, name))
 }
 
 /// The frame of a slice of 64 instructions.

@@ -20,7 +20,7 @@ fn next_item(alloc: Global, seat: &RecorderSeat) -> Result<Item, Fail>
 {
     let _ = seat.guest();
     match seat.sent() {
-        0 => opening(alloc),
+        0 => Ok(opening(alloc)?),
         u32::MAX => Err(Fail::new("too many items")),
         _ => Ok(preempted()),
     }
