@@ -7,79 +7,60 @@ use native.Mathlib.Decide.{ℕ_discrete}
 use Rattle.rrv_model.specs.declared.record.Record.{Record}
 use Rattle.rrv_model.specs.CrashModel.{DiskState}
 use Rattle.rrv_model.specs.Recovered.{of_guest}
-use Rattle.commit_core.specs.World.{Recorder, joined, flag}
-use Rattle.commit_core.specs.Events.{put, looked, looked_at_halt, gone, pushed}
+use Rattle.commit_core.specs.World.{World, Recorder, joined, flag}
+use Rattle.commit_core.specs.Events.{after, put, looked, looked_at_halt, gone, pushed}
+use Rattle.commit_core.specs.Events.Event.{Push, Look, LookHalt, Leave}
 use Rattle.commit_core.proofs.Lists.{put_same, put_other}
-use Rattle.commit_group.specs.Numbers.{numbered}
-use Rattle.commit_group.specs.Seats.{FlusherValue, next_record}
-use Rattle.commit_group.specs.Steps.{LooksAreEvents, HaltLooksAreEvents, LeavesAreEvents, SendsAreEvents, PublishesAreEvents, HaltsAreEvents, LeftLooksAreEvents}
+use Rattle.commit_group.specs.Numbers.{numbered, renumbered}
+use Rattle.commit_group.specs.Seats.{FlusherValue, RecorderValue, next_record}
+use Rattle.commit_group.specs.Submits.{after_look, after_look_halt, after_send}
+use Rattle.commit_group.specs.Steps.{StandsForRecorder, LooksAreEvents, HaltLooksAreEvents, LeavesAreEvents, SendsAreEvents, RecorderCallsAreEvents, FlusherCallsAreEvents, PublishesAreEvents, HaltsAreEvents, LeftLooksAreEvents}
 
 -- ---- a recorder's seat
 
-pub looks_are_events : LooksAreEvents
+stands_by : (w : World) (r : RecorderValue) (one : Recorder) → r.guest < w.guests → w.recorders r.guest ≡ one → one.sent ≡ renumbered w.first_guest r.sent
+    → one.seen ≡ r.seen → one.knows_halt ≡ r.knows_halt → one.left ≡ r.has_left → StandsForRecorder r w
+stands_by w r one there at sent seen knows_halt left = record {
+  there = there;
+  sent = ap (λ (x : Recorder). x.sent) at ∙ sent;
+  seen = ap (λ (x : Recorder). x.seen) at ∙ seen;
+  knows_halt = ap (λ (x : Recorder). x.knows_halt) at ∙ knows_halt;
+  left = ap (λ (x : Recorder). x.left) at ∙ left;
+}
+
+flag_is : (b : Bool) → (flag b == 1) ≡ b
+flag_is true = refl
+flag_is false = refl
+
+looks_are_events : LooksAreEvents
 looks_are_events r w h =
-    let g = r.guest in
-    let one = looked (w.words g) (w.recorders g) in
-    let at : put w.recorders g one g ≡ one = put_same w.recorders g one in (
-      h.there,
-      record {
-        there = h.there;
-        sent = ap (λ (x : Recorder). x.sent) at ∙ h.sent;
-        seen = ap (λ (x : Recorder). x.seen) at ∙ ap (λ (n : ℕ). min (w.words g) n) (ap length h.sent ∙ length-map r.sent (numbered w.first_guest));
-        knows_halt = ap (λ (x : Recorder). x.knows_halt) at ∙ h.knows_halt;
-        left = ap (λ (x : Recorder). x.left) at ∙ h.left;
-      },
-    )
+    let one = looked (w.words r.guest) (w.recorders r.guest) in
+    let seen : one.seen ≡ min (w.words r.guest) (length r.sent) = ap (λ (n : ℕ). min (w.words r.guest) n) (ap length h.sent ∙ length-map r.sent (numbered w.first_guest)) in
+    (h.there, stands_by (after w (Look r.guest)) (after_look r (w.words r.guest)) one h.there (put_same w.recorders r.guest one) h.sent seen h.knows_halt h.left)
 
-pub halt_looks_are_events : HaltLooksAreEvents
+halt_looks_are_events : HaltLooksAreEvents
 halt_looks_are_events r w found h word =
-    let g = r.guest in
-    let one = looked_at_halt (w.words w.guests) (w.recorders g) in
-    let at : put w.recorders g one g ≡ one = put_same w.recorders g one in (
-      h.there,
-      record {
-        there = h.there;
-        sent = ap (λ (x : Recorder). x.sent) at ∙ h.sent;
-        seen = ap (λ (x : Recorder). x.seen) at ∙ h.seen;
-        knows_halt = ap (λ (x : Recorder). x.knows_halt) at ∙ ap (λ (n : ℕ). n == 1) word ∙ flag_is found;
-        left = ap (λ (x : Recorder). x.left) at ∙ h.left;
-      },
-    )
-  where
-    flag_is : (b : Bool) → (flag b == 1) ≡ b
-    flag_is true = refl
-    flag_is false = refl
+    let one = looked_at_halt (w.words w.guests) (w.recorders r.guest) in
+    let knows : one.knows_halt ≡ found = ap (λ (n : ℕ). n == 1) word ∙ flag_is found in
+    (h.there, stands_by (after w (LookHalt r.guest)) (after_look_halt r found) one h.there (put_same w.recorders r.guest one) h.sent h.seen knows h.left)
 
-pub leaves_are_events : LeavesAreEvents
+leaves_are_events : LeavesAreEvents
 leaves_are_events r w h =
-    let g = r.guest in
-    let one = gone (w.recorders g) in
-    let at : put w.recorders g one g ≡ one = put_same w.recorders g one in (
-      h.there,
-      record {
-        there = h.there;
-        sent = ap (λ (x : Recorder). x.sent) at ∙ h.sent;
-        seen = ap (λ (x : Recorder). x.seen) at ∙ h.seen;
-        knows_halt = ap (λ (x : Recorder). x.knows_halt) at ∙ h.knows_halt;
-        left = ap (λ (x : Recorder). x.left) at;
-      },
+    let one = gone (w.recorders r.guest) in
+    (h.there, stands_by (after w (Leave r.guest)) (record r { has_left = true }) one h.there (put_same w.recorders r.guest one) h.sent h.seen h.knows_halt refl)
+
+sends_are_events : SendsAreEvents
+sends_are_events r item rest w h here next room =
+    let x = next_record r item in
+    let y = numbered w.first_guest x in
+    let one = pushed y rest (w.recorders r.guest) in
+    let sent : one.sent ≡ renumbered w.first_guest (r.sent ++ x ∷ []) = ap (λ (l : List Record). l ++ y ∷ []) h.sent ∙ sym (map_push (numbered w.first_guest) r.sent x) in (
+      record { guest = h.there; next = next; room = room; here = h.left ∙ here },
+      stands_by (after w (Push r.guest y rest)) (after_send r x) one h.there (put_same w.recorders r.guest one) sent h.seen h.knows_halt h.left,
     )
 
-pub sends_are_events : SendsAreEvents
-sends_are_events r item rest w h here next room =
-    let g = r.guest in
-    let x = next_record r item in
-    let one = pushed (numbered w.first_guest x) rest (w.recorders g) in
-    let at : put w.recorders g one g ≡ one = put_same w.recorders g one in (
-      record { guest = h.there; next = next; room = room; here = h.left ∙ here },
-      record {
-        there = h.there;
-        sent = ap (λ (v : Recorder). v.sent) at ∙ ap (λ (l : List Record). l ++ numbered w.first_guest x ∷ []) h.sent ∙ sym (map_push (numbered w.first_guest) r.sent x);
-        seen = ap (λ (v : Recorder). v.seen) at ∙ h.seen;
-        knows_halt = ap (λ (v : Recorder). v.knows_halt) at ∙ h.knows_halt;
-        left = ap (λ (v : Recorder). v.left) at ∙ h.left;
-      },
-    )
+pub recorder_calls : RecorderCallsAreEvents
+recorder_calls = record { looks = looks_are_events; halt_looks = halt_looks_are_events; leaves = leaves_are_events; sends = sends_are_events }
 
 -- ---- the flusher's seat
 
@@ -89,7 +70,7 @@ set_again f l l' n g x same is here k low = dite (ℕ_discrete k g)
     (λ e. ap (put f g x) e ∙ put_same f g x ∙ sym here ∙ ap (λ (j : ℕ). slice_index l' j) (sym e))
     (λ ne. put_other f g x k ne ∙ same k low ∙ sym (get_or-set_other l g k x 0 ne) ∙ ap (λ (m : List ℕ). slice_index m k) (sym is))
 
-pub publishes_are_events : {D : Type 0} (state : D → DiskState) → PublishesAreEvents state
+publishes_are_events : {D : Type 0} (state : D → DiskState) → PublishesAreEvents state
 publishes_are_events state stage old new log w g low is here h =
     let count : length (of_guest (w.first_guest + g) (joined w.flusher.finished)) ≡ slice_index new.told g =
     (λ i. length (of_guest (h.first_is i + g) (h.finished i))) ∙ sym here in
@@ -109,23 +90,11 @@ publishes_are_events state stage old new log w g low is here h =
       },
     )
 
-pub halts_are_events : {D : Type 0} (state : D → DiskState) → HaltsAreEvents state
-halts_are_events state stage first f log w h = (
-  tt,
-  record {
-    guests = h.guests;
-    first_is = h.first_is;
-    finished = h.finished;
-    waiting = h.waiting;
-    told = h.told;
-    totals = h.totals;
-    halted = refl;
-    stage_is = h.stage_is;
-    disk = h.disk;
-  },
-)
+halts_are_events : {D : Type 0} (state : D → DiskState) → HaltsAreEvents state
+halts_are_events state stage first f log w h =
+    (tt, record { guests = h.guests; first_is = h.first_is; finished = h.finished; waiting = h.waiting; told = h.told; totals = h.totals; halted = refl; stage_is = h.stage_is; disk = h.disk })
 
-pub left_looks_are_events : {D : Type 0} (state : D → DiskState) → LeftLooksAreEvents state
+left_looks_are_events : {D : Type 0} (state : D → DiskState) → LeftLooksAreEvents state
 left_looks_are_events state stage first old new log w g low is here h = (
   subst (λ (n : ℕ). g < n) (sym h.guests) low,
   record {
@@ -140,3 +109,6 @@ left_looks_are_events state stage first old new log w g low is here h = (
     disk = h.disk;
   },
 )
+
+pub flusher_calls : {D : Type 0} (state : D → DiskState) → FlusherCallsAreEvents state
+flusher_calls state = record { publishes = publishes_are_events state; halts = halts_are_events state; left_looks = left_looks_are_events state }

@@ -34,7 +34,8 @@ LooksAreEvents = (r : RecorderValue) (w : World) → StandsForRecorder r w
     → Happens w (Look r.guest) (StandsForRecorder (after_look r (w.words r.guest)))
 
 abbrev pub HaltLooksAreEvents : Type 0
-HaltLooksAreEvents = (r : RecorderValue) (w : World) (found : Bool) → StandsForRecorder r w → w.words w.guests ≡ flag found
+HaltLooksAreEvents = (r : RecorderValue) (w : World) (found : Bool)
+    → StandsForRecorder r w → w.words w.guests ≡ flag found
     → Happens w (LookHalt r.guest) (StandsForRecorder (after_look_halt r found))
 
 abbrev pub LeavesAreEvents : Type 0
@@ -43,10 +44,17 @@ LeavesAreEvents = (r : RecorderValue) (w : World) → StandsForRecorder r w
 
 -- the recorder's next record is sent where the queue has room
 abbrev pub SendsAreEvents : Type 0
-SendsAreEvents = (r : RecorderValue) (item : Item) (rest : List Record) (w : World) → StandsForRecorder r w → r.has_left ≡ false
+SendsAreEvents = (r : RecorderValue) (item : Item) (rest : List Record) (w : World)
+    → StandsForRecorder r w → r.has_left ≡ false
     → (w.recorders r.guest).backlog ≡ numbered w.first_guest (next_record r item) ∷ rest → length w.queue < QUEUE_ITEMS
     → Happens w (Push r.guest (numbered w.first_guest (next_record r item)) rest)
     (StandsForRecorder (after_send r (next_record r item)))
+
+pub record RecorderCallsAreEvents : Type 0 where
+  pub looks : LooksAreEvents
+  pub halt_looks : HaltLooksAreEvents
+  pub leaves : LeavesAreEvents
+  pub sends : SendsAreEvents
 
 -- ---- the flusher's seat
 
@@ -68,3 +76,8 @@ LeftLooksAreEvents {D = D} state =
     → let word = w.words (left_place w g) in
     g < old.group.guests → new ≡ after_look_left old g word → slice_index new.totals g ≡ word
     → StandsAt state stage first old log w → Happens w (LookLeft g) (StandsAt state stage first new log)
+
+pub record FlusherCallsAreEvents {D : Type 0} (state : D → DiskState) : Type 0 where
+  pub publishes : PublishesAreEvents state
+  pub halts : HaltsAreEvents state
+  pub left_looks : LeftLooksAreEvents state

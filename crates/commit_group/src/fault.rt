@@ -4,7 +4,6 @@ ghost use Rattle.std.specs.Prelude.{◌≡◌};
 ghost use Rattle.commit_group.specs.declared.fault.FlushFault.TheVariants.{Memory};
 
 use rrv_model::refusal::Memory;
-use std::alloc::AllocError;
 use thiserror::Error;
 
 /// Why an item was not sent: of those that apply the greatest.
@@ -36,14 +35,6 @@ pub enum FlushFault {
     /// There was no memory. What was received waits for the next turn.
     #[error("out of memory")]
     Memory,
-}
-
-impl From<AllocError> for FlushFault {
-    ghost from_gives = { λ _ e. e ≡ Memory };
-
-    fn from(_: AllocError) -> Self {
-        FlushFault::Memory
-    }
 }
 
 impl From<Memory> for FlushFault {

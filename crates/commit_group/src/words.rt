@@ -1,5 +1,8 @@
 //! The words' rule: each word is what its writer last stored there, and what its readers loaded is no more.
 
+ghost use Rattle.commit_group.specs.declared.words.WordView.TheVariants.{Spent};
+ghost use Rattle.commit_group.specs.Words.{after_split, next_recorder, taken_in};
+
 use atomic_table::{Join, Play, Seat, Split, Table, TableRule};
 use std::alloc::Global;
 use std::collections::LinkedList;
@@ -117,17 +120,12 @@ impl Play<u8, WordView> for Compares {
 pub struct GuestSeat;
 
 impl Split<WordView> for GuestSeat {
-    ghost use Rattle.commit_group.specs.Words.{after_split, next_recorder};
-
     ghost left = { after_split };
 
     ghost right = { next_recorder };
 }
 
 impl Join<WordView> for GuestSeat {
-    ghost use Rattle.commit_group.specs.declared.words.WordView.TheVariants.{Spent};
-    ghost use Rattle.commit_group.specs.Words.{taken_in};
-
     ghost both = { taken_in };
 
     ghost spent = { Spent };

@@ -1,6 +1,6 @@
 //! What the calls of a group are in the world of a recording.
 
-ghost use Rattle.commit_group.specs.Steps.{HaltLooksAreEvents, HaltsAreEvents, LeavesAreEvents, LeftLooksAreEvents, LooksAreEvents, PublishesAreEvents, SendsAreEvents};
+ghost use Rattle.commit_group.specs.Steps.{FlusherCallsAreEvents, RecorderCallsAreEvents};
 ghost use Rattle.commit_group.specs.Worlds.{FailuresAreEvents, TurnsAreEvents};
 
 use trace_disk::Disk;
@@ -17,15 +17,10 @@ pub fn failures_are_events<D: Disk>()
 
 /// Each call of a recorder's seat is one event, or a look for the halt and a push.
 pub fn recorder_calls_are_events()
-    ensures looks { LooksAreEvents }
-    ensures halt_looks { HaltLooksAreEvents }
-    ensures leaves { LeavesAreEvents }
-    ensures sends { SendsAreEvents }
+    ensures { RecorderCallsAreEvents }
 {}
 
 /// Each other call of the flusher's seat is one event.
 pub fn flusher_calls_are_events<D: Disk>()
-    ensures publishes { PublishesAreEvents D.state }
-    ensures halts { HaltsAreEvents D.state }
-    ensures left_looks { LeftLooksAreEvents D.state }
+    ensures { FlusherCallsAreEvents D.state }
 {}

@@ -28,7 +28,13 @@ fn full_queue(rt: HostRuntime) -> Result<(), Fail> {
         Row::Turn(Ok(Turn::Done)),
     ];
     let mut disk = play(&rt, alloc, 1, 0, &rows)?;
-    let gates = [(16, 0xA5), (1503, 0xA5), (2888, 0xA5), (4273, 0xA5), (5658, 0)];
+    let gates = [
+        (16, 0xA5),
+        (1503, 0xA5),
+        (2888, 0xA5),
+        (4273, 0xA5),
+        (5658, 0),
+    ];
     has_bytes(&rt, &mut disk, 5659, &gates)?;
     crashes_leave(&rt, alloc, &disk, &[256])
 }

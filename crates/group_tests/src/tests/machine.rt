@@ -42,7 +42,11 @@ impl Machine {
         if guests == 0 || guests > 16 {
             return Err(Fail::new("no such group"));
         }
-        let fails = if fails == 0 { 0 } else { fails.saturating_add(2) };
+        let fails = if fails == 0 {
+            0
+        } else {
+            fails.saturating_add(2)
+        };
         let Ok(log) = Log::create(FailOnce::new(MemDisk::new(alloc), fails)) else {
             return Err(Fail::new("no store"));
         };
@@ -58,31 +62,22 @@ impl Machine {
         Ok(self.seats.get_mut(guest as usize).ok_or("no such guest")?)
     }
 
-    /// The guest sends its next item; why it is refused.
-    pub(crate) fn try_submit<R: Wait>(
+    /// The guest sends its next item, and waits for room or not; why it is refused.
+    pub(crate) fn send<R: Wait>(
         &mut self,
         rt: &R,
         alloc: Global,
         guest: u32,
+        waits: bool,
     ) -> Result<Option<SubmitFault>, Fail> {
         let seat = self.seat(guest)?;
         let item = next_item(alloc, seat)?;
-        match seat.try_submit(rt, item) {
-            Ok(()) => Ok(None),
-            Err((_, fault)) => Ok(Some(fault)),
-        }
-    }
-
-    /// The same, but it waits where there is no room.
-    pub(crate) fn submit<R: Wait>(
-        &mut self,
-        rt: &R,
-        alloc: Global,
-        guest: u32,
-    ) -> Result<Option<SubmitFault>, Fail> {
-        let seat = self.seat(guest)?;
-        let item = next_item(alloc, seat)?;
-        match seat.submit(rt, item) {
+        let sent = if waits {
+            seat.submit(rt, item)
+        } else {
+            seat.try_submit(rt, item)
+        };
+        match sent {
             Ok(()) => Ok(None),
             Err((_, fault)) => Ok(Some(fault)),
         }
@@ -141,7 +136,11 @@ impl Machine {
 
     /// The disk of the store, as it is now.
     pub(crate) fn close(self) -> MemDisk {
-        let Machine { seats: _, flusher: _, log } = self;
+        let Machine {
+            seats: _,
+            flusher: _,
+            log,
+        } = self;
         log.close().into_inner()
     }
 }

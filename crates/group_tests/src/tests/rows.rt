@@ -39,7 +39,7 @@ fn send_all(
     count: u32,
 ) -> Result<(), Fail> {
     for _ in 0..count {
-        same(rt, &guest, machine.try_submit(rt, alloc, guest)?, None);
+        same(rt, &guest, machine.send(rt, alloc, guest, false)?, None);
     }
     Ok(())
 }
@@ -51,9 +51,9 @@ fn take(
     row: &Row,
 ) -> Result<(), Fail> {
     match *row {
-        Row::Sends(guest, want) => same(rt, row, machine.try_submit(rt, alloc, guest)?, want),
+        Row::Sends(guest, want) => same(rt, row, machine.send(rt, alloc, guest, false)?, want),
         Row::SendsAll(guest, count) => send_all(rt, alloc, machine, guest, count)?,
-        Row::SendsAtLast(guest, want) => same(rt, row, machine.submit(rt, alloc, guest)?, want),
+        Row::SendsAtLast(guest, want) => same(rt, row, machine.send(rt, alloc, guest, true)?, want),
         Row::Looks(guest, want) => same(rt, row, machine.look(guest)?, want),
         Row::LooksForHalt(guest, want) => same(rt, row, machine.look_halt(guest)?, want),
         Row::Leaves(guest) => machine.leave(guest)?,
