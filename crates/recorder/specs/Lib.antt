@@ -3,3 +3,4 @@ pub mod Turns
 pub mod Recorded
 pub mod Told
 pub mod Gained
+pub mod Owed

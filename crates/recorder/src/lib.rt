@@ -2,7 +2,11 @@
 #![tactic(auto)]
 
 mod fault;
+mod mem_sink;
+mod outputs;
 mod recording;
 
 pub use fault::RecordingFault;
+pub use mem_sink::MemSink;
+pub use outputs::Outputs;
 pub use recording::record_guest;

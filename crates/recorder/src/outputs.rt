@@ -1,0 +1,147 @@
+//! The output of records that aren't known to be durable.
+
+ghost use Rattle.std.specs.Prelude.{◌≡◌, ◌↔◌, ℕ, ◌+◌, ◌-◌, ◌<◌, ◌≤◌, List, [], ◌∷◌, ◌++◌, length, take, drop, true, OnOk};
+ghost use Rattle.rrv_model.specs.Failures.{IsCounted};
+ghost use Rattle.rrv_model.specs.Output.{to_descriptor};
+ghost use Rattle.recorder.specs.Owed.{Counts, LeavesFirst, Releases, bytes_of};
+
+use guest_calls::Put;
+use rrv_model::sink::{Sink, SinkError};
+use std::alloc::{AllocError, Global};
+use std::collections::VecDeque;
+use std::marker::Model;
+use std::sync::Wait;
+
+/// What is left of the output of records, from the first on whose output hasn't left whole. A record that puts nothing out has
+/// a put of no bytes.
+#[derive(Drop)]
+pub struct Outputs {
+    waiting: VecDeque<Put>,
+    released: u32,
+    offset: usize,
+}
+
+impl Model for Outputs {
+    ghost use Rattle.std.specs.Prelude.{◌≤◌, ◌+◌, length, nat_lt};
+    ghost use Rattle.std.specs.VecDeque.{deque_len, deque_capacity};
+    ghost use Rattle.recorder.specs.Owed.{Owed, owed_of, IsWithinFirst};
+
+    ghost Value = { Owed };
+
+    ghost view = { λ o. record {
+      released = o.released;
+      owed = owed_of o.offset o.waiting.items;
+      has_room = nat_lt (deque_len o.waiting) (deque_capacity o.waiting);
+    } };
+
+    ghost invariant = { λ o. IsWithinFirst o.offset o.waiting.items
+        × (o.released + length o.waiting.items ≤ 4294967295) };
+}
+
+/// Puts bytes out from a place on. It answers the place that it came to, and whether the sink took all.
+fn put_from<S: Sink, R: Wait>(
+    rt: &R,
+    sink: &mut S,
+    descriptor: u32,
+    bytes: &[u8],
+    offset: usize,
+) -> (usize, bool)
+    requires { offset ≤ length bytes.now }
+    ensures reached { (offset ≤ result.0) × (result.0 ≤ length bytes.now) }
+    ensures put { S.tells sink.old → S.taken sink.new
+        ≡ S.taken sink.old ++ to_descriptor descriptor (take (result.0 - offset) (drop offset bytes.now)) }
+    ensures all { result.1 ≡ true → result.0 ≡ length bytes.now }
+    ensures counted { Counts result.1 (S.faults sink.old) (S.faults sink.new) }
+    ensures tells { S.tells sink.new ↔ S.tells sink.old }
+{
+    let mut at = offset;
+    while at < bytes.len() {
+        match sink.put(rt, descriptor, &bytes[at..]) {
+            Ok(count) => at += count,
+            Err(_) => return (at, false),
+        }
+    }
+    (at, true)
+}
+
+impl Outputs {
+    /// That of no records.
+    pub fn new(alloc: Global) -> Outputs
+        ensures { (result.released ≡ 0) × (result.owed ≡ []) }
+    {
+        Outputs {
+            waiting: VecDeque::new(alloc),
+            released: 0,
+            offset: 0,
+        }
+    }
+
+    /// How many records' output has left whole.
+    pub fn released(&self) -> u32
+        ensures { result ≡ self.now.released }
+    {
+        self.released
+    }
+
+    /// Makes room for the output of one record more.
+    pub fn reserve(&mut self) -> Result<(), AllocError>
+        ensures same { (self.new.released ≡ self.old.released) × (self.new.owed ≡ self.old.owed) }
+        ensures room { OnOk result (self.new.has_room ≡ true) }
+    {
+        self.waiting.reserve(1)
+    }
+
+    /// Adds the output of the next record. It takes no memory.
+    pub fn push(&mut self, put: Put)
+        requires room { self.old.has_room ≡ true }
+        requires few { self.old.released + length self.old.owed < 4294967295 }
+        ensures { (self.new.released ≡ self.old.released) × (self.new.owed ≡ self.old.owed ++ bytes_of put ∷ []) }
+    {
+        self.waiting.push_back_reserved(put);
+    }
+
+    /// Puts out what is left of the first so many records' output, in order. At an `Err` the sink took a beginning of it: the
+    /// rest is kept, from the first byte not taken on.
+    pub fn release<S: Sink, R: Wait>(
+        &mut self,
+        rt: &R,
+        sink: &mut S,
+        seen: u32,
+    ) -> Result<(), SinkError>
+        requires { seen ≤ self.old.released + length self.old.owed }
+        ensures released { Releases S.tells S.taken seen self.old self.new sink.old sink.new }
+        ensures all { OnOk result (seen ≤ self.new.released) }
+        ensures counted { IsCounted result (S.faults sink.old) (S.faults sink.new) }
+        ensures tells { S.tells sink.new ↔ S.tells sink.old }
+    {
+        while self.released() < seen {
+            if !self.put_first(rt, sink) {
+                return Err(SinkError);
+            }
+        }
+        Ok(())
+    }
+
+    /// Puts out what is left of the first record's output. It is false where the sink refused.
+    fn put_first<S: Sink, R: Wait>(&mut self, rt: &R, sink: &mut S) -> bool
+        requires { 1 ≤ length self.old.owed }
+        ensures left { (put : List (ℕ × ℕ))
+            × (S.tells sink.old → S.taken sink.new ≡ S.taken sink.old ++ put) × LeavesFirst self.old self.new put result }
+        ensures counted { Counts result (S.faults sink.old) (S.faults sink.new) }
+        ensures tells { S.tells sink.new ↔ S.tells sink.old }
+    {
+        let Some(first) = self.waiting.front() else {
+            return true;
+        };
+        let bytes = first.bytes.as_slice();
+        let (at, all) = put_from(rt, sink, first.descriptor, bytes, self.offset);
+        if all {
+            self.waiting.pop_front();
+            self.released += 1;
+            self.offset = 0;
+        } else {
+            self.offset = at;
+        }
+        all
+    }
+}
