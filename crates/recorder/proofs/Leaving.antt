@@ -1,5 +1,5 @@
 -- Output that leaves.
-use Rattle.std.proofs.Common.{◌≡◌, ℕ, suc, ◌+◌, ◌-◌, ◌<◌, ◌≤◌, Bool, true, false, List, [], ◌∷◌, ◌++◌, length, take, drop, get_or, map, refl, sym, ap, ◌∙◌, arith, append_assoc}
+use Rattle.std.proofs.Common.{◌≡◌, ℕ, suc, ◌+◌, ◌-◌, ◌<◌, ◌≤◌, Bool, true, false, List, [], ◌∷◌, ◌++◌, length, take, drop, get_or, map, refl, sym, ap, ◌∙◌, arith, append_assoc, subst}
 use Rattle.std.proofs.lemmas.List.{map-append, drop-drop, take-append-drop, take_rest, map_push, length-map}
 use Rattle.rrv_model.specs.Output.{to_descriptor}
 use Rattle.guest_calls.specs.declared.put.Put.{Put}
@@ -34,9 +34,6 @@ leaves_first seen old new put false low h =
     let size : length old.owed ≡ length new.owed = ap length h.1.2 ∙ sym (ap length h.1.3) in
     let r = h.0 in
     record {
-      upward = omega arith;
-      within = omega arith;
-      all = omega arith;
       parts = λ k le from.
           let n = k - old.released - 1 in
           let e : k - old.released ≡ suc n = omega arith in
@@ -44,7 +41,15 @@ leaves_first seen old new put false low h =
           ap (λ (l : List (List (ℕ × ℕ))). put ++ joined l) (λ i. take (e' i) (h.1.3 i))
           ∙ sym (append_assoc put first (joined (take n others)))
           ∙ sym (ap joined (λ i. take (e i) (h.1.2 i)));
+      all = omega arith;
+      upward = omega arith;
+      within = omega arith;
     }
+
+-- the same of equal values
+pub left_by : (old inside new : Owed) (put : List (ℕ × ℕ)) (all found : Bool) → inside ≡ old → found ≡ all → LeavesFirst inside new put all → LeavesFirst old new put found
+left_by old inside new put all found same is h =
+    subst (λ (b : Bool). LeavesFirst old new put b) (sym is) (subst (λ (o : Owed). LeavesFirst o new put all) same h)
 
 -- ---- the first record
 

@@ -2,8 +2,8 @@ use Rattle.std.proofs.Common.{◌≤◌, ◌+◌, ◌-◌, ◌++◌, ℕ, Bool, 
 use Rattle.rrv_model.specs.Output.{to_descriptor}
 use Rattle.std.specs.Prelude.{nat_lt}
 use Rattle.std.specs.VecDeque.{deque_len, deque_capacity}
-use Rattle.recorder.specs.Owed.{Owed, owed_of, LeavesFirst}
-use Rattle.recorder.proofs.Leaving.{some_waiting, first_whole, first_part}
+use Rattle.recorder.specs.Owed.{Owed, owed_of}
+use Rattle.recorder.proofs.Leaving.{some_waiting, first_whole, first_part, left_by}
 use Rattle.recorder.proofs.outputs.Outputs.put_first.Goals as goal
 
 pub returns-then-all-clause-left : goal.returns-then-all-clause-left
@@ -11,27 +11,24 @@ returns-then-all-clause-left g c =
     let s = c.self.inside in
     let p = c.in-Some.first.now in
     let at = c.put_from-at.result.0 in
-    let e = c.put_from-at.ensures in
     let text = c.as_slice-bytes.ensures in
-    let some : 1 ≤ length s.waiting.items = some_waiting s.offset s.waiting.items (subst (λ (o : Owed). 1 ≤ length o.owed) (sym c.self.view_is) c.requires) in (
+    let some : 1 ≤ length s.waiting.items = some_waiting s.offset s.waiting.items (subst (λ (o : Owed). 1 ≤ length o.owed) (sym c.self.view_is) c.requires) in
+    let whole = c.put_from-at.ensures.all c.if-all.true ∙ ap length text in (
       to_descriptor p.descriptor (take (at - s.offset) (drop s.offset p.bytes)),
-      λ tells. e.put tells ∙ ap (λ (l : List ℕ). g.S.Sink.taken c.args.sink.now ++ to_descriptor p.descriptor (take (at - s.offset) (drop s.offset l))) text,
-      subst (λ (b : Bool). LeavesFirst c.args.self.now (record { released = s.released + 1; owed = owed_of 0 c.pop_front.new.self.items; has_room = nat_lt (deque_len c.pop_front.new.self) (deque_capacity c.pop_front.new.self) }) (to_descriptor p.descriptor (take (at - s.offset) (drop s.offset p.bytes))) b) (sym c.if-all.true)
-          (subst (λ (o : Owed). LeavesFirst o (record { released = s.released + 1; owed = owed_of 0 c.pop_front.new.self.items; has_room = nat_lt (deque_len c.pop_front.new.self) (deque_capacity c.pop_front.new.self) }) (to_descriptor p.descriptor (take (at - s.offset) (drop s.offset p.bytes))) true) c.self.view_is
-          (first_whole s.released s.offset at s.waiting.items c.pop_front.new.self.items p (nat_lt (deque_len s.waiting) (deque_capacity s.waiting)) (nat_lt (deque_len c.pop_front.new.self) (deque_capacity c.pop_front.new.self)) some c.in-Some.ensures.lookup (e.all c.if-all.true ∙ ap length text) c.pop_front.ensures.rest)),
+      λ tells. c.put_from-at.ensures.put tells ∙ ap (λ (l : List ℕ). g.S.Sink.taken c.args.sink.now ++ to_descriptor p.descriptor (take (at - s.offset) (drop s.offset l))) text,
+      left_by c.args.self.now _ (record { released = s.released + 1; owed = owed_of 0 c.pop_front.new.self.items; has_room = nat_lt (deque_len c.pop_front.new.self) (deque_capacity c.pop_front.new.self) }) _ true _ c.self.view_is c.if-all.true
+          (first_whole s.released s.offset at s.waiting.items c.pop_front.new.self.items p (nat_lt (deque_len s.waiting) (deque_capacity s.waiting)) (nat_lt (deque_len c.pop_front.new.self) (deque_capacity c.pop_front.new.self)) some c.in-Some.ensures.lookup whole c.pop_front.ensures.rest),
     )
 
 pub returns-else-all-clause-left : goal.returns-else-all-clause-left
 returns-else-all-clause-left g c =
-    let s = c.self.inside in
-    let p = c.in-Some.first.now in
     let at = c.put_from-at.result.0 in
-    let e = c.put_from-at.ensures in
-    let text = c.as_slice-bytes.ensures in
+    let p = c.in-Some.first.now in
+    let s = c.self.inside in
+    let room : Bool = nat_lt (deque_len s.waiting) (deque_capacity s.waiting) in
     let some : 1 ≤ length s.waiting.items = some_waiting s.offset s.waiting.items (subst (λ (o : Owed). 1 ≤ length o.owed) (sym c.self.view_is) c.requires) in (
       to_descriptor p.descriptor (take (at - s.offset) (drop s.offset p.bytes)),
-      λ tells. e.put tells ∙ ap (λ (l : List ℕ). g.S.Sink.taken c.args.sink.now ++ to_descriptor p.descriptor (take (at - s.offset) (drop s.offset l))) text,
-      subst (λ (b : Bool). LeavesFirst c.args.self.now (record { released = s.released; owed = owed_of at s.waiting.items; has_room = nat_lt (deque_len s.waiting) (deque_capacity s.waiting) }) (to_descriptor p.descriptor (take (at - s.offset) (drop s.offset p.bytes))) b) (sym c.if-all.false)
-          (subst (λ (o : Owed). LeavesFirst o (record { released = s.released; owed = owed_of at s.waiting.items; has_room = nat_lt (deque_len s.waiting) (deque_capacity s.waiting) }) (to_descriptor p.descriptor (take (at - s.offset) (drop s.offset p.bytes))) false) c.self.view_is
-          (first_part s.released s.offset at s.waiting.items p (nat_lt (deque_len s.waiting) (deque_capacity s.waiting)) (nat_lt (deque_len s.waiting) (deque_capacity s.waiting)) some c.in-Some.ensures.lookup e.reached.0)),
+      λ tells. c.put_from-at.ensures.put tells
+          ∙ ap (λ (l : List ℕ). g.S.Sink.taken c.args.sink.now ++ to_descriptor p.descriptor (take (at - s.offset) (drop s.offset l))) c.as_slice-bytes.ensures,
+      left_by c.args.self.now _ (record { released = s.released; owed = owed_of at s.waiting.items; has_room = room }) _ false _ c.self.view_is c.if-all.false (first_part s.released s.offset at s.waiting.items p room room some c.in-Some.ensures.lookup c.put_from-at.ensures.reached.0),
     )
