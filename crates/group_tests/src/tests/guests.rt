@@ -1,5 +1,6 @@
 //! What is sent, committed and seen.
 
+use super::machine::Manner;
 use super::rows::{Row, play};
 use super::stores::{crashes_leave, has_bytes};
 use commit_group::{FlushFault, SubmitFault, Turn};
@@ -12,7 +13,7 @@ fn full_queue(rt: HostRuntime) -> Result<(), Fail> {
     let batch = Row::Turn(Ok(Turn::Committed(64)));
     let rows = [
         Row::SendsAll(0, 256),
-        Row::Sends(0, Some(SubmitFault::Full)),
+        Row::Sends(0, Manner::Tries, Some(SubmitFault::Full)),
         Row::Sent(0, 256),
         Row::Looks(0, 0),
         batch,
@@ -24,7 +25,7 @@ fn full_queue(rt: HostRuntime) -> Result<(), Fail> {
         Row::Looks(0, 256),
         Row::NextGuest(1),
         Row::Leaves(0),
-        Row::Sends(0, Some(SubmitFault::Left)),
+        Row::Sends(0, Manner::Tries, Some(SubmitFault::Left)),
         Row::Turn(Ok(Turn::Done)),
     ];
     let mut disk = play(&rt, alloc, 1, 0, &rows)?;
@@ -64,6 +65,31 @@ fn two_guests_in_one_turn(rt: HostRuntime) -> Result<(), Fail> {
     crashes_leave(&rt, alloc, &disk, &[3, 1])
 }
 
+// Of four openings with the longest file three fit into a body of 8,388,608 bytes. The fourth waits, with what comes behind it.
+#[test]
+fn what_does_not_fit_waits(rt: HostRuntime) -> Result<(), Fail> {
+    let alloc = rt.alloc();
+    let rows = [
+        Row::Sends(0, Manner::Long, None),
+        Row::Sends(1, Manner::Long, None),
+        Row::Sends(2, Manner::Long, None),
+        Row::Sends(3, Manner::Long, None),
+        Row::Sends(0, Manner::Waits, None),
+        Row::Turn(Ok(Turn::Committed(3))),
+        Row::Looks(0, 1),
+        Row::Looks(3, 0),
+        Row::NextGuest(3),
+        Row::Sends(3, Manner::Tries, None),
+        Row::Turn(Ok(Turn::Committed(3))),
+        Row::Looks(0, 2),
+        Row::Looks(3, 2),
+        Row::NextGuest(4),
+        Row::Turn(Ok(Turn::Idle)),
+    ];
+    let disk = play(&rt, alloc, 4, 0, &rows)?;
+    crashes_leave(&rt, alloc, &disk, &[2, 1, 1, 2])
+}
+
 // The flusher's halt is seen, and nothing is sent or committed from then on.
 #[test]
 fn halted_group(rt: HostRuntime) -> Result<(), Fail> {
@@ -74,8 +100,8 @@ fn halted_group(rt: HostRuntime) -> Result<(), Fail> {
         Row::Halts,
         Row::Turn(Err(FlushFault::Halted)),
         Row::LooksForHalt(0, true),
-        Row::Sends(0, Some(SubmitFault::Halted)),
-        Row::SendsAtLast(0, Some(SubmitFault::Halted)),
+        Row::Sends(0, Manner::Tries, Some(SubmitFault::Halted)),
+        Row::Sends(0, Manner::Waits, Some(SubmitFault::Halted)),
         Row::Looks(0, 0),
     ];
     let disk = play(&rt, alloc, 1, 0, &rows)?;

@@ -40,6 +40,16 @@ pub(crate) fn opening(alloc: Global) -> Result<Item, Fail>
     Ok(opening_of(elf, name))
 }
 
+/// The same with a file as long as one may be, of zeros.
+pub(crate) fn long_opening(alloc: Global) -> Result<Item, Fail>
+    ensures { IfOk result (λ item. IsOpening item × HasItemText item) }
+{
+    let mut elf = Vec::new(alloc);
+    elf.resize(MAX_ELF as usize, 0)?;
+    let name = Vec::from_slice(alloc, b"a")?;
+    Ok(opening_of(elf, name))
+}
+
 /// The frame of a slice of 64 instructions.
 pub(crate) fn preempted() -> Item
     ensures opens { IsOpening result → ⊥ }

@@ -3,7 +3,7 @@
 ghost use Rattle.std.specs.Prelude.{◌≡◌, false, IfOk};
 ghost use Rattle.commit_group.specs.Submits.{CanSubmit};
 
-use super::items::{opening, preempted};
+use super::items::{long_opening, opening, preempted};
 use commit_group::{FlushFault, FlusherSeat, Group, RecorderSeat, SubmitFault, Turn};
 use rrv_model::record::Item;
 use std::alloc::Global;
@@ -14,16 +14,27 @@ use trace_log::Log;
 
 pub(crate) type Device = FailOnce<MemDisk>;
 
-/// What the guest of a seat sends next: an opening, and then frames.
-fn next_item(alloc: Global, seat: &RecorderSeat) -> Result<Item, Fail>
+/// What the guest of a seat sends next: an opening, with a short file or the longest, and then frames.
+fn next_item(alloc: Global, seat: &RecorderSeat, is_long: bool) -> Result<Item, Fail>
     ensures { IfOk result (CanSubmit seat.now) }
 {
     let _ = seat.guest();
     match seat.sent() {
+        0 if is_long => Ok(long_opening(alloc)?),
         0 => Ok(opening(alloc)?),
         u32::MAX => Err(Fail::new("too many items")),
         _ => Ok(preempted()),
     }
+}
+
+/// How an item is sent.
+#[derive(Clone, Copy, Debug, PartialEq, Eq)]
+pub(crate) enum Manner {
+    Tries,
+    /// It waits where there is no room.
+    Waits,
+    /// It tries, and an opening has the longest file.
+    Long,
 }
 
 /// The seats of a group, and a log that takes a further commit unless the group has halted.
@@ -62,17 +73,17 @@ impl Machine {
         Ok(self.seats.get_mut(guest as usize).ok_or("no such guest")?)
     }
 
-    /// The guest sends its next item, and waits for room or not; why it is refused.
+    /// The guest sends its next item; why it is refused.
     pub(crate) fn send<R: Wait>(
         &mut self,
         rt: &R,
         alloc: Global,
         guest: u32,
-        waits: bool,
+        manner: Manner,
     ) -> Result<Option<SubmitFault>, Fail> {
         let seat = self.seat(guest)?;
-        let item = next_item(alloc, seat)?;
-        let sent = if waits {
+        let item = next_item(alloc, seat, manner == Manner::Long)?;
+        let sent = if manner == Manner::Waits {
             seat.submit(rt, item)
         } else {
             seat.try_submit(rt, item)

@@ -1,6 +1,6 @@
 //! A group by rows.
 
-use super::machine::Machine;
+use super::machine::{Machine, Manner};
 use super::same;
 use commit_group::{FlushFault, SubmitFault, Turn};
 use std::alloc::Global;
@@ -13,11 +13,9 @@ use trace_disk::MemDisk;
 #[derive(Clone, Copy, Debug)]
 pub(crate) enum Row {
     /// The guest sends its next item, an opening at first and then frames; why it is refused.
-    Sends(u32, Option<SubmitFault>),
+    Sends(u32, Manner, Option<SubmitFault>),
     /// It sends so many, all of them.
     SendsAll(u32, u32),
-    /// It waits where there is no room.
-    SendsAtLast(u32, Option<SubmitFault>),
     /// How many of its items are durable.
     Looks(u32, u32),
     LooksForHalt(u32, bool),
@@ -39,7 +37,12 @@ fn send_all(
     count: u32,
 ) -> Result<(), Fail> {
     for _ in 0..count {
-        same(rt, &guest, machine.send(rt, alloc, guest, false)?, None);
+        same(
+            rt,
+            &guest,
+            machine.send(rt, alloc, guest, Manner::Tries)?,
+            None,
+        );
     }
     Ok(())
 }
@@ -51,9 +54,10 @@ fn take(
     row: &Row,
 ) -> Result<(), Fail> {
     match *row {
-        Row::Sends(guest, want) => same(rt, row, machine.send(rt, alloc, guest, false)?, want),
+        Row::Sends(guest, manner, want) => {
+            same(rt, row, machine.send(rt, alloc, guest, manner)?, want);
+        }
         Row::SendsAll(guest, count) => send_all(rt, alloc, machine, guest, count)?,
-        Row::SendsAtLast(guest, want) => same(rt, row, machine.send(rt, alloc, guest, true)?, want),
         Row::Looks(guest, want) => same(rt, row, machine.look(guest)?, want),
         Row::LooksForHalt(guest, want) => same(rt, row, machine.look_halt(guest)?, want),
         Row::Leaves(guest) => machine.leave(guest)?,
