@@ -46,9 +46,9 @@ pub record ComesTo (Holds : World → Type 0) (w : World) (rest : List Record) :
   pub queue : end.queue ≡ rest
   pub recorders : end.recorders ≡ w.recorders
 
--- A turn that commits is a list of the world's events. Let the seat and the log stand for the flusher of a world, whose
--- queue begins with what the turn received: then these events may happen there, and the seat and the log stand for the
--- flusher of the world behind them.
+-- A turn that commits comes to what events of the world do. Let the seat and the log stand for the flusher of a world,
+-- whose queue begins with what the turn received: then some events may happen there, and the seat and the log stand for
+-- the flusher of the world behind them.
 abbrev pub TurnsAreEvents : {D : Type 0} → (D → Type 0) → (D → DiskState) → (D → ℕ) → Type 0
 TurnsAreEvents {D = D} honest state faults =
     (old new : FlusherValue) (log log' : LogValue D) (count : ℕ) (w : World) (rest : List Record)
@@ -56,7 +56,7 @@ TurnsAreEvents {D = D} honest state faults =
     → StandsFor state (base new.first_guest) old log w → w.queue ≡ turn.more ++ rest
     → ComesTo (StandsFor state (base new.first_guest) new log') w rest
 
--- So is one whose commit a failed call of the disk stopped: the last of its events is that call, and the halt.
+-- So does one whose commit a failed call of the disk stopped: the flusher is then broken, and halted as the seat is.
 abbrev pub FailuresAreEvents : {D : Type 0} → (D → Type 0) → (D → DiskState) → (D → ℕ) → Type 0
 FailuresAreEvents {D = D} honest state faults =
     (old new : FlusherValue) (log log' : LogValue D) (w : World) (rest : List Record)
