@@ -10,4 +10,6 @@ pub mod Bodies
 pub mod Counts
 pub mod Worlds
 pub mod WorldSteps
+pub mod Refusals
+pub mod Idles
 pub mod Ends

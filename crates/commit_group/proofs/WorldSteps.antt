@@ -90,7 +90,7 @@ publishes_are_events state stage old new log w g low is here h =
       },
     )
 
-halts_are_events : {D : Type 0} (state : D → DiskState) → HaltsAreEvents state
+pub halts_are_events : {D : Type 0} (state : D → DiskState) → HaltsAreEvents state
 halts_are_events state stage first f log w h =
     (tt, record { guests = h.guests; first_is = h.first_is; finished = h.finished; waiting = h.waiting; told = h.told; totals = h.totals; halted = refl; stage_is = h.stage_is; disk = h.disk })
 

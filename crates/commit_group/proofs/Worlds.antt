@@ -21,7 +21,7 @@ use Rattle.commit_group.specs.Bodies.{next_body, IsBatch}
 use Rattle.commit_group.specs.Numbers.{base}
 use Rattle.commit_group.specs.Seats.{FlusherValue}
 use Rattle.commit_group.specs.Turns.{TurnCommits, TurnRefused}
-use Rattle.commit_group.specs.Worlds.{StandsFor, StandsAt, Reaches, ComesTo, TurnsAreEvents, FailuresAreEvents}
+use Rattle.commit_group.specs.Worlds.{StandsFor, StandsAt, Reaches, ComesTo, TurnsAreEvents, FailuresAreEvents, pops}
 
 -- ---- schedules
 
@@ -40,18 +40,20 @@ reaches_one w e may = record { events = e ∷ []; schedule = (may, tt); ends = r
 
 -- ---- what was received
 
-unfoldable with_waiting : World → List Record → List Record → World
+unfoldable pub with_waiting : World → List Record → List Record → World
 with_waiting w waiting queue = record w { flusher = record w.flusher { waiting = waiting }; queue = queue }
 
-pops : (w : World) (more rest : List Record) → w.queue ≡ more ++ rest → Reaches w (with_waiting w (w.flusher.waiting ++ more) rest)
+pub pops_schedule : (w : World) (more rest : List Record) → w.queue ≡ more ++ rest → IsSchedule w (pops more rest)
+pops_schedule w [] rest e = tt
+pops_schedule w (r ∷ more) rest e = (e, pops_schedule (after w (Pop r (more ++ rest))) more rest refl)
+
+pops_run : (w : World) (more rest : List Record) → w.queue ≡ more ++ rest → run w (pops more rest) ≡ with_waiting w (w.flusher.waiting ++ more) rest
 unfolding with_waiting
-pops w [] rest e = reaches_none w (with_waiting w (w.flusher.waiting ++ []) rest) (λ i. record w { flusher = record w.flusher { waiting = sym (append-nil w.flusher.waiting) i }; queue = e i })
-pops w (r ∷ more) rest e =
-    let next = after w (Pop r (more ++ rest)) in
-    let last : with_waiting next (next.flusher.waiting ++ more) rest ≡ with_waiting w (w.flusher.waiting ++ r ∷ more) rest =
+pops_run w [] rest e = λ i. record w { flusher = record w.flusher { waiting = sym (append-nil w.flusher.waiting) i }; queue = e i }
+pops_run w (r ∷ more) rest e =
+    let last : with_waiting w ((w.flusher.waiting ++ r ∷ []) ++ more) rest ≡ with_waiting w (w.flusher.waiting ++ r ∷ more) rest =
     λ i. record w { flusher = record w.flusher { waiting = append_assoc w.flusher.waiting (r ∷ []) more i }; queue = rest } in
-    reaches_both w next (with_waiting w (w.flusher.waiting ++ r ∷ more) rest) (reaches_one w (Pop r (more ++ rest)) e)
-    (subst (λ (u : World). Reaches next u) last (pops next more rest refl))
+    pops_run (after w (Pop r (more ++ rest))) more rest refl ∙ last
 
 -- ---- the commit
 
@@ -149,12 +151,15 @@ one_body_more bodies finished batch = ap (λ (l : List (List ℕ)). bodies ++ l)
 
 -- ---- what a turn receives
 
-unfoldable received : World → List Record → List Record → World
+unfoldable pub received : World → List Record → List Record → World
 received w more rest = with_waiting w (w.flusher.waiting ++ more) rest
 
-receives : (w : World) (more rest : List Record) → w.queue ≡ more ++ rest → Reaches w (received w more rest)
+pub received_by : (w : World) (more rest : List Record) → w.queue ≡ more ++ rest → run w (pops more rest) ≡ received w more rest
 unfolding received
-receives w more rest queue = pops w more rest queue
+received_by w more rest queue = pops_run w more rest queue
+
+receives : (w : World) (more rest : List Record) → w.queue ≡ more ++ rest → Reaches w (received w more rest)
+receives w more rest queue = record { events = pops more rest; schedule = pops_schedule w more rest queue; ends = received_by w more rest queue }
 
 -- it stands in the world as before
 module _ {D : Type 0} (state : D → DiskState) (first : ℕ) (old : FlusherValue) (log : LogValue D) (w : World) (more rest : List Record) (before : StandsFor state first old log w) where

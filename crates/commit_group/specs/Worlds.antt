@@ -1,15 +1,17 @@
 -- What the flusher's seat and its log are in the world of a recording.
-use Rattle.std.specs.Prelude.{◌≡◌, ℕ, ◌<◌, List, [], ◌++◌, slice_index}
+use Rattle.std.specs.Prelude.{◌≡◌, ℕ, ◌+◌, ◌<◌, ◌≤◌, true, List, [], ◌∷◌, ◌++◌, map, slice_index}
+use Rattle.std.specs.List.{range_with_len}
 use Rattle.rrv_model.specs.declared.record.Record.{Record}
 use Rattle.rrv_model.specs.CrashModel.{DiskState}
 use Rattle.trace_log.specs.Kept.{Keeps, LogValue}
-use Rattle.commit_core.specs.World.{World, Stage, joined, stored_bodies}
+use Rattle.commit_core.specs.World.{World, Stage, joined, committed_count, stored_bodies}
 use Rattle.commit_core.specs.World.Stage.{Idle, Broken}
-use Rattle.commit_core.specs.Events.{Event, IsSchedule, run}
-use Rattle.commit_group.specs.declared.fault.FlushFault.TheVariants.{DeviceFailed}
+use Rattle.commit_core.specs.Events.{Event, CanWrite, IsSchedule, left_place, run}
+use Rattle.commit_core.specs.Events.Event.{Pop, Halt, LookLeft}
+use Rattle.commit_group.specs.declared.fault.FlushFault.TheVariants.{DeviceFailed, Halted, TooLong, Memory}
 use Rattle.commit_group.specs.Numbers.{base}
 use Rattle.commit_group.specs.Seats.{FlusherValue}
-use Rattle.commit_group.specs.Turns.{TurnCommits, TurnRefused}
+use Rattle.commit_group.specs.Turns.{AllCommitted, RefusesTurn, TurnCommits, TurnFindsNone, TurnRefused}
 
 -- What the seat and its log keep is what the world's flusher keeps at this stage, and its disk, where the guest at place 0
 -- has this number. What waits for the seat is in the flusher's hand, or waits there.
@@ -63,3 +65,74 @@ FailuresAreEvents {D = D} honest state faults =
     → (turn : TurnRefused honest state faults old new log log' DeviceFailed) → honest log.disk
     → StandsFor state (base new.first_guest) old log w → w.queue ≡ turn.more ++ rest
     → ComesTo (StandsAt state Broken (base new.first_guest) new log') w rest
+
+-- ---- turns that commit nothing
+
+-- these records are received, and the queue has the rest behind them
+abbrev pub pops : List Record → List Record → List Event
+pops [] rest = []
+pops (r ∷ more) rest = Pop r (more ++ rest) ∷ pops more rest
+
+-- the leave words of the first so many guests are loaded, one after another
+abbrev pub left_looks : ℕ → List Event
+left_looks guests = map LookLeft (range_with_len 0 guests)
+
+-- Just these events may happen, in this order, and this holds behind them. The queue is then the rest, and the
+-- recorders are as before.
+pub record ComesBy (events : List Event) (Holds : World → Type 0) (w : World) (rest : List Record) : Type 0 where
+  pub schedule : IsSchedule w events
+  pub holds : Holds (run w events)
+  pub queue : (run w events).queue ≡ rest
+  pub recorders : (run w events).recorders ≡ w.recorders
+
+-- A turn that found no memory only received.
+abbrev pub ShortagesAreEvents : {D : Type 0} → (D → Type 0) → (D → DiskState) → (D → ℕ) → Type 0
+ShortagesAreEvents {D = D} honest state faults =
+    (old new : FlusherValue) (log log' : LogValue D) (w : World) (rest : List Record)
+    → (turn : TurnRefused honest state faults old new log log' Memory)
+    → StandsFor state (base new.first_guest) old log w → w.queue ≡ turn.more ++ rest
+    → ComesBy (pops turn.more rest) (StandsFor state (base new.first_guest) new log') w rest
+
+-- One whose batch is past a limit received, and halted; no more may that batch be written in the world.
+abbrev pub LimitsAreEvents : {D : Type 0} → (D → Type 0) → (D → DiskState) → (D → ℕ) → Type 0
+LimitsAreEvents {D = D} honest state faults =
+    (old new : FlusherValue) (log log' : LogValue D) (w : World) (rest : List Record)
+    → (turn : TurnRefused honest state faults old new log log' TooLong)
+    → StandsFor state (base new.first_guest) old log w → w.queue ≡ turn.more ++ rest
+    → ComesBy (pops turn.more rest ++ Halt ∷ [])
+    (λ end. StandsFor state (base new.first_guest) new log' end × (CanWrite end turn.refused.count → ⊥)) w rest
+
+-- One of a group that was halted earlier did nothing: the flusher of the world has halted, and all stands as it stood.
+abbrev pub HaltedTurnsAreNoEvents : {D : Type 0} → (D → Type 0) → (D → DiskState) → (D → ℕ) → Type 0
+HaltedTurnsAreNoEvents {D = D} honest state faults =
+    (stage : Stage) (first : ℕ) (old new : FlusherValue) (log log' : LogValue D) (w : World)
+    → RefusesTurn honest state faults old new log log' Halted → StandsAt state stage first old log w
+    → (w.flusher.halted ≡ true) × StandsAt state stage first new log' w
+    × (StandsFor state first old log w → StandsFor state first new log' w)
+
+-- up to this guest's the leave words are those that the seat knows
+abbrev pub WordsStand : World → FlusherValue → ℕ → Type 0
+WordsStand w f last = (g : ℕ) → g ≤ last → w.words (left_place w g) ≡ slice_index f.totals g
+
+-- by their words all recorders have left, and all that these count is committed
+abbrev pub HaveLeft : World → Type 0
+HaveLeft w = (g : ℕ) → g < w.guests → w.words (left_place w g) ≡ committed_count (w.first_guest + g) w.flusher + 1
+
+-- A turn that found nothing looked at leave words, which stood there as it loaded them. If it answered Idle, not all
+-- have left there with all committed.
+abbrev pub IdleTurnsAreEvents : {D : Type 0} → (D → DiskState) → Type 0
+IdleTurnsAreEvents {D = D} state =
+    (old new : FlusherValue) (log log' : LogValue D) (w : World)
+    → (turn : TurnFindsNone old new log log') → (AllCommitted new → ⊥)
+    → StandsFor state (base new.first_guest) old log w → WordsStand w new turn.last
+    → ComesBy (left_looks (turn.last + 1))
+    (λ end. StandsFor state (base new.first_guest) new log' end × (HaveLeft end → ⊥)) w w.queue
+
+-- If it answered Done, it looked at the words of all guests, and all have.
+abbrev pub LastTurnsAreEvents : {D : Type 0} → (D → DiskState) → Type 0
+LastTurnsAreEvents {D = D} state =
+    (old new : FlusherValue) (log log' : LogValue D) (w : World)
+    → (turn : TurnFindsNone old new log log') → AllCommitted new
+    → StandsFor state (base new.first_guest) old log w → WordsStand w new turn.last
+    → ComesBy (left_looks w.guests)
+    (λ end. StandsFor state (base new.first_guest) new log' end × HaveLeft end) w w.queue

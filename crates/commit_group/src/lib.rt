@@ -26,5 +26,7 @@ pub use recorder_seat::RecorderSeat;
 pub use report::{Report, end};
 pub use turn::Turn;
 pub use world::{
-    failures_are_events, flusher_calls_are_events, recorder_calls_are_events, turns_are_events,
+    failures_are_events, flusher_calls_are_events, halted_turns_are_no_events,
+    idle_turns_are_events, last_turns_are_events, limits_are_events, recorder_calls_are_events,
+    shortages_are_events, turns_are_events,
 };

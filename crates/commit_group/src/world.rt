@@ -1,7 +1,7 @@
 //! What the calls of a group are in the world of a recording.
 
 ghost use Rattle.commit_group.specs.Steps.{FlusherCallsAreEvents, RecorderCallsAreEvents};
-ghost use Rattle.commit_group.specs.Worlds.{FailuresAreEvents, TurnsAreEvents};
+ghost use Rattle.commit_group.specs.Worlds.{FailuresAreEvents, HaltedTurnsAreNoEvents, IdleTurnsAreEvents, LastTurnsAreEvents, LimitsAreEvents, ShortagesAreEvents, TurnsAreEvents};
 
 use trace_disk::Disk;
 
@@ -13,6 +13,31 @@ pub fn turns_are_events<D: Disk>()
 /// And so is one that a failed call of the disk stopped.
 pub fn failures_are_events<D: Disk>()
     ensures { FailuresAreEvents D.honest D.state D.faults }
+{}
+
+/// One that found no memory only received.
+pub fn shortages_are_events<D: Disk>()
+    ensures { ShortagesAreEvents D.honest D.state D.faults }
+{}
+
+/// One whose records would have passed a limit of the store received, and halted.
+pub fn limits_are_events<D: Disk>()
+    ensures { LimitsAreEvents D.honest D.state D.faults }
+{}
+
+/// One of a group that was halted earlier did nothing.
+pub fn halted_turns_are_no_events<D: Disk>()
+    ensures { HaltedTurnsAreNoEvents D.honest D.state D.faults }
+{}
+
+/// One that answered `Idle` looked at leave words, and in the world not all guests have left with all committed.
+pub fn idle_turns_are_events<D: Disk>()
+    ensures { IdleTurnsAreEvents D.state }
+{}
+
+/// One that answered `Done` looked at those of all guests, and there all have.
+pub fn last_turns_are_events<D: Disk>()
+    ensures { LastTurnsAreEvents D.state }
 {}
 
 /// Each call of a recorder's seat is one event, or a look for the halt and a push.

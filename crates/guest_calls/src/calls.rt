@@ -130,6 +130,14 @@ impl Guest {
         }
     }
 
+    /// Takes what the last call put out, and leaves nothing in its place: a recorder keeps it without a copy.
+    pub fn take_put(&mut self) -> Option<Put>
+        ensures put { result ≡ self.old.put }
+        ensures rest { self.new ≡ record self.old { put = None } }
+    {
+        self.put.take()
+    }
+
     /// Makes a call, by its number.
     fn make_call<O: Outside>(
         &mut self,

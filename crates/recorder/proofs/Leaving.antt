@@ -1,9 +1,10 @@
 -- Output that leaves.
-use Rattle.std.proofs.Common.{◌≡◌, ℕ, suc, ◌+◌, ◌-◌, ◌<◌, ◌≤◌, Bool, true, false, List, [], ◌∷◌, ◌++◌, length, take, drop, get_or, map, refl, sym, ap, ◌∙◌, arith, append_assoc, subst}
+use Rattle.std.proofs.Common.{◌≡◌, ℕ, suc, ◌+◌, ◌-◌, ◌<◌, ◌≤◌, min, Bool, true, false, List, [], ◌∷◌, ◌++◌, length, take, drop, get_or, map, refl, sym, ap, ◌∙◌, arith, append_assoc, subst}
 use Rattle.std.proofs.lemmas.List.{map-append, drop-drop, take-append-drop, take_rest, map_push, length-map}
 use Rattle.rrv_model.specs.Output.{to_descriptor}
 use Rattle.guest_calls.specs.declared.put.Put.{Put}
-use Rattle.recorder.specs.Owed.{Owed, bytes_of, owed_of, joined, left_of, IsWithinFirst, LeavesFirst, Leaves}
+use Rattle.recorder.specs.Owed.{Owed, bytes_of, owed_of, joined, left_of, IsWithinFirst, LeavesFirst, Leaves, Releases, ReleasesFirst}
+use Rattle.recorder.proofs.Puts.{counted_more}
 
 pub leaves_none : (seen : ℕ) (o : Owed) → Leaves seen o o []
 leaves_none seen o = record { upward = omega arith; within = omega arith; all = refl; parts = λ k a b. refl }
@@ -45,6 +46,16 @@ leaves_first seen old new put false low h =
       upward = omega arith;
       within = omega arith;
     }
+
+-- the output of one record more
+pub releases_more : {S : Type 0} (tells : S → Type 0) (taken : S → List (ℕ × ℕ)) (seen : ℕ) (a b c : Owed) (s m t : S) (j count n : ℕ) (all : Bool) → (tells s → tells m) → b.released < seen
+    → n ≡ min (j + count) 18446744073709551615 → Releases tells taken seen a b s m j → ReleasesFirst tells taken all b c m t count → Releases tells taken seen a c s t n
+releases_more tells taken seen a b c s m t j count n all still low is g h = record {
+  put = g.put ++ h.put;
+  takes = λ tell. h.takes (still tell) ∙ ap (λ (l : List (ℕ × ℕ)). l ++ h.put) (g.takes tell) ∙ append_assoc (taken s) g.put h.put;
+  leaves = leaves_both seen a b c g.put h.put g.leaves (leaves_first seen b c h.put all low h.leaves);
+  counted = is ∙ ap (λ (k : ℕ). min (k + count) 18446744073709551615) g.counted ∙ counted_more g.put h.put count h.counted;
+}
 
 -- the same of equal values
 pub left_by : (old inside new : Owed) (put : List (ℕ × ℕ)) (all found : Bool) → inside ≡ old → found ≡ all → LeavesFirst inside new put all → LeavesFirst old new put found

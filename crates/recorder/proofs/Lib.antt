@@ -5,3 +5,9 @@ pub mod Growth
 pub mod RecordingRefusals
 pub mod Puts
 pub mod Leaving
+pub mod Made
+pub mod Released
+pub mod Stepped
+pub mod Opened
+pub mod RecorderWorlds
+pub mod Sliced

@@ -4,3 +4,6 @@ pub mod Recorded
 pub mod Told
 pub mod Gained
 pub mod Owed
+pub mod Recorders
+pub mod RecorderCalls
+pub mod RecorderWorlds

@@ -1,5 +1,5 @@
 -- Output that waits for its records to be durable, and what of it leaves.
-use Rattle.std.specs.Prelude.{◌≡◌, ℕ, ◌+◌, ◌-◌, ◌≤◌, max, Bool, true, false, List, [], ◌∷◌, ◌++◌, length, take, drop, map, flat_map}
+use Rattle.std.specs.Prelude.{◌≡◌, ℕ, ◌+◌, ◌-◌, ◌^◌, ◌≤◌, max, min, Bool, true, false, List, [], ◌∷◌, ◌++◌, length, take, drop, map, flat_map}
 use Rattle.guest_calls.specs.declared.put.Put.{Put}
 use Rattle.rrv_model.specs.Failures.{HasFailed}
 use Rattle.rrv_model.specs.Output.{to_descriptor}
@@ -45,12 +45,25 @@ pub record Leaves (seen : ℕ) (old new : Owed) (put : List (ℕ × ℕ)) : Type
   pub all : new.released + length new.owed ≡ old.released + length old.owed
   pub parts : (k : ℕ) → seen ≤ k → old.released ≤ k → put ++ left_of new k ≡ left_of old k
 
--- and a sink that tells its bytes took them, and no others
+-- how many bytes these are, as far as a number of 64 bits tells
+abbrev pub count_of : List (ℕ × ℕ) → ℕ
+count_of put = min (length put) (2 ^ 64 - 1)
+
+-- a sink that tells its bytes took these and no others, of the first record's output, and they are so many
+pub record ReleasesFirst {S : Type 0} (tells : S → Type 0) (taken : S → List (ℕ × ℕ)) (all : Bool)
+    (old new : Owed) (sink sink' : S) (count : ℕ) : Type 0 where
+  pub put : List (ℕ × ℕ)
+  pub takes : tells sink → taken sink' ≡ taken sink ++ put
+  pub leaves : LeavesFirst old new put all
+  pub counted : count ≡ length put
+
+-- so of the output of the first records
 pub record Releases {S : Type 0} (tells : S → Type 0) (taken : S → List (ℕ × ℕ)) (seen : ℕ)
-    (old new : Owed) (sink sink' : S) : Type 0 where
+    (old new : Owed) (sink sink' : S) (count : ℕ) : Type 0 where
   pub put : List (ℕ × ℕ)
   pub takes : tells sink → taken sink' ≡ taken sink ++ put
   pub leaves : Leaves seen old new put
+  pub counted : count ≡ count_of put
 
 -- a sink that took all has failed as often as before, and one that refused once more
 abbrev pub Counts : Bool → ℕ → ℕ → Type 0

@@ -1,12 +1,11 @@
 //! The output of records that aren't known to be durable.
 
 ghost use Rattle.std.specs.Prelude.{◌≡◌, ◌↔◌, ℕ, ◌+◌, ◌-◌, ◌<◌, ◌≤◌, List, [], ◌∷◌, ◌++◌, length, take, drop, true, OnOk};
-ghost use Rattle.rrv_model.specs.Failures.{IsCounted};
 ghost use Rattle.rrv_model.specs.Output.{to_descriptor};
-ghost use Rattle.recorder.specs.Owed.{Counts, LeavesFirst, Releases, bytes_of};
+ghost use Rattle.recorder.specs.Owed.{Counts, Releases, ReleasesFirst, bytes_of};
 
 use guest_calls::Put;
-use rrv_model::sink::{Sink, SinkError};
+use rrv_model::sink::Sink;
 use std::alloc::{AllocError, Global};
 use std::collections::VecDeque;
 use std::marker::Model;
@@ -100,41 +99,39 @@ impl Outputs {
         self.waiting.push_back_reserved(put);
     }
 
-    /// Puts out what is left of the first so many records' output, in order. At an `Err` the sink took a beginning of it: the
-    /// rest is kept, from the first byte not taken on.
-    pub fn release<S: Sink, R: Wait>(
-        &mut self,
-        rt: &R,
-        sink: &mut S,
-        seen: u32,
-    ) -> Result<(), SinkError>
+    /// Puts out what is left of the first so many records' output, in order. It answers how many bytes left, up to 2^64 - 1,
+    /// and whether that was all. Where the sink refused it took a beginning: the rest is kept, from the first byte not taken on.
+    pub fn release<S: Sink, R: Wait>(&mut self, rt: &R, sink: &mut S, seen: u32) -> (u64, bool)
         requires { seen ≤ self.old.released + length self.old.owed }
-        ensures released { Releases S.tells S.taken seen self.old self.new sink.old sink.new }
-        ensures all { OnOk result (seen ≤ self.new.released) }
-        ensures counted { IsCounted result (S.faults sink.old) (S.faults sink.new) }
+        ensures released { Releases S.tells S.taken seen self.old self.new sink.old sink.new result.0 }
+        ensures all { result.1 ≡ true → seen ≤ self.new.released }
+        ensures counted { Counts result.1 (S.faults sink.old) (S.faults sink.new) }
         ensures tells { S.tells sink.new ↔ S.tells sink.old }
     {
+        let mut taken = 0u64;
         while self.released() < seen {
-            if !self.put_first(rt, sink) {
-                return Err(SinkError);
+            let (count, all) = self.put_first(rt, sink);
+            taken = taken.saturating_add(count as u64);
+            if !all {
+                return (taken, false);
             }
         }
-        Ok(())
+        (taken, true)
     }
 
-    /// Puts out what is left of the first record's output. It is false where the sink refused.
-    fn put_first<S: Sink, R: Wait>(&mut self, rt: &R, sink: &mut S) -> bool
+    /// Puts out what is left of the first record's output. It answers how many bytes left, and whether that was all.
+    fn put_first<S: Sink, R: Wait>(&mut self, rt: &R, sink: &mut S) -> (usize, bool)
         requires { 1 ≤ length self.old.owed }
-        ensures left { (put : List (ℕ × ℕ))
-            × (S.tells sink.old → S.taken sink.new ≡ S.taken sink.old ++ put) × LeavesFirst self.old self.new put result }
-        ensures counted { Counts result (S.faults sink.old) (S.faults sink.new) }
+        ensures released { ReleasesFirst S.tells S.taken result.1 self.old self.new sink.old sink.new result.0 }
+        ensures counted { Counts result.1 (S.faults sink.old) (S.faults sink.new) }
         ensures tells { S.tells sink.new ↔ S.tells sink.old }
     {
         let Some(first) = self.waiting.front() else {
-            return true;
+            return (0, true);
         };
         let bytes = first.bytes.as_slice();
         let (at, all) = put_from(rt, sink, first.descriptor, bytes, self.offset);
+        let count = at - self.offset;
         if all {
             self.waiting.pop_front();
             self.released += 1;
@@ -142,6 +139,6 @@ impl Outputs {
         } else {
             self.offset = at;
         }
-        all
+        (count, all)
     }
 }

@@ -1,9 +1,10 @@
 //! What is sent, committed and seen.
 
 use super::machine::Manner;
-use super::rows::{Row, play};
+use super::rows::{Row, play, play_to_end};
+use super::same;
 use super::stores::{crashes_leave, has_bytes};
-use commit_group::{FlushFault, SubmitFault, Turn};
+use commit_group::{FlushFault, Report, SubmitFault, Turn};
 use std::test::Fail;
 
 // An opening of a file of 88 bytes and 255 frames of 64 instructions fill the queue; four turns commit all of it.
@@ -125,5 +126,30 @@ fn failed_turn(rt: HostRuntime) -> Result<(), Fail> {
             crashes_leave(&rt, alloc, &disk, &[])?;
         }
     }
+    Ok(())
+}
+
+// A group ends before all is committed, and before all that is committed was seen.
+#[test]
+fn ended_group(rt: HostRuntime) -> Result<(), Fail> {
+    let alloc = rt.alloc();
+    let rows = [
+        Row::SendsAll(0, 3),
+        Row::SendsAll(1, 2),
+        Row::Turn(Ok(Turn::Committed(5))),
+        Row::Looks(0, 3),
+        Row::Looks(1, 2),
+        Row::SendsAll(1, 3),
+        Row::SendsAll(0, 1),
+        Row::Turn(Ok(Turn::Committed(4))),
+        Row::SendsAll(0, 2),
+    ];
+    let found = play_to_end(&rt, alloc, 2, &rows)?;
+    let want = Report {
+        sent: [6, 5, 0, 0, 0, 0, 0, 0, 0, 0, 0, 0, 0, 0, 0, 0],
+        committed: [4, 5, 0, 0, 0, 0, 0, 0, 0, 0, 0, 0, 0, 0, 0, 0],
+        seen: [3, 2, 0, 0, 0, 0, 0, 0, 0, 0, 0, 0, 0, 0, 0, 0],
+    };
+    same(&rt, &"the report", found, want);
     Ok(())
 }

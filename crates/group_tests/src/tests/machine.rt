@@ -1,10 +1,11 @@
 //! A group and a log on a disk in memory. What a call requires is tested here.
 
-ghost use Rattle.std.specs.Prelude.{◌≡◌, false, IfOk};
+ghost use Rattle.std.specs.Prelude.{◌≡◌, false, length, IfOk};
+ghost use Rattle.commit_group.specs.Seats.{AllOf};
 ghost use Rattle.commit_group.specs.Submits.{CanSubmit};
 
 use super::items::{long_opening, opening, preempted};
-use commit_group::{FlushFault, FlusherSeat, Group, RecorderSeat, SubmitFault, Turn};
+use commit_group::{FlushFault, FlusherSeat, Group, RecorderSeat, Report, SubmitFault, Turn, end};
 use rrv_model::record::Item;
 use std::alloc::Global;
 use std::sync::Wait;
@@ -44,6 +45,8 @@ pub(crate) struct Machine {
     flusher: FlusherSeat,
     log: Log<Device>,
     ghost whole: { flusher.halted ≡ false → log.is_broken ≡ false },
+    ghost count: { length seats.items ≡ flusher.group.guests },
+    ghost all: { AllOf flusher.group seats.items },
 }
 
 impl Machine {
@@ -69,10 +72,6 @@ impl Machine {
         })
     }
 
-    fn seat(&mut self, guest: u32) -> Result<&mut RecorderSeat, Fail> {
-        Ok(self.seats.get_mut(guest as usize).ok_or("no such guest")?)
-    }
-
     /// The guest sends its next item; why it is refused.
     pub(crate) fn send<R: Wait>(
         &mut self,
@@ -81,7 +80,9 @@ impl Machine {
         guest: u32,
         manner: Manner,
     ) -> Result<Option<SubmitFault>, Fail> {
-        let seat = self.seat(guest)?;
+        let Some(seat) = self.seats.get_mut(guest as usize) else {
+            return Err(Fail::new("no such guest"));
+        };
         let item = next_item(alloc, seat, manner == Manner::Long)?;
         let sent = if manner == Manner::Waits {
             seat.submit(rt, item)
@@ -95,20 +96,32 @@ impl Machine {
     }
 
     pub(crate) fn look(&mut self, guest: u32) -> Result<u32, Fail> {
-        Ok(self.seat(guest)?.look())
+        let Some(seat) = self.seats.get_mut(guest as usize) else {
+            return Err(Fail::new("no such guest"));
+        };
+        Ok(seat.look())
     }
 
     pub(crate) fn look_halt(&mut self, guest: u32) -> Result<bool, Fail> {
-        Ok(self.seat(guest)?.look_halt())
+        let Some(seat) = self.seats.get_mut(guest as usize) else {
+            return Err(Fail::new("no such guest"));
+        };
+        Ok(seat.look_halt())
     }
 
     pub(crate) fn leave(&mut self, guest: u32) -> Result<(), Fail> {
-        self.seat(guest)?.leave();
+        let Some(seat) = self.seats.get_mut(guest as usize) else {
+            return Err(Fail::new("no such guest"));
+        };
+        seat.leave();
         Ok(())
     }
 
-    pub(crate) fn sent(&mut self, guest: u32) -> Result<u32, Fail> {
-        Ok(self.seat(guest)?.sent())
+    pub(crate) fn sent(&self, guest: u32) -> Result<u32, Fail> {
+        let Some(seat) = self.seats.get(guest as usize) else {
+            return Err(Fail::new("no such guest"));
+        };
+        Ok(seat.sent())
     }
 
     pub(crate) fn turn<R: Wait>(
@@ -153,5 +166,14 @@ impl Machine {
             log,
         } = self;
         log.close().into_inner()
+    }
+    /// Ends the group.
+    pub(crate) fn end(self) -> Report {
+        let Machine {
+            seats,
+            flusher,
+            log: _,
+        } = self;
+        end(seats, flusher)
     }
 }

@@ -2,7 +2,7 @@
 
 use super::machine::{Machine, Manner};
 use super::same;
-use commit_group::{FlushFault, SubmitFault, Turn};
+use commit_group::{FlushFault, Report, SubmitFault, Turn};
 use std::alloc::Global;
 use std::process::Abort;
 use std::sync::Wait;
@@ -71,8 +71,22 @@ fn take(
     Ok(())
 }
 
-/// Takes rows one after another, on a group of so many guests, and gives the disk of its store. A call of the disk fails behind the store's
-/// making, counted from 1; none with 0.
+/// Takes rows one after another, on a group of so many guests. A call of the disk fails behind the store's making, counted from 1; none with 0.
+fn played<R: Abort + Wait>(
+    rt: &R,
+    alloc: Global,
+    guests: u32,
+    fails: u64,
+    rows: &[Row],
+) -> Result<Machine, Fail> {
+    let mut machine = Machine::new(alloc, guests, fails)?;
+    for row in rows {
+        take(rt, alloc, &mut machine, row)?;
+    }
+    Ok(machine)
+}
+
+/// Takes rows as `played` does, and gives the disk of the store.
 pub(crate) fn play<R: Abort + Wait>(
     rt: &R,
     alloc: Global,
@@ -80,9 +94,15 @@ pub(crate) fn play<R: Abort + Wait>(
     fails: u64,
     rows: &[Row],
 ) -> Result<MemDisk, Fail> {
-    let mut machine = Machine::new(alloc, guests, fails)?;
-    for row in rows {
-        take(rt, alloc, &mut machine, row)?;
-    }
-    Ok(machine.close())
+    Ok(played(rt, alloc, guests, fails, rows)?.close())
+}
+
+/// Takes rows on a disk that never fails, and tells how the group ends.
+pub(crate) fn play_to_end<R: Abort + Wait>(
+    rt: &R,
+    alloc: Global,
+    guests: u32,
+    rows: &[Row],
+) -> Result<Report, Fail> {
+    Ok(played(rt, alloc, guests, 0, rows)?.end())
 }

@@ -1,4 +1,4 @@
-use Rattle.std.proofs.Common.{rules, ℕ, ◌≤◌, ◌<◌, ◌∙◌, ◌≡◌, arith}
+use Rattle.std.proofs.Common.{arith}
 use Rattle.group_tests.proofs.tests.machine.next_item.Goals as goal
 
 pub returns-in_default : goal.returns-in_default

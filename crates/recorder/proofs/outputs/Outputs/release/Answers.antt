@@ -1,30 +1,23 @@
-use Rattle.std.proofs.Common.{◌<◌, ◌++◌, ℕ, Bool, List, subst, ap, ◌∙◌, arith, append_assoc}
+use Rattle.std.proofs.Common.{Bool, subst, ◌∙◌, arith}
 use Rattle.recorder.specs.Owed.{Counts}
-use Rattle.recorder.proofs.Leaving.{leaves_both, leaves_first}
+use Rattle.recorder.proofs.Leaving.{releases_more}
 use Rattle.recorder.proofs.outputs.Outputs.release.Goals as goal
 
-pub returns-then-not-put_first-clause-released : goal.returns-then-not-put_first-clause-released
-returns-then-not-put_first-clause-released g c =
+pub returns-then-not-all-clause-released : goal.returns-then-not-all-clause-released
+returns-then-not-all-clause-released g c =
     let i = c.loop-self.invariant in
-    let f = c.put_first.ensures in
-    let low : c.loop-self.self.released < c.args.seen = (let t = c.loop-self-test.true in let r = c.released.ensures in omega arith) in
-    record {
-      put = i.released.put ++ f.left.0;
-      takes = λ tells. f.left.1 (i.tells.1 tells) ∙ ap (λ (l : List (ℕ × ℕ)). l ++ f.left.0) (i.released.takes tells) ∙ append_assoc (g.S.Sink.taken c.args.sink.now) i.released.put f.left.0;
-      leaves = leaves_both c.args.seen _ _ _ _ _ i.released.leaves (leaves_first c.args.seen _ _ f.left.0 _ low f.left.2);
-    }
+    let t = c.loop-self-test.true in
+    let r = c.released.ensures in
+    releases_more g.S.Sink.tells g.S.Sink.taken c.args.seen _ _ _ _ _ _ _ _ _ _ i.tells.1 (omega arith) c.saturating_add-taken.ensures i.released c.put_first-count.ensures.released
 
 pub loop-self-preserved : goal.loop-self-preserved
 loop-self-preserved g c =
     let i = c.loop-self.invariant in
-    let f = c.put_first.ensures in
-    let low : c.loop-self.self.released < c.args.seen = (let t = c.loop-self-test.true in let r = c.released.ensures in omega arith) in
+    let f = c.put_first-count.ensures in
+    let t = c.loop-self-test.true in
+    let r = c.released.ensures in
     record {
-      released = record {
-        put = i.released.put ++ f.left.0;
-        takes = λ tells. f.left.1 (i.tells.1 tells) ∙ ap (λ (l : List (ℕ × ℕ)). l ++ f.left.0) (i.released.takes tells) ∙ append_assoc (g.S.Sink.taken c.args.sink.now) i.released.put f.left.0;
-        leaves = leaves_both c.args.seen _ _ _ _ _ i.released.leaves (leaves_first c.args.seen _ _ f.left.0 _ low f.left.2);
-      };
-      counted = subst (λ (b : Bool). Counts b (g.S.Sink.faults c.loop-self.sink) (g.S.Sink.faults c.put_first.new.sink)) c.if-not-put_first.false f.counted ∙ i.counted;
+      released = releases_more g.S.Sink.tells g.S.Sink.taken c.args.seen _ _ _ _ _ _ _ _ _ _ i.tells.1 (omega arith) c.saturating_add-taken.ensures i.released f.released;
+      counted = subst (λ (b : Bool). Counts b (g.S.Sink.faults c.loop-self.sink) (g.S.Sink.faults c.put_first-count.new.sink)) c.if-not-all.false f.counted ∙ i.counted;
       tells = ((λ t. i.tells.0 (f.tells.0 t)), (λ t. f.tells.1 (i.tells.1 t)));
     }

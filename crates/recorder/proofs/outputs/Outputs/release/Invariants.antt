@@ -4,7 +4,7 @@ use Rattle.recorder.proofs.outputs.Outputs.release.Given as goal
 
 abbrev pub invariant-loop-self : goal.invariant-loop-self
 invariant-loop-self g l = record {
-  released : Releases g.S.Sink.tells g.S.Sink.taken l.seen l.fn.self l.self l.fn.sink l.sink;
+  released : Releases g.S.Sink.tells g.S.Sink.taken l.seen l.fn.self l.self l.fn.sink l.sink l.taken;
   counted : g.S.Sink.faults l.sink ≡ g.S.Sink.faults l.fn.sink;
   tells : g.S.Sink.tells l.sink ↔ g.S.Sink.tells l.fn.sink;
 }

@@ -1,0 +1,204 @@
+-- A recorder's calls are events.
+use Rattle.std.proofs.Common.{◌≡◌, ℕ, zero, suc, ◌+◌, ◌<◌, ◌≤◌, List, [], ◌∷◌, ◌++◌, length, min, take, refl, sym, ap, ◌∙◌, subst, arith, append_assoc}
+use Rattle.std.proofs.lemmas.List.{append_cancel_left, length-map, map-append, map_push}
+use Rattle.rrv_model.specs.declared.limits.TheConstants.{MAX_NUMBER}
+use Rattle.rrv_model.specs.declared.record.Choice.{Choice}
+use Rattle.rrv_model.specs.declared.record.Item.{Item}
+use Rattle.rrv_model.specs.declared.record.Record.{Record}
+use Rattle.rrv_model.specs.Output.{spread}
+use Rattle.rrv_model.specs.RecordText.{HasText}
+use Rattle.rrv_model.specs.Recording.{EndsIn, IsNumbered, IsRecording, Starts, frame_record, items_of}
+use Rattle.rrv_model.specs.State.{State}
+use Rattle.std.specs.List.{AllByRecursion}
+use Rattle.guest_calls.specs.Guest.{GuestValue, state_of}
+use Rattle.serial_sched.specs.Asking.{Gives}
+use Rattle.commit_core.specs.World.{World, Recorder, made as made_there}
+use Rattle.commit_core.specs.Events.{after, looked, released, sliced, CanSlice}
+use Rattle.commit_core.specs.Events.Event.{Look, Release, Slice}
+use Rattle.commit_core.specs.Runs.{IsBeginning, IsOutput, ItemsPut}
+use Rattle.commit_core.proofs.Lists.{put_same}
+use Rattle.commit_group.specs.Numbers.{numbered, renumbered}
+use Rattle.commit_group.specs.Seats.{RecorderValue}
+use Rattle.commit_group.specs.Steps.{StandsForRecorder}
+use Rattle.commit_group.specs.Submits.{after_look}
+use Rattle.recorder.specs.Recorded.{IsRecorded}
+use Rattle.recorder.specs.RecorderCalls.{HasStepped}
+use Rattle.recorder.specs.Recorders.{GuestRecorder, HasRecorded, made}
+use Rattle.recorder.specs.RecorderWorlds.{ReleasesAreEvents, StandsForGuest, StepsAreEvents}
+use Rattle.recorder.proofs.Released.{output_is_durable}
+
+-- ---- records under their numbers
+
+renumbered_items : (b : ℕ) (rs : List Record) → items_of (renumbered b rs) ≡ items_of rs
+renumbered_items b [] = refl
+renumbered_items b (r ∷ rs) = ap (λ (l : List Item). r.item ∷ l) (renumbered_items b rs)
+
+renumbered_numbered : (b g k : ℕ) (rs : List Record) → IsNumbered g k rs → IsNumbered (b + g) k (renumbered b rs)
+renumbered_numbered b g k [] h = tt
+renumbered_numbered b g k (r ∷ rs) h = (ap (λ n. b + n) h.0, h.1, renumbered_numbered b g (k + 1) rs h.2)
+
+renumbered_take : (b k : ℕ) (rs : List Record) → items_of (take k (renumbered b rs)) ≡ items_of (take k rs)
+renumbered_take b zero rs = refl
+renumbered_take b (suc k) [] = refl
+renumbered_take b (suc k) (r ∷ rs) = ap (λ (l : List Item). r.item ∷ l) (renumbered_take b k rs)
+
+renumbered_text : (b : ℕ) (r : Record) → b + r.guest ≤ MAX_NUMBER → HasText r → HasText (numbered b r)
+renumbered_text b r low h = record { guest = low; index = h.index; item = h.item }
+
+last_has_text : (rs : List Record) (r : Record) → AllByRecursion HasText (rs ++ r ∷ []) → HasText r
+last_has_text [] r h = h.0
+last_has_text (q ∷ rs) r h = last_has_text rs r h.1
+
+record Renumbered (b place : ℕ) (rs : List Record) (s : State) : Type 0 where
+  recording : IsRecording (renumbered b rs)
+  numbered : IsNumbered (b + place) 0 (renumbered b rs)
+  ends : EndsIn (items_of (renumbered b rs)) s
+
+renumbered_is : (b place : ℕ) (rs : List Record) (s : State) → IsRecorded place rs s → Renumbered b place rs s
+renumbered_is b place rs s h =
+    let n = renumbered_numbered b place 0 rs h.numbered in
+    record {
+      recording = record { guest = b + place; numbered = n; starts = subst Starts (sym (renumbered_items b rs)) h.recording.starts };
+      numbered = n;
+      ends = subst (λ (l : List Item). EndsIn l s) (sym (renumbered_items b rs)) h.ends;
+    }
+
+-- lists with equal fronts
+same_front : (a b x y : List Record) → a ≡ b → a ++ x ≡ b ++ y → x ≡ y
+same_front a b x y front both = append_cancel_left b x y (ap (λ (l : List Record). l ++ x) (sym front) ∙ both)
+
+-- output looks at the items alone
+output_of_items : (out out' : List (ℕ × ℕ)) (rs rs' : List Record) → out ≡ out' → items_of rs ≡ items_of rs' → IsOutput out rs → IsOutput out' rs'
+output_of_items out out' rs rs' same its h =
+    (h.0, subst (λ (l : List Item). ItemsPut l h.0) its h.1, subst (λ (l : List (ℕ × ℕ)). IsBeginning l (spread h.0)) same h.2)
+
+-- ---- what the world's recorder made
+
+made_in_world : (r : GuestRecorder) (out : List (ℕ × ℕ)) (w : World) → StandsForGuest r out w → made_there (w.recorders r.seat.guest) ≡ renumbered w.first_guest (made r)
+made_in_world r out w h = (λ i. h.seat.sent i ++ h.backlog i) ∙ sym (map-append (numbered w.first_guest) r.seat.sent r.backlog)
+
+stands_by : (w : World) (r : RecorderValue) (one : Recorder) → r.guest < w.guests → w.recorders r.guest ≡ one → one.sent ≡ renumbered w.first_guest r.sent
+    → one.seen ≡ r.seen → one.knows_halt ≡ r.knows_halt → one.left ≡ r.has_left → StandsForRecorder r w
+stands_by w r one there at sent seen knows_halt left = record {
+  there = there;
+  sent = ap (λ (x : Recorder). x.sent) at ∙ sent;
+  seen = ap (λ (x : Recorder). x.seen) at ∙ seen;
+  knows_halt = ap (λ (x : Recorder). x.knows_halt) at ∙ knows_halt;
+  left = ap (λ (x : Recorder). x.left) at ∙ left;
+}
+
+-- ---- the laws
+
+module _ {O : Type 0} (gives : Gives O) (old new : GuestRecorder) (choice : Choice) (before after' : O) (out : List (ℕ × ℕ)) (w : World)
+    (step : HasStepped gives old choice new before after') (recorded : HasRecorded new) (room : w.first_guest + w.guests ≤ MAX_NUMBER + 1) (h : StandsForGuest old out w) where
+  abbrev g : ℕ
+  g = old.seat.guest
+
+  abbrev b : ℕ
+  b = w.first_guest
+
+  abbrev r : Record
+  r = frame_record g (length (made old)) step.frame
+
+  abbrev s : State
+  s = state_of new.guest
+
+  abbrev entry : Record
+  entry = numbered b r
+
+  abbrev one : Recorder
+  one = sliced entry s (w.recorders g)
+
+  longer : made_there (w.recorders g) ++ entry ∷ [] ≡ renumbered b (made old ++ r ∷ [])
+  longer = ap (λ (l : List Record). l ++ entry ∷ []) (made_in_world old out w h) ∙ sym (map_push (numbered b) (made old) r)
+
+  all : IsRecorded g (made old ++ r ∷ []) s
+  all =
+      let place : new.seat.guest ≡ g = ap (λ (q : RecorderValue). q.guest) step.seat in
+      subst (λ (x : ℕ × List Record). IsRecorded x.0 x.1 s) (λ i. (place i, step.made_is i)) recorded
+
+  can_slice : CanSlice w g entry s
+  can_slice =
+      let there = renumbered_is b g (made old ++ r ∷ []) s all in
+      let low = h.seat.there in
+      record {
+        guest = low;
+        has_text = renumbered_text b r (omega arith) (last_has_text (made old) r all.has_text);
+        recording = subst IsRecording (sym longer) there.recording;
+        numbered = subst (IsNumbered (b + g) 0) (sym longer) there.numbered;
+        ends = subst (λ (l : List Record). EndsIn (items_of l) s) (sym longer) there.ends;
+      }
+
+  -- the backlog has one record more
+  backlog_is : new.backlog ≡ old.backlog ++ r ∷ []
+  backlog_is =
+      let sent : new.seat.sent ≡ old.seat.sent = ap (λ (q : RecorderValue). q.sent) step.seat in
+      same_front new.seat.sent old.seat.sent new.backlog (old.backlog ++ r ∷ []) sent (step.made_is ∙ append_assoc old.seat.sent old.backlog (r ∷ []))
+
+  stands_behind : StandsForGuest new out (after w (Slice g entry s))
+  stands_behind =
+      let w' = after w (Slice g entry s) in
+      let at : w'.recorders g ≡ one = put_same w.recorders g one in
+      let seat : StandsForRecorder old.seat w' = stands_by w' old.seat one h.seat.there at h.seat.sent h.seat.seen h.seat.knows_halt h.seat.left in
+      let old_place : (q : RecorderValue) → q ≡ old.seat → w'.recorders q.guest ≡ one = λ q e. ap (λ (x : RecorderValue). w'.recorders x.guest) e ∙ at in
+      let here = old_place new.seat step.seat in
+      record {
+        seat = subst (λ (q : RecorderValue). StandsForRecorder q w') (sym step.seat) seat;
+        backlog = ap (λ (x : Recorder). x.backlog) here ∙ ap (λ (l : List Record). l ++ entry ∷ []) h.backlog ∙ sym (map_push (numbered b) old.backlog r) ∙ ap (renumbered b) (sym backlog_is);
+        earlier = (w.recorders g).states;
+        states = ap (λ (x : Recorder). x.states) here;
+        out_is = ap (λ (x : Recorder). x.out) here ∙ h.out_is;
+        has_put = step.has_put out h.has_put;
+      }
+
+pub steps_are_events : {O : Type 0} (gives : Gives O) → StepsAreEvents gives
+steps_are_events gives old new choice before after' out w step recorded room h =
+    (can_slice gives old new choice before after' out w step recorded room h, stands_behind gives old new choice before after' out w step recorded room h)
+
+pub releases_are_events : {S : Type 0} (tells : S → Type 0) (taken : S → List (ℕ × ℕ)) → ReleasesAreEvents tells taken
+releases_are_events tells taken old new sink sink' result out w puts looks same h =
+    let g = old.seat.guest in
+    let word = w.words g in
+    let seen = after w (Look g) in
+    let looked_there = looked word (w.recorders g) in
+    let at : seen.recorders g ≡ looked_there = put_same w.recorders g looked_there in
+    let more = puts.put in
+    let has = puts.has_put out h.has_put in
+    let sent_count : length (w.recorders g).sent ≡ length old.seat.sent = ap length h.seat.sent ∙ length-map old.seat.sent (numbered w.first_guest) in
+    let seen_is : (seen.recorders g).seen ≡ new.seat.seen =
+    ap (λ (x : Recorder). x.seen) at ∙ ap (λ n. min word n) sent_count ∙ sym (ap (λ (q : RecorderValue). q.seen) looks) in
+    let sent_is : new.seat.sent ≡ old.seat.sent = ap (λ (q : RecorderValue). q.sent) looks in
+    let made_is : made new ≡ made old = λ i. sent_is i ++ same.0 i in
+    let low : new.seat.seen ≤ length new.seat.sent =
+    (let e : new.seat.seen ≡ min word (length old.seat.sent) = ap (λ (q : RecorderValue). q.seen) looks in let n : length new.seat.sent ≡ length old.seat.sent = ap length sent_is in omega arith) in
+    let made_here : made_there (seen.recorders g) ≡ renumbered w.first_guest (made new) =
+    ap made_there at ∙ made_in_world old out w h ∙ ap (renumbered w.first_guest) (sym made_is) in
+    let out_here : (seen.recorders g).out ≡ out = ap (λ (x : Recorder). x.out) at ∙ h.out_is in
+    let durable : IsOutput (out ++ more) (take new.seat.seen (made new)) = output_is_durable new (out ++ more) low has in
+    let items_here : items_of (take (seen.recorders g).seen (made_there (seen.recorders g))) ≡ items_of (take new.seat.seen (made new)) =
+    (λ i. items_of (take (seen_is i) (made_here i))) ∙ renumbered_take w.first_guest new.seat.seen (made new) in
+    let last = released more (seen.recorders g) in
+    let w' = after seen (Release g more) in
+    let at' : w'.recorders g ≡ last = put_same seen.recorders g last in
+    let place : new.seat.guest ≡ g = ap (λ (q : RecorderValue). q.guest) looks in
+    let here : w'.recorders new.seat.guest ≡ last = ap (λ (n : ℕ). w'.recorders n) place ∙ at' in
+    let seat_old : StandsForRecorder (after_look old.seat word) w' =
+    stands_by w' (after_look old.seat word) last h.seat.there at' (ap (λ (x : Recorder). x.sent) at ∙ h.seat.sent)
+    (ap (λ (x : Recorder). x.seen) at ∙ ap (λ n. min word n) sent_count) (ap (λ (x : Recorder). x.knows_halt) at ∙ h.seat.knows_halt) (ap (λ (x : Recorder). x.left) at ∙ h.seat.left) in (
+      h.seat.there,
+      (
+        (
+          h.seat.there,
+          output_of_items (out ++ more) ((seen.recorders g).out ++ more) (take new.seat.seen (made new)) (take (seen.recorders g).seen (made_there (seen.recorders g)))
+              (ap (λ (l : List (ℕ × ℕ)). l ++ more) (sym out_here)) (sym items_here) durable,
+        ),
+        record {
+          seat = subst (λ (q : RecorderValue). StandsForRecorder q w') (sym looks) seat_old;
+          backlog = ap (λ (x : Recorder). x.backlog) here ∙ ap (λ (x : Recorder). x.backlog) at ∙ h.backlog ∙ ap (renumbered w.first_guest) (sym same.0);
+          earlier = h.earlier;
+          states = ap (λ (x : Recorder). x.states) here ∙ ap (λ (x : Recorder). x.states) at ∙ h.states ∙ ap (λ (v : GuestValue). h.earlier ++ state_of v ∷ []) (sym same.1);
+          out_is = ap (λ (x : Recorder). x.out) here ∙ ap (λ (l : List (ℕ × ℕ)). l ++ more) out_here;
+          has_put = has;
+        },
+      ),
+    )

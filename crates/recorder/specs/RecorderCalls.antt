@@ -1,0 +1,156 @@
+-- What the calls of a guest's recorder do.
+use Rattle.std.specs.Prelude.{◌≡◌, ◌≢◌, ℕ, ◌+◌, ◌<◌, ◌≤◌, true, IsSome, IfErr, Result, List, [], ◌∷◌, ◌++◌, length, Option, None}
+use Rattle.rrv_model.specs.declared.limits.TheConstants.{MAX_NUMBER}
+use Rattle.rrv_model.specs.declared.record.Choice.{Choice}
+use Rattle.rrv_model.specs.declared.record.End.{End}
+use Rattle.rrv_model.specs.declared.record.Frame.{Frame}
+use Rattle.rrv_model.specs.declared.record.Item.{Item}
+use Rattle.rrv_model.specs.declared.record.Opening.{Opening}
+use Rattle.rrv_model.specs.Failures.{HasFailed}
+use Rattle.rrv_model.specs.Opening.{Opens}
+use Rattle.rrv_model.specs.Output.{Chunk, FramePuts, call_in, spread}
+use Rattle.rrv_model.specs.Recording.{frame_record}
+use Rattle.rrv_model.specs.State.{State, thread_at, IsRunning}
+use Rattle.rrv_model.specs.Step.{ThreadMayTakeMemory}
+use Rattle.guest_calls.specs.declared.put.Put.{Put}
+use Rattle.guest_calls.specs.Guest.{GuestValue, chunks_of, state_of}
+use Rattle.serial_sched.specs.declared.fault.SliceFault.{SliceFault}
+use Rattle.serial_sched.specs.declared.fault.SliceFault.TheVariants as slice_faults
+use Rattle.serial_sched.specs.Asking.{Gives}
+use Rattle.serial_sched.specs.Slices.{IsLive, IsQuantum, IsSliceOf, NextMayGrow}
+use Rattle.commit_group.specs.Seats.{RecorderValue, next_record}
+use Rattle.recorder.specs.declared.fault.RecorderFault.{RecorderFault}
+use Rattle.recorder.specs.declared.fault.RecorderFault.TheVariants as faults
+use Rattle.recorder.specs.Owed.{bytes_of, count_of}
+use Rattle.recorder.specs.Recorders.{GuestRecorder, HasPut, made}
+
+-- ---- new
+
+-- why there is no recorder: no guest starts so, or there was no memory
+abbrev pub RefusesOpening : Opening → RecorderFault → Type 0
+RefusesOpening o faults.BadOpening = (s : State) → ¬ Opens o.elf o.name o.random s
+RefusesOpening o faults.Memory = Unit {0}
+RefusesOpening o _ = ⊥
+
+-- ---- step
+
+-- why a slice is refused
+abbrev pub RefusesSlice : State → Choice → SliceFault → Type 0
+RefusesSlice s choice slice_faults.Ended = IsSome s.ended
+RefusesSlice s choice slice_faults.BadQuantum = IsLive s × ¬ IsQuantum choice.quantum
+RefusesSlice s choice slice_faults.NotRunnable =
+    IsLive s × IsQuantum choice.quantum × ¬ IsRunning (thread_at s choice.tid)
+RefusesSlice s choice slice_faults.Memory = ThreadMayTakeMemory s choice.tid × NextMayGrow s choice.tid
+
+-- a frame's output: what its call kept, else nothing
+abbrev pub PutIs : End → Option Put → Put → Type 0
+PutIs end kept put =
+    (call_in end ≡ None → bytes_of put ≡ []) × (call_in end ≢ None → bytes_of put ≡ spread (chunks_of kept))
+
+-- a frame from s on puts these bytes out
+pub record PutsOut (s : State) (f : Frame) (put : Put) : Type 0 where
+  pub chunks : List Chunk
+  pub puts : FramePuts s f f.end chunks
+  pub bytes : spread chunks ≡ bytes_of put
+
+-- the frame is the slice of this choice, and what its call put out isn't kept in the guest
+pub record Slices {O : Type 0} (gives : Gives O) (old : GuestValue) (choice : Choice) (f : Frame) (new : GuestValue)
+    (before after : O) : Type 0 where
+  pub kept : Option Put
+  pub slice : IsSliceOf gives old choice f (record new { put = kept }) before after
+
+-- One frame more was made, which is the slice of this choice. What had left is all the same.
+pub record HasStepped {O : Type 0} (gives : Gives O) (old : GuestRecorder) (choice : Choice) (new : GuestRecorder)
+    (before after : O) : Type 0 where
+  pub frame : Frame
+  pub slice : Slices gives old.guest choice frame new.guest before after
+  pub made_is : made new ≡ made old ++ frame_record old.seat.guest (length (made old)) frame ∷ []
+  pub seat : new.seat ≡ old.seat
+  pub released : new.owed.released ≡ old.owed.released
+  pub has_put : (out : List (ℕ × ℕ)) → HasPut old out → HasPut new out
+
+-- all is sent, and there may be a record more
+pub record HasPlace (r : GuestRecorder) : Type 0 where
+  pub all_sent : r.backlog ≡ []
+  pub few : length r.seat.sent < MAX_NUMBER + 1
+
+-- there was a place for a frame, and no slice of this choice would be refused but for memory
+pub record MayStep (r : GuestRecorder) (choice : Choice) : Type 0 where
+  pub place : HasPlace r
+  pub slice : (fault : SliceFault) → fault ≢ slice_faults.Memory → ¬ RefusesSlice (state_of r.guest) choice fault
+
+-- why no frame was made
+abbrev pub RefusesStep : GuestRecorder → Choice → RecorderFault → Type 0
+RefusesStep r choice faults.Full = r.backlog ≢ []
+RefusesStep r choice faults.TooManyRecords = (r.backlog ≡ []) × (length r.seat.sent ≡ MAX_NUMBER + 1)
+RefusesStep r choice faults.Memory = HasPlace r
+RefusesStep r choice (faults.Refused fault) =
+    HasPlace r × (fault ≢ slice_faults.Memory) × RefusesSlice (state_of r.guest) choice fault
+RefusesStep r choice _ = ⊥
+
+-- nothing was made
+pub record IsUnmoved {O : Type 0} (old new : GuestRecorder) (before after : O) : Type 0 where
+  pub seat : new.seat ≡ old.seat
+  pub backlog : new.backlog ≡ old.backlog
+  pub owed : (new.owed.released ≡ old.owed.released) × (new.owed.owed ≡ old.owed.owed)
+  pub state : state_of new.guest ≡ state_of old.guest
+  pub environment : after ≡ before
+
+-- ---- send
+
+-- the first item of the backlog was sent, after a look for a halt
+pub record SendsFirst (seat : RecorderValue) (items : List Item) (seat' : RecorderValue) (items' : List Item)
+    : Type 0 where
+  pub item : Item
+  pub items_are : items ≡ item ∷ items'
+  pub sent : seat'.sent ≡ seat.sent ++ next_record seat item ∷ []
+
+-- of a seat's parts, all but what was sent and what looks for a halt found
+abbrev pub SeatLooksAndSends : RecorderValue → RecorderValue → Type 0
+SeatLooksAndSends old new =
+    new ≡ record old { sent = new.sent; knows_halt = new.knows_halt; halt_looks = new.halt_looks }
+
+-- some of the backlog is sent; what was made and what of its output has left stay
+pub record SendsSome (old new : GuestRecorder) : Type 0 where
+  pub made_is : made new ≡ made old
+  pub seat : SeatLooksAndSends old.seat new.seat
+  pub owed : new.owed ≡ old.owed
+  pub guest : new.guest ≡ old.guest
+  pub fewer : length new.backlog ≤ length old.backlog
+
+-- ---- release and settle
+
+-- what a fault tells of the bytes that left in its call
+abbrev pub TellsTaken : List (ℕ × ℕ) → RecorderFault → Type 0
+TellsTaken put (faults.SinkFailed taken) = taken ≡ count_of put
+TellsTaken put _ = Unit {0}
+
+-- The sink took these bytes, and no others. With them behind what had left before, this is again what has left.
+pub record PutsMore {S T : Type 0} (tells : S → Type 0) (taken : S → List (ℕ × ℕ)) (old new : GuestRecorder)
+    (sink sink' : S) (result : Result T RecorderFault) : Type 0 where
+  pub put : List (ℕ × ℕ)
+  pub takes : tells sink → taken sink' ≡ taken sink ++ put
+  pub has_put : (out : List (ℕ × ℕ)) → HasPut old out → HasPut new (out ++ put)
+  pub told : IfErr result (TellsTaken put)
+
+-- the same, and they are so many
+pub record PutsCounted {S : Type 0} (tells : S → Type 0) (taken : S → List (ℕ × ℕ)) (old new : GuestRecorder)
+    (sink sink' : S) (count : ℕ) : Type 0 where
+  pub put : List (ℕ × ℕ)
+  pub takes : tells sink → taken sink' ≡ taken sink ++ put
+  pub has_put : (out : List (ℕ × ℕ)) → HasPut old out → HasPut new (out ++ put)
+  pub counted : count ≡ count_of put
+
+-- why a settling recorder isn't settled: it knows of a halt, or the sink refused; the sink's failures rise by that alone
+abbrev pub RefusesSettle : GuestRecorder → RecorderFault → ℕ → ℕ → Type 0
+RefusesSettle r faults.Halted old new = (r.seat.knows_halt ≡ true) × (new ≡ old)
+RefusesSettle r (faults.SinkFailed taken) old new = HasFailed old new
+RefusesSettle r _ old new = ⊥
+
+-- the guest and what was made stay, and of the seat whose it is
+pub record KeepsMade (old new : GuestRecorder) : Type 0 where
+  pub made_is : made new ≡ made old
+  pub guest : new.guest ≡ old.guest
+  pub group : new.seat.group ≡ old.seat.group
+  pub place : new.seat.guest ≡ old.seat.guest
+  pub here : new.seat.has_left ≡ old.seat.has_left

@@ -1,0 +1,11 @@
+pub mod Gained
+pub mod Pairs
+pub mod Tasks
+pub mod Works
+pub mod FirstFaults
+pub mod Driven
+pub mod Worked
+pub mod Outputs
+pub mod Recorded
+pub mod Sessions
+pub mod Openings

@@ -1,0 +1,142 @@
+-- A session, from what its threads gave to what it gives.
+use Rattle.std.proofs.Common.{◌≡◌, inl, inr, ℕ, zero, suc, ◌+◌, ◌≤◌, List, [], ◌∷◌, ◌++◌, length, refl, sym, ap, ◌∙◌, subst, arith, false}
+use Rattle.std.proofs.lemmas.List.{append-nil}
+use Rattle.std.specs.Prelude.{◌⊎◌, Option, Some, Result, Ok, Err, OnOk, slice_get}
+use Rattle.rrv_model.specs.declared.record.Record.{Record}
+use Rattle.rrv_model.specs.CrashModel.{LeavesOnly}
+use Rattle.rrv_model.specs.Recovered.{next_guest, IsRecovered}
+use Rattle.rrv_model.proofs.CrashLaws.{started}
+use Rattle.trace_log.specs.Kept.{LogValue}
+use Rattle.commit_group.specs.declared.fault.FlushFault.{FlushFault}
+use Rattle.commit_group.specs.Seats.{FlusherValue, GroupId, RecorderValue, new_flusher_seat}
+use Rattle.commit_group.specs.Turns.{AllCommitted}
+use Rattle.recorder.specs.Gained.{Device}
+use Rattle.session.specs.declared.fault.SessionFault.{SessionFault}
+use Rattle.session.specs.declared.job.Job.{Job}
+use Rattle.session.specs.Faults.{flusher_met}
+use Rattle.session.specs.Gains.{HasFlushed, HasGained, HoldsFirst, StandsIn}
+use Rattle.session.specs.Sessions.{AreRecorded, HasRun, IsLeft}
+use Rattle.session.specs.Works.{Sinks}
+use Rattle.std.specs.Prelude.{MatchOption}
+use Rattle.commit_group.specs.Reports.{HasEnded}
+use Rattle.commit_group.specs.Seats.{AllNew}
+use Rattle.session.specs.declared.report.GuestReport.{GuestReport}
+use Rattle.session.specs.declared.task.Task.{Task}
+use Rattle.session.specs.declared.task.Worked.{Worked}
+use Rattle.session.specs.Pairs.{ArePairs}
+use Rattle.session.specs.Sessions.{AreReported, reports_of}
+use Rattle.session.specs.Tasks.{faults_met, jobs_of, jobs_worked, seats_of, seats_worked}
+use Rattle.session.specs.Works.{Choosers, HasWorked}
+use Rattle.session.proofs.Gained.{leaves_kept}
+use Rattle.session.proofs.Recorded.{IsEnded, all_recorded, all_reported, ended_at}
+use Rattle.session.proofs.Tasks.{all_of}
+
+module _ {D : Type 0} (device : Device D) where
+  -- what a new group's flusher stands in
+  pub stands_new : (group : GroupId) (log : LogValue D) (bodies : List (List ℕ)) (earlier : List Record) → IsLeft device log bodies earlier → StandsIn device (new_flusher_seat group) log bodies earlier
+  stands_new group log bodies earlier left = record {
+    is_honest = left.is_honest;
+    keeps = left.keeps;
+    recovered = subst (λ (l : List Record). IsRecovered bodies l) (sym (append-nil earlier)) left.recovered;
+    below = left.above;
+    raised = subst (λ (l : List Record). next_guest l ≤ log.next_guest) (sym (append-nil earlier)) left.above;
+  }
+
+  pub session_gained : (group : GroupId) (f g : FlusherValue) (log log' : LogValue D) (flushed : Result Unit FlushFault) → f ≡ new_flusher_seat group → HasFlushed device f g log log' flushed
+      → (bodies : List (List ℕ)) (earlier : List Record) → IsLeft device log bodies earlier → HasGained device g.committed log log' bodies earlier
+  session_gained group f g log log' flushed new h bodies earlier left =
+      h.gained bodies earlier (subst (λ (x : FlusherValue). StandsIn device x log bodies earlier) (sym new) (stands_new group log bodies earlier left))
+
+  pub first_is : (group : GroupId) (f g : FlusherValue) (log log' : LogValue D) (flushed : Result Unit FlushFault) → f ≡ new_flusher_seat group → HasFlushed device f g log log' flushed
+      → (g.first_guest ≡ Some log.next_guest) ⊎ (g.committed ≡ [])
+  first_is group f g log log' flushed new h = elim h.numbers [
+    | inl some ↦ inl (some ∙ ap (λ (x : FlusherValue). Some (Rattle.commit_group.specs.Flushes.first_number x.first_guest log.next_guest)) new)
+    | inr none ↦ inr (none ∙ ap (λ (x : FlusherValue). x.committed) new)
+  ]
+
+  -- nothing happened
+  none_gained : (log : LogValue D) (bodies : List (List ℕ)) (earlier : List Record) → IsLeft device log bodies earlier → HasGained device [] log log bodies earlier
+  none_gained log bodies earlier left = record {
+    more = [];
+    hand = [];
+    one = omega arith;
+    recovered = subst (λ (b : List (List ℕ)). IsRecovered b (earlier ++ [])) (sym (append-nil bodies)) (subst (λ (l : List Record). IsRecovered bodies l) (sym (append-nil earlier)) left.recovered);
+    any_moment = started (device.state log.disk) (HoldsFirst bodies []) (leaves_kept device log bodies [] left.keeps);
+    now = subst (λ (b : List (List ℕ)). Rattle.rrv_model.specs.CrashModel.Leaves (HoldsFirst b []) (device.state log.disk).pending) (sym (append-nil bodies)) (leaves_kept device log bodies [] left.keeps);
+    keeps = λ whole. (refl, subst (λ (b : List (List ℕ)). Rattle.trace_log.specs.Kept.Keeps device.state log b) (sym (append-nil bodies)) left.keeps);
+    raised = subst (λ (l : List Record). next_guest l ≤ log.next_guest) (sym (append-nil earlier)) left.above;
+  }
+
+  module _ {C O S : Type 0} (sinks : Sinks S) where
+    none_recorded : (number : ℕ) (jobs : List (Job C O S)) → AreRecorded sinks [] number jobs jobs
+    none_recorded number [] = tt
+    none_recorded number (job ∷ jobs) = (
+      record {
+        job = record { elf = refl; name = refl; random = refl };
+        records = inl refl;
+        put = [];
+        takes = λ _. sym (append-nil (sinks.taken job.sink));
+        output = ([], refl, ([], refl));
+      },
+      none_recorded (number + 1) jobs,
+    )
+
+    pub nothing_ran : (log : LogValue D) (jobs : List (Job C O S)) → HasRun sinks device [] log log jobs jobs
+    nothing_ran log jobs = record { gained = none_gained log; recorded = none_recorded log.next_guest jobs }
+
+-- where there is no fault the flusher met none
+pub flusher_met_none : (flushed : Result Unit FlushFault) (rest : List SessionFault) (P : Type 0) → flusher_met flushed ++ rest ≡ [] → OnOk flushed P → P × (rest ≡ [])
+flusher_met_none (Ok u) rest P none ok = (ok, none)
+flusher_met_none (Err e) rest P none ok = cc
+
+get_low : (xs : List RecorderValue) (k : ℕ) (r : RecorderValue) → slice_get xs k ≡ Some r → suc k ≤ length xs
+get_low [] k r at = absurd (subst (λ (o : Option RecorderValue). MatchOption o (Unit {0}) (λ _. ⊥)) at tt)
+get_low (x ∷ xs) zero r at = omega arith
+get_low (x ∷ xs) (suc k) r at = let l = get_low xs k r at in omega arith
+
+-- what all threads of a session gave, and what was reported of each seat
+pub record AreJoined {C O S D : Type 0} (choosers : Choosers C) (sinks : Sinks S) (device : Device D) (group : GroupId) (old f : FlusherValue) (log log' : LogValue D)
+    (flushed : Result Unit FlushFault) (tasks : List (Task C O S)) (done : List (Worked C O S)) : Type 0 where
+  pub new : old ≡ new_flusher_seat group
+  pub seats : AllNew group (seats_of tasks)
+  pub works : ArePairs (HasWorked choosers sinks) tasks done
+  pub flusher : HasFlushed device old f log log' flushed
+  pub count : length (seats_worked done) ≡ f.group.guests
+  pub each : (k : ℕ) (r : RecorderValue) → slice_get (seats_worked done) k ≡ Some r → (sent : ℕ) × (committed : ℕ) × (seen : ℕ) × HasEnded f sent committed seen r
+
+module _ {C O S D : Type 0} (choosers : Choosers C) (sinks : Sinks S) (device : Device D) (group : GroupId) (old f : FlusherValue) (log log' : LogValue D)
+    (flushed : Result Unit FlushFault) (tasks : List (Task C O S)) (done : List (Worked C O S)) where
+  ends : AreJoined choosers sinks device group old f log log' flushed tasks done → (k : ℕ) (r : RecorderValue) → slice_get (seats_worked done) k ≡ Some r → IsEnded f log.next_guest (0 + k) r
+  ends j k r at =
+      let place = (all_of choosers sinks group tasks done j.seats j.works k r at).1 in
+      let low = get_low (seats_worked done) k r at in
+      let count = j.count in
+      let e = j.each k r at in
+      ended_at f log.next_guest (0 + k) e.0 e.1 e.2 r e.3 (place ∙ omega arith) (omega arith) (first_is device group old f log log' flushed j.new j.flusher)
+
+  pub has_run : (jobs jobs' : List (Job C O S)) → AreJoined choosers sinks device group old f log log' flushed tasks done → jobs_of tasks ≡ jobs → jobs' ≡ jobs_worked done
+      → HasRun sinks device f.committed log log' jobs jobs'
+  has_run jobs jobs' j given back = record {
+    gained = session_gained device group old f log log' flushed j.new j.flusher;
+    recorded = subst (λ l. AreRecorded sinks f.committed log.next_guest l jobs') given (subst (λ l. AreRecorded sinks f.committed log.next_guest (jobs_of tasks) l) (sym back)
+        (subst (λ (n : ℕ). AreRecorded sinks f.committed n (jobs_of tasks) (jobs_worked done)) (omega arith) (all_recorded choosers sinks f log.next_guest 0 tasks done j.works (ends j))));
+  }
+
+  pub has_reported : (jobs jobs' : List (Job C O S)) (first : ℕ) (reports : List GuestReport) → AreJoined choosers sinks device group old f log log' flushed tasks done → jobs_of tasks ≡ jobs → jobs' ≡ jobs_worked done
+      → first ≡ log.next_guest → reports ≡ reports_of first done → flusher_met flushed ++ faults_met done ≡ [] → log.next_guest + length done ≤ 4294967295
+      → AreReported choosers sinks f.committed log.next_guest jobs jobs' reports
+  has_reported jobs jobs' first reports j given back is all_are none room =
+      let met = flusher_met_none flushed (faults_met done) (AllCommitted f × (f.halted ≡ false)) none j.flusher.all in
+      subst (λ l. AreReported choosers sinks f.committed log.next_guest l jobs' reports) given (subst (λ l. AreReported choosers sinks f.committed log.next_guest (jobs_of tasks) l reports) (sym back)
+      (subst (λ l. AreReported choosers sinks f.committed log.next_guest (jobs_of tasks) (jobs_worked done) l) (sym (all_are ∙ ap (λ n. reports_of n done) is))
+      (subst (λ (n : ℕ). AreReported choosers sinks f.committed n (jobs_of tasks) (jobs_worked done) (reports_of log.next_guest done)) (omega arith)
+      (all_reported choosers sinks f log.next_guest 0 tasks done j.works (ends j) met.1 met.0.0 met.0.1 (omega arith)))))
+
+-- of no jobs
+pub none_reported : {C O S : Type 0} (choosers : Choosers C) (sinks : Sinks S) (number : ℕ) (jobs : List (Job C O S)) (reports : List GuestReport) → jobs ≡ [] → reports ≡ []
+    → AreReported choosers sinks [] number jobs jobs reports
+none_reported {C = C} {O = O} {S = S} choosers sinks number jobs reports no_jobs no_reports =
+    subst (λ (l : List (Job C O S)). AreReported choosers sinks [] number l l reports) (sym no_jobs) (subst (λ (l : List GuestReport). AreReported choosers sinks [] number none none l) (sym no_reports) tt)
+  where
+    none : List (Job C O S)
+    none = []

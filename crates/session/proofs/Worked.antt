@@ -1,0 +1,172 @@
+-- What a worker gives back.
+use Rattle.std.proofs.Common.{◌≡◌, ◌⊎◌, inl, inr, ℕ, ◌≤◌, List, [], ◌∷◌, ◌++◌, length, take, None, Option, Some, true, true≢false, refl, sym, ap, ◌∙◌, subst, arith}
+use Rattle.std.proofs.lemmas.List.{append-nil, take-append-le, take_all}
+use Rattle.std.specs.Prelude.{IsSome}
+use Rattle.rrv_model.specs.declared.record.Item.{Item}
+use Rattle.rrv_model.specs.declared.record.Item.TheVariants as items
+use Rattle.rrv_model.specs.declared.record.Part.{Part}
+use Rattle.rrv_model.specs.declared.record.Record.{Record}
+use Rattle.rrv_model.specs.RecordText.{HasText}
+use Rattle.rrv_model.specs.Recording.{EndsIn, IsRecording, ItemsFollow, Starts, base_after, frames_of, items_of, row_after}
+use Rattle.rrv_model.specs.State.{State}
+use Rattle.rrv_model.specs.StateAt.{StateAtFrom, total}
+use Rattle.rrv_model.proofs.Lists.{AllByRecursion-front}
+use Rattle.rrv_model.proofs.RecordingLaws.{beginnings_are_recordings}
+use Rattle.rrv_model.proofs.RecoveredLaws.{numbered_front}
+use Rattle.rrv_model.proofs.RunLaws.{at_total_of_first}
+use Rattle.rrv_model.specs.declared.machine.GuestEnd.{GuestEnd}
+use Rattle.guest_calls.specs.Guest.{state_of}
+use Rattle.commit_core.specs.Runs.{IsOutput, ItemsPut}
+use Rattle.commit_group.specs.Seats.{RecorderValue}
+use Rattle.recorder.specs.Recorded.{IsRecorded, opening_of}
+use Rattle.recorder.specs.Recorders.{GuestRecorder, IsSettled, made}
+use Rattle.recorder.proofs.Released.{output_is_durable, settled_has_put_all}
+use Rattle.session.specs.declared.fault.SessionFault.{SessionFault}
+use Rattle.session.specs.declared.fault.SessionFault.TheVariants as faults
+use Rattle.session.specs.declared.job.Job.{Job}
+use Rattle.session.specs.declared.task.Task.{Task}
+use Rattle.session.specs.declared.task.Worked.{Worked}
+use Rattle.session.proofs.Works.{no_fault, none_put}
+use Rattle.session.specs.Drives.{Drives, IsDone, IsDriven, IsOver, LeavesWith}
+use Rattle.session.specs.Works.{AreMet, Choosers, HasFinished, HasWorked, IsBegun, IsRecordedFrom, IsSameJob, Sinks, opening_for}
+
+-- ---- the front of a recording
+
+follow_ends : (base : State) (parts : List Part) (s : State) (rest : List Item) → ItemsFollow base parts s rest → (last : State) × StateAtFrom s (frames_of rest) (total (frames_of rest)) last
+follow_ends base parts s [] h = (s, (refl, refl))
+follow_ends base parts s (items.Opening o ∷ rest) h = absurd h
+follow_ends base parts s (items.Frame f ∷ rest) h =
+    let e = follow_ends base [] h.0 rest h.2 in
+    (e.0, at_total_of_first s f (frames_of rest) h.0 e.0 h.1 e.1)
+follow_ends base parts s (items.Part p ∷ rest) h = follow_ends (base_after p.rest base s) (row_after p.rest (parts ++ p ∷ [])) s rest h.1
+
+starts_end : (its : List Item) → Starts its → (last : State) × EndsIn its last
+starts_end [] h = absurd h
+starts_end (items.Opening o ∷ rest) h =
+    let e = follow_ends h.0 [] h.0 rest h.2 in
+    (e.0, (h.0, h.1, e.1))
+starts_end (items.Frame f ∷ rest) h = absurd h
+starts_end (items.Part p ∷ rest) h = absurd h
+
+recorded_front : (place : ℕ) (x : Record) (xs ys : List Record) (s : State) → IsRecorded place ((x ∷ xs) ++ ys) s → (last : State) × IsRecorded place (x ∷ xs) last
+recorded_front place x xs ys s h =
+    let is : IsRecording (x ∷ xs) =
+    subst IsRecording (ap (λ (l : List Record). x ∷ l) (take-append-le (length xs) xs ys (omega arith) ∙ take_all (length xs) xs (omega arith)))
+    (beginnings_are_recordings (x ∷ (xs ++ ys)) (length xs) h.recording) in
+    let e = starts_end (items_of (x ∷ xs)) is.starts in (
+      e.0,
+      record {
+        recording = is;
+        numbered = numbered_front place 0 (x ∷ xs) ys h.numbered;
+        ends = e.1;
+        has_text = AllByRecursion-front HasText (x ∷ xs) ys h.has_text;
+      },
+    )
+
+-- what was sent of a recording is nothing, or a recording too
+pub begun_front : (opening : Record) (place : ℕ) (front back : List Record) (s : State) → IsRecordedFrom opening place (front ++ back) s → IsBegun opening place front
+begun_front opening place [] back s h = inl refl
+begun_front opening place (x ∷ xs) back s h =
+    let e = recorded_front place x xs back s h.recorded in
+    let first : x ≡ opening = head_is x opening (xs ++ back) h.opens.0 h.opens.1 in
+    inr (e.0, record { opens = (xs, ap (λ (r : Record). r ∷ xs) first); recorded = e.1 })
+  where
+    head_of : Record → List Record → Record
+    head_of d [] = d
+    head_of d (y ∷ ys) = y
+
+    head_is : (x y : Record) (xs ys : List Record) → x ∷ xs ≡ y ∷ ys → x ≡ y
+    head_is x y xs ys e = ap (head_of x) e
+
+-- ---- a worker
+
+is_no_none : {A : Type 0} (o : Option A) → IsSome o → o ≡ None → ⊥
+is_no_none o some none = true≢false (sym (subst IsSome none some))
+
+same_opening : {C O S : Type 0} (guest guest' : ℕ) (job job' : Job C O S) → guest' ≡ guest → IsSameJob job job' → opening_for guest job ≡ opening_for guest' job'
+same_opening guest guest' job job' e same = λ i. opening_of (sym e i) (sym same.elf i) (sym same.name i) (sym same.random i)
+
+module _ {C O S : Type 0} (choosers : Choosers C) (sinks : Sinks S) (old new : GuestRecorder) (job job' : Job C O S)
+    (begun : IsDriven (opening_for old.seat.guest job) old []) (drives : Drives sinks old new job.sink job'.sink) (same : IsSameJob job job')
+    (low : new.seat.seen ≤ length new.seat.sent) where
+  abbrev opening : Record
+  opening = opening_for new.seat.guest job'
+
+  abbrev seat : RecorderValue
+  seat = record new.seat { has_left = true }
+
+  driven : IsDriven opening new drives.put
+  driven = subst (λ (o : Record). IsDriven o new drives.put) (same_opening old.seat.guest new.seat.guest job job' drives.goes.guest same) (drives.goes.driven (opening_for old.seat.guest job) [] begun)
+
+  output : IsOutput drives.put (take new.seat.seen new.seat.sent)
+  output = subst (λ (l : List Record). IsOutput drives.put l) (take-append-le new.seat.seen new.seat.sent new.backlog low) (output_is_durable new drives.put low driven.has_put)
+
+  pub finished : (end : Option GuestEnd) (fault : Option SessionFault) → end ≡ (state_of new.guest).ended → IsSettled new → IsOver choosers new job'.chooser
+      → HasFinished choosers drives.put (record { seat = seat; job = job'; end = end; fault = fault })
+  finished end fault end_is settled over =
+      let whole : made new ≡ new.seat.sent = ap (λ (l : List Record). new.seat.sent ++ l) settled.sent ∙ append-nil new.seat.sent in
+      let all = settled_has_put_all new drives.put settled driven.has_put in
+      record {
+        seen = settled.seen;
+        whole = record {
+          state = state_of new.guest;
+          recorded = subst (λ (l : List Record). IsRecordedFrom opening new.seat.guest l (state_of new.guest)) whole driven.recorded;
+          end_is = end_is;
+          output = (all.0, subst (λ (l : List Record). ItemsPut (items_of l) all.0) whole all.1, all.2);
+          goes_on = λ none. goes_on none over;
+        };
+      }
+    where
+      goes_on : end ≡ None → IsOver choosers new job'.chooser → choosers.is_done job'.chooser ⊎ (length new.seat.sent ≡ 4294967295)
+      goes_on none (inl some) = absurd (is_no_none (state_of new.guest).ended some (sym end_is ∙ none))
+      goes_on none (inr (inl done)) = inl done
+      goes_on none (inr (inr many)) = inr (sym (ap length (ap (λ (l : List Record). new.seat.sent ++ l) settled.sent ∙ append-nil new.seat.sent)) ∙ many)
+
+  pub has_worked : (end : Option GuestEnd) (fault : Option SessionFault) → AreMet new.seat.guest fault
+      → (fault ≡ None → (new.seat.knows_halt ≡ true) ⊎ HasFinished choosers drives.put (record { seat = seat; job = job'; end = end; fault = fault }))
+      → HasWorked choosers sinks (record { seat = old.seat; job = job }) (record { seat = seat; job = job'; end = end; fault = fault })
+  has_worked end fault met done = record {
+    group = drives.goes.group;
+    guest = drives.goes.guest;
+    job = same;
+    sent = begun_front opening new.seat.guest new.seat.sent new.backlog (state_of new.guest) driven.recorded;
+    put = drives.put;
+    takes = drives.takes;
+    output = output;
+    faults = met;
+    finished = done;
+  }
+
+pub worked : {C O S : Type 0} (choosers : Choosers C) (sinks : Sinks S) (guest : ℕ) (seat : RecorderValue) (old new : GuestRecorder) (job job' : Job C O S) (fault : Option SessionFault) (worked : Worked C O S)
+    → guest ≡ seat.guest → old.seat ≡ seat → IsDriven (opening_for seat.guest job) old [] → Drives sinks old new job.sink job'.sink → IsSameJob job job' → AreMet guest fault
+    → (fault ≡ None → (new.seat.knows_halt ≡ true) ⊎ IsDone choosers new job'.chooser) → LeavesWith new job' fault worked
+    → HasWorked choosers sinks (record { seat = seat; job = job }) worked
+worked {C = C} {O = O} {S = S} choosers sinks guest seat old new job job' fault out place same_seat begun drives same met done leaves =
+    let begun' : IsDriven (opening_for old.seat.guest job) old [] = subst (λ (q : RecorderValue). IsDriven (opening_for q.guest job) old []) (sym same_seat) begun in
+    let met' : AreMet new.seat.guest fault = subst (λ n. AreMet n fault) (place ∙ ap (λ (q : RecorderValue). q.guest) (sym same_seat) ∙ sym drives.goes.guest) met in
+    let end = (state_of new.guest).ended in
+    let low = leaves.seen in
+    subst (λ (x : RecorderValue × Worked C O S). HasWorked choosers sinks (record { seat = x.0; job = job }) x.1) (λ i. (same_seat i, sym leaves.is i))
+    (has_worked choosers sinks old new job job' begun' drives same low end fault met' (λ none. finish (done none)))
+  where
+    finish : (new.seat.knows_halt ≡ true) ⊎ IsDone choosers new job'.chooser
+        → (new.seat.knows_halt ≡ true) ⊎ HasFinished choosers drives.put (record { seat = record new.seat { has_left = true }; job = job'; end = (state_of new.guest).ended; fault = fault })
+    finish (inl halted) = inl halted
+    finish (inr done) = inr (finished choosers sinks old new job job' (subst (λ (q : RecorderValue). IsDriven (opening_for q.guest job) old []) (sym same_seat) begun) drives same leaves.seen (state_of new.guest).ended fault refl done.settled done.over)
+
+-- a worker that found no memory for its recorder
+pub worked_none : {C O S : Type 0} (choosers : Choosers C) (sinks : Sinks S) (task : Task C O S) (seat : RecorderValue) → seat ≡ record task.seat { has_left = true } → task.seat.sent ≡ []
+    → HasWorked choosers sinks task (record { seat = seat; job = task.job; end = None; fault = Some faults.Memory })
+worked_none choosers sinks task seat is none =
+    let sent : seat.sent ≡ [] = ap (λ (q : RecorderValue). q.sent) is ∙ none in
+    record {
+      group = ap (λ (q : RecorderValue). q.group) is;
+      guest = ap (λ (q : RecorderValue). q.guest) is;
+      job = record { elf = refl; name = refl; random = refl };
+      sent = inl sent;
+      put = [];
+      takes = λ t. sym (append-nil (sinks.taken task.job.sink));
+      output = none_put seat.seen seat.sent sent;
+      faults = inr (inr refl);
+      finished = λ e. absurd (no_fault e);
+    }

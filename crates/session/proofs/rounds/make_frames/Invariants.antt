@@ -1,0 +1,9 @@
+use Rattle.std.proofs.Common.{◌<◌}
+use Rattle.session.specs.Drives.{Drives}
+use Rattle.session.proofs.rounds.make_frames.Given as goal
+
+abbrev pub invariant-loop : goal.invariant-loop
+invariant-loop g l = record {
+  drives : Drives g.S.Sink l.fn.recorder l.recorder l.fn.sink l.sink;
+  few : l.held < 10000000;
+}

@@ -1,0 +1,129 @@
+use Rattle.std.proofs.Common.{rules, arith, ◌≡◌, [], ◌++◌, length, sym, ap, ◌∙◌, subst}
+use Rattle.std.specs.Prelude.{slice_get, Option}
+use Rattle.commit_group.specs.Seats.{AllNew, AllOf, GroupId}
+use Rattle.session.specs.declared.fault.SessionFault.{SessionFault}
+use Rattle.session.specs.Faults.{IsLowest, flusher_met}
+use Rattle.std.specs.List.{AllByRecursion}
+use Rattle.session.specs.Openings.{StartsGuest}
+use Rattle.session.specs.Tasks.{faults_met}
+use Rattle.session.specs.Works.{HasWorked}
+use Rattle.session.proofs.Pairs.{pairs_length}
+use Rattle.session.proofs.Recorded.{all_numbered}
+use Rattle.session.proofs.Sessions.{AreJoined, has_reported, has_run, nothing_ran}
+use Rattle.session.proofs.Tasks.{all_fresh, all_of, jobs_length, seats_length, worked_length}
+use Rattle.session.proofs.session.record_some.Goals as goal
+
+pub returns-in_default : goal.returns-in_default
+returns-in_default g c = ([], nothing_ran g.D.Disk g.S.Sink c.args.log c.args.jobs.items, tt)
+
+pub run-done-requires-after_bounds : goal.run-done-requires-after_bounds
+run-done-requires-after_bounds g c κs within =
+    let h = c.in-Ok.ensures in
+    let len : length c.give.new.tasks.items ≡ length c.in-Ok.room.seats.items = sym (seats_length c.give.new.tasks.items) ∙ ap length c.give.ensures.seats in
+    let count = h.count in record {
+      fresh = all_fresh c.in-Ok.room.flusher.group c.give.new.tasks.items (subst (λ l. AllNew c.in-Ok.room.flusher.group l) (sym c.give.ensures.seats) h.seats) (subst (λ l. AllByRecursion StartsGuest l) (sym c.give.ensures.jobs) c.requires.starts);
+      no_workers = h.workers.0;
+      room = (let r = h.workers.1 in omega arith);
+      none_done = h.done.0;
+      space = (let r = h.done.1 in omega arith);
+      whole = c.requires.whole;
+      numbers = (let r = c.requires.numbers in let q = h.guests_are in let e = c.len.ensures in search rules);
+    }
+
+pub take_back-requires-clause-seats : goal.take_back-requires-clause-seats
+take_back-requires-clause-seats g c =
+    let h = c.in-Ok.ensures in
+    let len : length c.give.new.tasks.items ≡ length c.in-Ok.room.seats.items = sym (seats_length c.give.new.tasks.items) ∙ ap length c.give.ensures.seats in
+    let same = pairs_length (HasWorked g.C.Chooser g.S.Sink) c.give.new.tasks.items c.run-done.result.0.items c.run-done.ensures.works in
+    let count = h.count in
+    (h.seats_back.0, (let r = h.seats_back.1 in omega arith))
+
+pub take_back-requires-clause-jobs : goal.take_back-requires-clause-jobs
+take_back-requires-clause-jobs g c =
+    let h = c.in-Ok.ensures in
+    let len : length c.give.new.tasks.items ≡ length c.in-Ok.room.seats.items = sym (seats_length c.give.new.tasks.items) ∙ ap length c.give.ensures.seats in
+    let same = pairs_length (HasWorked g.C.Chooser g.S.Sink) c.give.new.tasks.items c.run-done.result.0.items c.run-done.ensures.works in
+    let count = h.count in
+    (h.jobs_back.0, (let r = h.jobs_back.1 in omega arith))
+
+pub take_back-requires-clause-reports : goal.take_back-requires-clause-reports
+take_back-requires-clause-reports g c =
+    let h = c.in-Ok.ensures in
+    let len : length c.give.new.tasks.items ≡ length c.in-Ok.room.seats.items = sym (seats_length c.give.new.tasks.items) ∙ ap length c.give.ensures.seats in
+    let same = pairs_length (HasWorked g.C.Chooser g.S.Sink) c.give.new.tasks.items c.run-done.result.0.items c.run-done.ensures.works in
+    let count = h.count in
+    (h.reports.0, (let r = h.reports.1 in omega arith))
+
+pub take_back-requires-clause-numbers : goal.take_back-requires-clause-numbers
+take_back-requires-clause-numbers g c =
+    let h = c.in-Ok.ensures in
+    let T = c.give.new.tasks.items in
+    let Z = c.run-done.result.0.items in
+    let new = subst (λ l. AllNew c.in-Ok.room.flusher.group l) (sym c.give.ensures.seats) h.seats in
+    let same = pairs_length (HasWorked g.C.Chooser g.S.Sink) T Z c.run-done.ensures.works in
+    let jobs : length T ≡ length c.args.jobs.items = sym (jobs_length T) ∙ ap length c.give.ensures.jobs in
+    let r = c.requires.numbers in
+    let first = c.next_guest-first.ensures in
+    all_numbered c.next_guest-first.result 0 Z (λ k r at. (all_of g.C.Chooser g.S.Sink c.in-Ok.room.flusher.group T Z new c.run-done.ensures.works k r at).1 ∙ omega arith) (omega arith)
+
+pub end-requires-clause-count : goal.end-requires-clause-count
+end-requires-clause-count g c =
+    let h = c.in-Ok.ensures in
+    let len : length c.give.new.tasks.items ≡ length c.in-Ok.room.seats.items = sym (seats_length c.give.new.tasks.items) ∙ ap length c.give.ensures.seats in
+    let same = pairs_length (HasWorked g.C.Chooser g.S.Sink) c.give.new.tasks.items c.run-done.result.0.items c.run-done.ensures.works in
+    let count = h.count in
+    ap length c.take_back.ensures.seats ∙ worked_length c.run-done.result.0.items ∙ sym same ∙ len ∙ h.count ∙ sym h.guests_are ∙ ap (λ (gr : GroupId). gr.guests) (sym c.run-done.ensures.flushed.group)
+
+pub end-requires-clause-of_group : goal.end-requires-clause-of_group
+end-requires-clause-of_group g c =
+    let h = c.in-Ok.ensures in
+    let new = subst (λ l. AllNew c.in-Ok.room.flusher.group l) (sym c.give.ensures.seats) h.seats in
+    let all = all_of g.C.Chooser g.S.Sink c.in-Ok.room.flusher.group c.give.new.tasks.items c.run-done.result.0.items new c.run-done.ensures.works in
+    subst (λ gr. AllOf gr c.take_back.new.seats.items) (sym c.run-done.ensures.flushed.group) (subst (λ l. AllOf c.in-Ok.room.flusher.group l) (sym c.take_back.ensures.seats) all)
+
+pub returns-in-Some : goal.returns-in-Some
+returns-in-Some g c =
+    let h = c.in-Ok.ensures in
+    let T = c.give.new.tasks.items in
+    let Z = c.run-done.result.0.items in
+    let group = c.in-Ok.room.flusher.group in
+    let same = pairs_length (HasWorked g.C.Chooser g.S.Sink) T Z c.run-done.ensures.works in
+    let len : length T ≡ length c.in-Ok.room.seats.items = sym (seats_length T) ∙ ap length c.give.ensures.seats in
+    let joined : AreJoined g.C.Chooser g.S.Sink g.D.Disk group c.in-Ok.room.flusher c.run-done.result.1 c.args.log c.run-done.result.2 c.run-done.result.3 T Z = record {
+      new = h.flusher;
+      seats = subst (λ l. AllNew group l) (sym c.give.ensures.seats) h.seats;
+      works = c.run-done.ensures.works;
+      flusher = c.run-done.ensures.flushed;
+      count = worked_length Z ∙ sym same ∙ len ∙ h.count ∙ sym h.guests_are ∙ ap (λ (gr : GroupId). gr.guests) (sym c.run-done.ensures.flushed.group);
+      each = λ k r at. (_, _, _, c.end.ensures.each k r (ap (λ l. slice_get l k) c.take_back.ensures.seats ∙ at));
+    } in
+    let run = has_run g.C.Chooser g.S.Sink g.D.Disk group c.in-Ok.room.flusher c.run-done.result.1 c.args.log c.run-done.result.2 c.run-done.result.3 T Z c.args.jobs.items c.take_back.new.jobs.items joined c.give.ensures.jobs c.take_back.ensures.jobs in
+    (c.run-done.result.1.committed, run, tt)
+
+pub returns : goal.returns
+returns g c =
+    let h = c.in-Ok.ensures in
+    let T = c.give.new.tasks.items in
+    let Z = c.run-done.result.0.items in
+    let group = c.in-Ok.room.flusher.group in
+    let same = pairs_length (HasWorked g.C.Chooser g.S.Sink) T Z c.run-done.ensures.works in
+    let len : length T ≡ length c.in-Ok.room.seats.items = sym (seats_length T) ∙ ap length c.give.ensures.seats in
+    let joined : AreJoined g.C.Chooser g.S.Sink g.D.Disk group c.in-Ok.room.flusher c.run-done.result.1 c.args.log c.run-done.result.2 c.run-done.result.3 T Z = record {
+      new = h.flusher;
+      seats = subst (λ l. AllNew group l) (sym c.give.ensures.seats) h.seats;
+      works = c.run-done.ensures.works;
+      flusher = c.run-done.ensures.flushed;
+      count = worked_length Z ∙ sym same ∙ len ∙ h.count ∙ sym h.guests_are ∙ ap (λ (gr : GroupId). gr.guests) (sym c.run-done.ensures.flushed.group);
+      each = λ k r at. (_, _, _, c.end.ensures.each k r (ap (λ l. slice_get l k) c.take_back.ensures.seats ∙ at));
+    } in
+    let run = has_run g.C.Chooser g.S.Sink g.D.Disk group c.in-Ok.room.flusher c.run-done.result.1 c.args.log c.run-done.result.2 c.run-done.result.3 T Z c.args.jobs.items c.take_back.new.jobs.items joined c.give.ensures.jobs c.take_back.ensures.jobs in
+    let jobs : length T ≡ length c.args.jobs.items = sym (jobs_length T) ∙ ap length c.give.ensures.jobs in
+    let r = c.requires.numbers in
+    let met = flusher_met c.run-done.result.3 in
+    let none : met ++ faults_met Z ≡ [] = ap (λ l. met ++ faults_met l) (sym c.deref.ensures.value)
+    ∙ subst (λ (o : Option SessionFault). IsLowest (met ++ faults_met c.deref.result.now) o) c.in_default-lowest.is c.lowest_fault-lowest.ensures in (
+      c.run-done.result.1.committed,
+      run,
+      has_reported g.C.Chooser g.S.Sink g.D.Disk group c.in-Ok.room.flusher c.run-done.result.1 c.args.log c.run-done.result.2 c.run-done.result.3 T Z c.args.jobs.items c.take_back.new.jobs.items
+          c.next_guest-first.result c.take_back.new.reports.items joined c.give.ensures.jobs c.take_back.ensures.jobs c.next_guest-first.ensures c.take_back.ensures.reports none (omega arith),
+    )

@@ -1,0 +1,68 @@
+-- How a worker drives its guest's recorder.
+use Rattle.std.specs.Prelude.{◌≡◌, ◌⊎◌, ◌↔◌, ℕ, ◌≤◌, true, Option, List, ◌++◌, length, IsSome}
+use Rattle.rrv_model.specs.declared.record.Record.{Record}
+use Rattle.guest_calls.specs.Guest.{state_of}
+use Rattle.recorder.specs.declared.fault.RecorderFault.{RecorderFault}
+use Rattle.recorder.specs.declared.fault.RecorderFault.TheVariants as faults
+use Rattle.recorder.specs.Recorders.{GuestRecorder, HasPut, IsSettled, made}
+use Rattle.session.specs.declared.fault.SessionFault.{SessionFault}
+use Rattle.session.specs.declared.job.Job.{Job}
+use Rattle.session.specs.declared.task.Worked.{Worked}
+use Rattle.session.specs.declared.rounds.WorkFault.{WorkFault}
+use Rattle.session.specs.declared.rounds.WorkFault.TheVariants as work_faults
+use Rattle.session.specs.Works.{Choosers, IsRecordedFrom, Sinks, Takes}
+
+-- what the recorder made is a recording from this opening, and these bytes have left of it
+pub record IsDriven (opening : Record) (r : GuestRecorder) (out : List (ℕ × ℕ)) : Type 0 where
+  pub recorded : IsRecordedFrom opening r.seat.guest (made r) (state_of r.guest)
+  pub has_put : HasPut r out
+
+-- the seat stays the same guest's, and a recording from an opening stays one, of which these bytes more have left
+pub record GoesOn (old new : GuestRecorder) (put : List (ℕ × ℕ)) : Type 0 where
+  pub group : new.seat.group ≡ old.seat.group
+  pub guest : new.seat.guest ≡ old.seat.guest
+  pub driven : (opening : Record) (out : List (ℕ × ℕ)) → IsDriven opening old out → IsDriven opening new (out ++ put)
+
+-- and a sink that tells its bytes took them, and no others
+pub record Drives {S : Type 0} (sinks : Sinks S) (old new : GuestRecorder) (sink sink' : S) : Type 0 where
+  pub put : List (ℕ × ℕ)
+  pub takes : Takes sinks sink sink' put
+  pub goes : GoesOn old new put
+  pub tells : sinks.tells sink' ↔ sinks.tells sink
+
+-- there is no frame to make: the guest has ended, its chooser has no choice left, or it has as many records as it may have
+abbrev pub IsOver : {C : Type 0} → Choosers C → GuestRecorder → C → Type 0
+IsOver choosers r chooser =
+    IsSome (state_of r.guest).ended ⊎ (choosers.is_done chooser ⊎ (length (made r) ≡ 4294967295))
+
+-- a recorder that found a halt knows of it
+abbrev pub KnowsHalt : GuestRecorder → RecorderFault → Type 0
+KnowsHalt r fault = fault ≡ faults.Halted → r.seat.knows_halt ≡ true
+
+-- how a worker tells why its recorder didn't go on
+abbrev pub work_told : RecorderFault → WorkFault
+work_told faults.Halted = work_faults.Halted
+work_told (faults.SinkFailed taken) = work_faults.SinkFailed
+work_told faults.Full = work_faults.Memory
+work_told faults.Memory = work_faults.Memory
+work_told (faults.Refused fault) = work_faults.Memory
+work_told faults.TooManyRecords = work_faults.Memory
+work_told faults.BadOpening = work_faults.Memory
+
+-- ---- the end of a worker
+
+-- there is no frame to make, and all that was made is sent and durable, and its output has left
+pub record IsDone {C : Type 0} (choosers : Choosers C) (r : GuestRecorder) (chooser : C) : Type 0 where
+  pub over : IsOver choosers r chooser
+  pub settled : IsSettled r
+
+-- the recorder's seat leaves, with the job, how the guest ended, and what the worker met
+pub record LeavesWith {C O S : Type 0} (r : GuestRecorder) (job : Job C O S) (fault : Option SessionFault)
+    (worked : Worked C O S) : Type 0 where
+  pub is : worked ≡ record {
+    seat = record r.seat { has_left = true };
+    job = job;
+    end = (state_of r.guest).ended;
+    fault = fault;
+  }
+  pub seen : r.seat.seen ≤ length r.seat.sent

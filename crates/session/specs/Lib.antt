@@ -1,0 +1,10 @@
+pub mod Faults
+pub mod Gains
+pub mod Pairs
+pub mod Works
+pub mod Tasks
+pub mod Workers
+pub mod Drives
+pub mod Sessions
+pub mod Rooms
+pub mod Openings

@@ -1,0 +1,23 @@
+-- Which jobs start a guest.
+use Rattle.std.specs.Prelude.{◌≡◌, ◌⊎◌, ℕ, List, slice_get, vec_items, Some, None}
+use Rattle.rrv_model.specs.Elf.{refusal}
+use Rattle.rrv_model.specs.Opening.{IsName}
+use Rattle.session.specs.declared.fault.SessionFault.{SessionFault}
+use Rattle.session.specs.declared.fault.SessionFault.TheVariants as faults
+use Rattle.session.specs.declared.job.Job.{Job}
+
+-- its file is accepted, and its name is one
+pub record StartsGuest {C O S : Type 0} (job : Job C O S) : Type 0 where
+  pub accepted : refusal (vec_items job.elf) ≡ None
+  pub named : IsName (vec_items job.name)
+
+-- there was no memory for the job at this place, or it starts no guest
+abbrev pub RefusesJob : {C O S : Type 0} → ℕ → Job C O S → SessionFault → Type 0
+RefusesJob place job fault = (fault ≡ faults.Memory) ⊎ ((fault ≡ faults.BadOpening place) × (StartsGuest job → ⊥))
+
+-- so of one of the jobs
+pub record RefusesJobs {C O S : Type 0} (jobs : List (Job C O S)) (fault : SessionFault) : Type 0 where
+  pub place : ℕ
+  pub job : Job C O S
+  pub is_there : slice_get jobs place ≡ Some job
+  pub refuses : RefusesJob place job fault

@@ -1,0 +1,90 @@
+-- What a session gives.
+use Rattle.std.specs.Prelude.{◌≡◌, ◌⊎◌, ℕ, ◌+◌, ◌≤◌, List, [], ◌∷◌, length}
+use Rattle.rrv_model.specs.declared.record.Record.{Record}
+use Rattle.rrv_model.specs.Recording.{IsNumbered, IsRecording}
+use Rattle.rrv_model.specs.Recovered.{next_guest, of_guest, IsRecovered}
+use Rattle.trace_log.specs.Kept.{Keeps, LogValue}
+use Rattle.commit_core.specs.Runs.{IsOutput}
+use Rattle.recorder.specs.Gained.{Device}
+use Rattle.recorder.specs.Recorded.{IsFirst}
+use Rattle.session.specs.declared.job.Job.{Job}
+use Rattle.session.specs.declared.report.GuestReport.{GuestReport}
+use Rattle.session.specs.declared.task.Worked.{Worked}
+use Rattle.session.specs.Gains.{HasGained}
+use Rattle.session.specs.Works.{Choosers, Sinks, IsSameJob, IsToItsEnd, Takes, opening_for}
+
+-- there is no record, or they are a recording of this guest, its opening's first
+abbrev pub IsRecordingOrNone : Record → ℕ → List Record → Type 0
+IsRecordingOrNone opening guest records =
+    (records ≡ []) ⊎ (IsFirst opening records × IsRecording records × IsNumbered guest 0 records)
+
+-- What is committed under this number is nothing, or a recording of the job's opening. The job's sink took a beginning of
+-- what these records put out.
+pub record HasRecorded {C O S : Type 0} (sinks : Sinks S) (number : ℕ) (committed : List Record) (old new : Job C O S)
+    : Type 0 where
+  pub job : IsSameJob old new
+  pub records : IsRecordingOrNone (opening_for number old) number (of_guest number committed)
+  pub put : List (ℕ × ℕ)
+  pub takes : Takes sinks old.sink new.sink put
+  pub output : IsOutput put (of_guest number committed)
+
+-- What is committed under this number is a recording of the job's opening to the guest's end, as it is reported. The
+-- job's sink took all of its output.
+pub record IsReported {C O S : Type 0} (choosers : Choosers C) (sinks : Sinks S) (number : ℕ) (committed : List Record)
+    (old new : Job C O S) (report : GuestReport) : Type 0 where
+  pub number_is : report.number ≡ number
+  pub count : report.records ≡ length (of_guest number committed)
+  pub put : List (ℕ × ℕ)
+  pub takes : Takes sinks old.sink new.sink put
+  pub whole : IsToItsEnd choosers (opening_for number old) number (of_guest number committed) put report.end new
+
+-- so of each job, under the numbers from this one on
+abbrev pub AreRecorded : {C O S : Type 0} → Sinks S → List Record → ℕ → (jobs jobs' : List (Job C O S)) → Type 0
+AreRecorded sinks committed number [] [] = Unit {0}
+AreRecorded sinks committed number [] (new ∷ news) = ⊥
+AreRecorded sinks committed number (old ∷ olds) [] = ⊥
+AreRecorded sinks committed number (old ∷ olds) (new ∷ news) =
+    HasRecorded sinks number committed old new × AreRecorded sinks committed (number + 1) olds news
+
+abbrev pub AreReported : {C O S : Type 0} → Choosers C → Sinks S → List Record → ℕ → (jobs jobs' : List (Job C O S))
+    → List GuestReport → Type 0
+AreReported choosers sinks committed number [] [] [] = Unit {0}
+AreReported choosers sinks committed number (old ∷ olds) (new ∷ news) (report ∷ reports) =
+    IsReported choosers sinks number committed old new report
+    × AreReported choosers sinks committed (number + 1) olds news reports
+AreReported choosers sinks committed number _ _ _ = ⊥
+
+-- ---- the log
+
+-- The log keeps these bodies, from which these records are recovered, and its next guest is above all of theirs.
+pub record IsLeft {D : Type 0} (device : Device D) (log : LogValue D) (bodies : List (List ℕ)) (earlier : List Record)
+    : Type 0 where
+  pub is_honest : device.honest log.disk
+  pub keeps : Keeps device.state log bodies
+  pub recovered : IsRecovered bodies earlier
+  pub above : next_guest earlier ≤ log.next_guest
+
+-- These records were committed, whatever bodies the log kept before, and each job was recorded so far.
+pub record HasRun {C O S D : Type 0} (sinks : Sinks S) (device : Device D) (committed : List Record)
+    (log log' : LogValue D) (jobs jobs' : List (Job C O S)) : Type 0 where
+  pub gained : (bodies : List (List ℕ)) (earlier : List Record)
+      → IsLeft device log bodies earlier → HasGained device committed log log' bodies earlier
+  pub recorded : AreRecorded sinks committed log.next_guest jobs jobs'
+
+-- ---- reports
+
+abbrev pub report_of : {C O S : Type 0} → ℕ → Worked C O S → GuestReport
+report_of first worked = record {
+  number = first + worked.seat.guest;
+  records = length worked.seat.sent;
+  end = worked.end;
+}
+
+-- of each, where the guest at place 0 has this number
+abbrev pub reports_of : {C O S : Type 0} → ℕ → List (Worked C O S) → List GuestReport
+reports_of first [] = []
+reports_of first (worked ∷ rest) = report_of first worked ∷ reports_of first rest
+
+-- the guest has a number
+abbrev pub HasNumber : {C O S : Type 0} → ℕ → Worked C O S → Type 0
+HasNumber first worked = first + worked.seat.guest ≤ 4294967295

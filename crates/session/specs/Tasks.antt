@@ -1,0 +1,32 @@
+-- Lists of tasks, and of what came of them.
+use Rattle.std.specs.Prelude.{List, [], ◌∷◌, ◌++◌, Option, Some, None}
+use Rattle.commit_group.specs.Seats.{RecorderValue}
+use Rattle.session.specs.declared.fault.SessionFault.{SessionFault}
+use Rattle.session.specs.declared.job.Job.{Job}
+use Rattle.session.specs.declared.task.Task.{Task}
+use Rattle.session.specs.declared.task.Worked.{Worked}
+
+abbrev pub seats_of : {C O S : Type 0} → List (Task C O S) → List RecorderValue
+seats_of [] = []
+seats_of (task ∷ tasks) = task.seat ∷ seats_of tasks
+
+abbrev pub jobs_of : {C O S : Type 0} → List (Task C O S) → List (Job C O S)
+jobs_of [] = []
+jobs_of (task ∷ tasks) = task.job ∷ jobs_of tasks
+
+abbrev pub seats_worked : {C O S : Type 0} → List (Worked C O S) → List RecorderValue
+seats_worked [] = []
+seats_worked (worked ∷ rest) = worked.seat ∷ seats_worked rest
+
+abbrev pub jobs_worked : {C O S : Type 0} → List (Worked C O S) → List (Job C O S)
+jobs_worked [] = []
+jobs_worked (worked ∷ rest) = worked.job ∷ jobs_worked rest
+
+abbrev pub met_once : Option SessionFault → List SessionFault
+met_once None = []
+met_once (Some fault) = fault ∷ []
+
+-- the faults that the workers met, in order
+abbrev pub faults_met : {C O S : Type 0} → List (Worked C O S) → List SessionFault
+faults_met [] = []
+faults_met (worked ∷ rest) = met_once worked.fault ++ faults_met rest

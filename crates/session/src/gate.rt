@@ -1,0 +1,10 @@
+//! Who may step when.
+
+/// A gate of the workers. It is shared by their threads. A guest is told by its place among the jobs, from 0.
+pub trait Gate {
+    /// Whether the guest may step. Its worker asks before each step.
+    fn may_step(&self, guest: u32) -> bool;
+
+    /// The guest's worker has sent so many frames. It tells this after each frame that it sent.
+    fn submitted(&self, guest: u32, frames: u32);
+}

@@ -1,0 +1,19 @@
+//! What is told of a session that was recorded to its end.
+
+use rrv_model::machine::GuestEnd;
+
+/// What was recorded of a guest.
+#[derive(Clone, Copy, Debug, PartialEq, Eq)]
+pub struct GuestReport {
+    /// Its number in the store.
+    pub number: u32,
+    pub records: u32,
+    /// None where its chooser had no choice left, or it has as many records as it may have.
+    pub end: Option<GuestEnd>,
+}
+
+/// What was recorded of each guest, in the order of the jobs.
+#[derive(Debug, Drop)]
+pub struct SessionReport {
+    pub guests: Vec<GuestReport>,
+}

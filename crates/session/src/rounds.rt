@@ -1,0 +1,241 @@
+//! The rounds of a worker: it sends and releases what it can, and makes a frame where the gate lets it.
+
+ghost use Rattle.std.specs.Prelude.{◌≡◌, ◌≢◌, ◌<◌, [], true, Err, IfErr, IfOk, None, OnOk};
+ghost use Rattle.recorder.specs.Recorders.{IsSettled};
+ghost use Rattle.session.specs.Drives.{Drives, GoesOn, IsOver, KnowsHalt, work_told};
+ghost use Rattle.session.specs.declared.rounds.WorkFault.TheVariants as work_faults;
+
+use crate::gate::Gate;
+use guest_calls::{Guest, Outside};
+use recorder::{Recorder, RecorderFault};
+use rrv_model::limits::MIN_QUANTUM;
+use rrv_model::record::Choice;
+use rrv_model::refusal::Memory;
+use rrv_model::sink::Sink;
+use serial_sched::Chooser;
+use std::alloc::Global;
+use std::sync::Wait;
+use std::thread;
+
+/// How often in a row the gate may refuse a step.
+const PATIENCE: u32 = 10_000_000;
+
+/// Why a worker makes no more frames.
+#[derive(Clone, Copy, Debug, PartialEq, Eq)]
+pub(crate) enum WorkFault {
+    /// The flusher has halted.
+    Halted,
+    /// The sink refused output.
+    SinkFailed,
+    /// The gate refused too often.
+    Held,
+    /// A growth was refused.
+    Memory,
+}
+
+impl From<RecorderFault> for WorkFault {
+    ghost from_gives = { λ fault e. e ≡ work_told fault };
+
+    fn from(fault: RecorderFault) -> Self {
+        match fault {
+            RecorderFault::Halted => WorkFault::Halted,
+            RecorderFault::SinkFailed { .. } => WorkFault::SinkFailed,
+            // A step with a place for its frame, by a choice that fits, is refused for want of memory alone.
+            RecorderFault::Memory
+            | RecorderFault::Full
+            | RecorderFault::Refused(_)
+            | RecorderFault::TooManyRecords
+            | RecorderFault::BadOpening => WorkFault::Memory,
+        }
+    }
+}
+
+impl From<Memory> for WorkFault {
+    ghost from_gives = { λ _ e. e ≡ work_faults.Memory };
+
+    fn from(_: Memory) -> Self {
+        WorkFault::Memory
+    }
+}
+
+/// What a turn came to.
+#[derive(Clone, Copy, Debug, PartialEq, Eq)]
+enum Turn {
+    /// A frame was made.
+    Stepped,
+    /// The gate lets no step.
+    Held,
+    /// A record waits to be sent.
+    Waits,
+    /// There is no frame to make.
+    Over,
+}
+
+/// What runs next: None where the chooser has no choice left. Where no thread runs, a slice ignores the choice.
+fn choose<C: Chooser>(
+    alloc: Global,
+    guest: &Guest,
+    chooser: &mut C,
+) -> Result<Option<Choice>, Memory>
+    ensures { IfOk result (λ choice. choice ≡ None → C.is_done chooser.new) }
+{
+    let runnable = guest.running(alloc)?;
+    if runnable.is_empty() {
+        return Ok(Some(Choice {
+            tid: 0,
+            quantum: MIN_QUANTUM,
+        }));
+    }
+    Ok(chooser.next(&runnable))
+}
+
+/// Tests whether there is no frame to make.
+fn is_over<C: Chooser>(recorder: &Recorder, chooser: &C) -> bool
+    ensures { result ≡ true → IsOver C.Chooser recorder.now chooser.now }
+{
+    recorder.guest().ended().is_some() || chooser.done() || recorder.made() == u32::MAX
+}
+
+/// Makes a frame, where none waits and the gate lets it.
+fn take_turn<C: Chooser, O: Outside, G: Gate>(
+    alloc: Global,
+    recorder: &mut Recorder,
+    chooser: &mut C,
+    outside: &mut O,
+    gate: &G,
+    guest: u32,
+) -> Result<Turn, WorkFault>
+    ensures goes { GoesOn recorder.old recorder.new [] }
+    ensures over { IfOk result (λ turn. turn ≡ Turn.Over → IsOver C.Chooser recorder.new chooser.new) }
+    ensures no_halt { IfErr result (λ e. e ≢ WorkFault.Halted) }
+{
+    if recorder.sent() != recorder.made() {
+        return Ok(Turn::Waits);
+    }
+    if is_over(recorder, chooser) {
+        return Ok(Turn::Over);
+    }
+    if !gate.may_step(guest) {
+        return Ok(Turn::Held);
+    }
+    let Some(choice) = choose(alloc, recorder.guest(), chooser)? else {
+        return Ok(Turn::Over);
+    };
+    recorder.step(alloc, choice, outside)?;
+    Ok(Turn::Stepped)
+}
+
+/// Sends what waits, as long as the queue has room, and tells the gate of a frame that it sent.
+fn send<G: Gate, R: Wait>(
+    rt: &R,
+    recorder: &mut Recorder,
+    gate: &G,
+    guest: u32,
+) -> Result<(), RecorderFault>
+    ensures goes { GoesOn recorder.old recorder.new [] }
+    ensures halted { IfErr result (λ _. recorder.new.seat.knows_halt ≡ true) }
+{
+    let before = recorder.sent();
+    let result = recorder.send(rt);
+    let sent = recorder.sent();
+    if before < sent && 1 < sent {
+        gate.submitted(guest, sent - 1);
+    }
+    result
+}
+
+/// Sends what it can, and puts out what may leave.
+fn send_and_release<S: Sink, G: Gate, R: Wait>(
+    rt: &R,
+    recorder: &mut Recorder,
+    sink: &mut S,
+    gate: &G,
+    guest: u32,
+) -> Result<(), RecorderFault>
+    ensures drives { Drives S.Sink recorder.old recorder.new sink.old sink.new }
+    ensures halted { IfErr result (KnowsHalt recorder.new) }
+{
+    send(rt, recorder, gate, guest)?;
+    recorder.release(rt, sink)
+}
+
+/// Lets others run where no frame was made. It answers how often in a row the gate has refused.
+fn rest(turn: Turn, held: u32) -> Result<u32, WorkFault>
+    requires { held < 10_000_000 }
+    ensures held { IfOk result (λ held. held < 10_000_000) }
+    ensures refused { IfErr result (λ e. e ≡ WorkFault.Held) }
+{
+    match turn {
+        Turn::Stepped | Turn::Over => Ok(0),
+        Turn::Waits => {
+            thread::yield_now();
+            Ok(held)
+        }
+        Turn::Held if held + 1 == PATIENCE => Err(WorkFault::Held),
+        Turn::Held => {
+            thread::yield_now();
+            Ok(held + 1)
+        }
+    }
+}
+
+/// Goes round until there is no frame to make.
+fn make_frames<C: Chooser, O: Outside, S: Sink, G: Gate, R: Wait>(
+    rt: &R,
+    alloc: Global,
+    recorder: &mut Recorder,
+    chooser: &mut C,
+    outside: &mut O,
+    sink: &mut S,
+    gate: &G,
+    guest: u32,
+) -> Result<(), WorkFault>
+    ensures drives { Drives S.Sink recorder.old recorder.new sink.old sink.new }
+    ensures over { OnOk result (IsOver C.Chooser recorder.new chooser.new) }
+    ensures halted { result ≡ Err WorkFault.Halted → recorder.new.seat.knows_halt ≡ true }
+{
+    let mut held = 0;
+    for _ in rt.forever() {
+        send_and_release(rt, recorder, sink, gate, guest)?;
+        let turn = take_turn(alloc, recorder, chooser, outside, gate, guest)?;
+        if turn == Turn::Over {
+            return Ok(());
+        }
+        held = rest(turn, held)?;
+    }
+    unreachable!()
+}
+
+/// Makes frames until there is none to make, and sends and releases until all is durable and has left.
+pub(crate) fn drive<C: Chooser, O: Outside, S: Sink, G: Gate, R: Wait>(
+    rt: &R,
+    alloc: Global,
+    recorder: &mut Recorder,
+    chooser: &mut C,
+    outside: &mut O,
+    sink: &mut S,
+    gate: &G,
+    guest: u32,
+) -> Result<(), WorkFault>
+    ensures drives { Drives S.Sink recorder.old recorder.new sink.old sink.new }
+    ensures over { OnOk result (IsOver C.Chooser recorder.new chooser.new) }
+    ensures settled { OnOk result (IsSettled recorder.new) }
+    ensures halted { result ≡ Err WorkFault.Halted → recorder.new.seat.knows_halt ≡ true }
+{
+    make_frames(rt, alloc, recorder, chooser, outside, sink, gate, guest)?;
+    recorder.settle(rt, sink)?;
+    Ok(())
+}
+
+/// Sends what waits, while that may be.
+pub(crate) fn send_rest<G: Gate, R: Wait>(rt: &R, recorder: &mut Recorder, gate: &G, guest: u32)
+    ensures { GoesOn recorder.old recorder.new [] }
+{
+    for _ in rt.forever() {
+        if send(rt, recorder, gate, guest).is_err() || recorder.sent() == recorder.made() {
+            return;
+        }
+        thread::yield_now();
+    }
+    unreachable!()
+}

@@ -1,0 +1,122 @@
+//! A session, from its jobs to its report.
+
+ghost use Rattle.std.specs.Prelude.{◌≡◌, ◌⊎◌, ◌↔◌, ◌<◌, ◌≤◌, ◌+◌, List, false, length, IfOk, OnOk, Err};
+ghost use Rattle.rrv_model.specs.declared.record.Record.{Record};
+ghost use Rattle.std.specs.List.{AllByRecursion};
+ghost use Rattle.session.specs.Openings.{StartsGuest};
+ghost use Rattle.session.specs.Sessions.{AreReported, HasRun};
+
+use crate::fault::SessionFault;
+use crate::gate::Gate;
+use crate::hand_over::{give, take_back};
+use crate::job::Job;
+use crate::lowest::lowest_fault;
+use crate::opening::check_jobs;
+use crate::report::SessionReport;
+use crate::room::{Room, make_room};
+use crate::run::run;
+use commit_group::end;
+use guest_calls::Outside;
+use rrv_model::sink::Sink;
+use serial_sched::Chooser;
+use std::alloc::Global;
+use std::sync::Wait;
+use std::thread::Threads;
+use trace_disk::Disk;
+use trace_log::Log;
+
+/// Records some guests, at most 16.
+fn record_some<
+    D: Disk + Drop,
+    C: Chooser + Drop + Send,
+    O: Outside + Drop + Send,
+    S: Sink + Drop + Send,
+    G: Gate + Sync,
+    R: Threads + Wait + Sync,
+>(
+    rt: &R,
+    alloc: Global,
+    log: Log<D>,
+    jobs: Vec<Job<C, O, S>>,
+    gate: &G,
+) -> (
+    Log<D>,
+    Vec<Job<C, O, S>>,
+    Result<SessionReport, SessionFault>,
+)
+    requires starts { AllByRecursion StartsGuest jobs.items }
+    requires some { (0 < length jobs.items) × (length jobs.items ≤ 16) }
+    requires whole { log.is_broken ≡ false }
+    requires numbers { log.next_guest + length jobs.items ≤ 4294967295 }
+    ensures { (committed : List Record) × HasRun S.Sink D.Disk committed log result.0 jobs.items result.1.items
+        × IfOk result.2 (λ r. AreReported C.Chooser S.Sink committed log.next_guest
+        jobs.items result.1.items r.guests.items) }
+{
+    let first = log.next_guest();
+    let Ok(room) = make_room(alloc, jobs.len()) else {
+        return (log, jobs, Err(SessionFault::Memory));
+    };
+    let Room {
+        seats,
+        flusher,
+        mut tasks,
+        workers,
+        done,
+        mut seats_back,
+        mut jobs_back,
+        mut reports,
+    } = room;
+    give(seats, jobs, &mut tasks);
+    let (done, flusher, log, flushed) = run(rt, alloc, tasks, flusher, log, gate, workers, done);
+    let lowest = lowest_fault(flushed, &done);
+    take_back(first, done, &mut seats_back, &mut jobs_back, &mut reports);
+    let _ = end(seats_back, flusher);
+    if let Some(fault) = lowest {
+        return (log, jobs_back, Err(fault));
+    }
+    (log, jobs_back, Ok(SessionReport { guests: reports }))
+}
+
+/// Records a guest for each job, each by a worker in a thread of its own, and commits what they send by a flusher in this one. The
+/// jobs come back in their order. The guests' numbers go on from the log's next one.
+pub fn record_all<
+    D: Disk + Drop,
+    C: Chooser + Drop + Send,
+    O: Outside + Drop + Send,
+    S: Sink + Drop + Send,
+    G: Gate + Sync,
+    R: Threads + Wait + Sync,
+>(
+    rt: &R,
+    alloc: Global,
+    log: Log<D>,
+    jobs: Vec<Job<C, O, S>>,
+    gate: &G,
+) -> (
+    Log<D>,
+    Vec<Job<C, O, S>>,
+    Result<SessionReport, SessionFault>,
+)
+    requires whole { log.is_broken ≡ false }
+    ensures recorded { (committed : List Record) × HasRun S.Sink D.Disk committed log result.0 jobs.items result.1.items
+        × IfOk result.2 (λ r. AreReported C.Chooser S.Sink committed log.next_guest
+        jobs.items result.1.items r.guests.items) }
+    ensures many { (16 < length jobs.items) ⊎ (4294967295 < log.next_guest + length jobs.items)
+        → (result.0 ≡ log) × (result.1 ≡ jobs) × (result.2 ≡ Err SessionFault.TooManyGuests) }
+    ensures starts { OnOk result.2 (AllByRecursion StartsGuest jobs.items) }
+{
+    let count = jobs.len();
+    if count > 16 || log.next_guest() > u32::MAX - count as u32 {
+        return (log, jobs, Err(SessionFault::TooManyGuests));
+    }
+    if let Err(fault) = check_jobs(alloc, &jobs) {
+        return (log, jobs, Err(fault));
+    }
+    if count == 0 {
+        let report = SessionReport {
+            guests: Vec::new(alloc),
+        };
+        return (log, jobs, Ok(report));
+    }
+    record_some(rt, alloc, log, jobs, gate)
+}

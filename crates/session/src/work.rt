@@ -1,0 +1,150 @@
+//! What a worker does.
+
+ghost use Rattle.std.specs.Prelude.{◌≡◌, ◌⊎◌, [], true, IfErr, IfOk, None};
+ghost use Rattle.session.specs.Drives.{Drives, GoesOn, IsDone, IsDriven, LeavesWith};
+ghost use Rattle.session.specs.Works.{AreMet, HasWorked, IsFresh, IsSameJob, opening_for};
+
+use crate::copying::copy_opening;
+use crate::fault::SessionFault;
+use crate::gate::Gate;
+use crate::job::Job;
+use crate::rounds::{WorkFault, drive, send_rest};
+use crate::task::{Task, Worked};
+use commit_group::RecorderSeat;
+use guest_calls::Outside;
+use recorder::Recorder;
+use rrv_model::sink::Sink;
+use serial_sched::Chooser;
+use std::alloc::Global;
+use std::sync::Wait;
+
+/// A recorder of the job's guest; for want of memory the seat comes back.
+fn open<C: Chooser + Drop, O: Outside + Drop, S: Sink + Drop>(
+    alloc: Global,
+    seat: RecorderSeat,
+    job: &Job<C, O, S>,
+) -> Result<Recorder, RecorderSeat>
+    requires { IsFresh (record { seat = seat; job = job.now }) }
+    ensures seat { IfOk result (λ r. r.seat ≡ seat) }
+    ensures driven { IfOk result (λ r. IsDriven (opening_for seat.guest job.now) r []) }
+    ensures back { IfErr result (λ e. e ≡ seat) }
+{
+    let Ok(opening) = copy_opening(alloc, &job.elf, &job.name, &job.random) else {
+        return Err(seat);
+    };
+    match Recorder::new(alloc, seat, opening) {
+        Ok(recorder) => Ok(recorder),
+        Err((seat, _)) => Err(seat),
+    }
+}
+
+/// How a worker's fault is told. That the group has halted is none of its own.
+fn told(fault: WorkFault, guest: u32) -> Option<SessionFault>
+    ensures met { AreMet guest result }
+    ensures none { result ≡ None → fault ≡ WorkFault.Halted }
+{
+    match fault {
+        WorkFault::Halted => None,
+        WorkFault::SinkFailed => Some(SessionFault::SinkFailed { guest }),
+        WorkFault::Held => Some(SessionFault::Held { guest }),
+        WorkFault::Memory => Some(SessionFault::Memory),
+    }
+}
+
+/// Ends a recording that met this: it makes no more frames, and sends what waits while it can.
+fn end_early<G: Gate, R: Wait>(
+    rt: &R,
+    recorder: &mut Recorder,
+    gate: &G,
+    guest: u32,
+    fault: WorkFault,
+) -> Option<SessionFault>
+    ensures goes { GoesOn recorder.old recorder.new [] }
+    ensures met { AreMet guest result }
+    ensures none { result ≡ None → (fault ≡ WorkFault.Halted) × (recorder.new ≡ recorder.old) }
+{
+    match told(fault, guest) {
+        Some(fault) => {
+            send_rest(rt, recorder, gate, guest);
+            Some(fault)
+        }
+        None => None,
+    }
+}
+
+/// Records the guest to its end, and answers the fault that it met. None comes also where the group has halted.
+fn record<C: Chooser + Drop, O: Outside + Drop, S: Sink + Drop, G: Gate, R: Wait>(
+    rt: &R,
+    alloc: Global,
+    recorder: &mut Recorder,
+    job: &mut Job<C, O, S>,
+    gate: &G,
+    guest: u32,
+) -> Option<SessionFault>
+    ensures drives { Drives S.Sink recorder.old recorder.new job.old.sink job.new.sink }
+    ensures job { IsSameJob job.old job.new }
+    ensures met { AreMet guest result }
+    ensures done { result ≡ None → (recorder.new.seat.knows_halt ≡ true)
+        ⊎ IsDone C.Chooser recorder.new job.new.chooser }
+{
+    let driven = drive(
+        rt,
+        alloc,
+        recorder,
+        &mut job.chooser,
+        &mut job.outside,
+        &mut job.sink,
+        gate,
+        guest,
+    );
+    match driven {
+        Ok(()) => None,
+        Err(fault) => end_early(rt, recorder, gate, guest, fault),
+    }
+}
+
+/// The seat, which has left, and what else a worker gives back.
+fn leave<C: Chooser + Drop, O: Outside + Drop, S: Sink + Drop>(
+    recorder: Recorder,
+    job: Job<C, O, S>,
+    fault: Option<SessionFault>,
+) -> Worked<C, O, S>
+    ensures left { LeavesWith recorder job fault result }
+{
+    let end = recorder.guest().ended();
+    Worked {
+        seat: recorder.leave(),
+        job,
+        end,
+        fault,
+    }
+}
+
+/// Records the job's guest to its end, and leaves.
+pub(crate) fn work<C: Chooser + Drop, O: Outside + Drop, S: Sink + Drop, G: Gate, R: Wait>(
+    rt: &R,
+    alloc: Global,
+    task: Task<C, O, S>,
+    gate: &G,
+) -> Worked<C, O, S>
+    requires { IsFresh task }
+    ensures { HasWorked C.Chooser S.Sink task result }
+{
+    let Task { seat, mut job } = task;
+    let guest = seat.guest();
+    match open(alloc, seat, &job) {
+        Ok(mut recorder) => {
+            let fault = record(rt, alloc, &mut recorder, &mut job, gate, guest);
+            leave(recorder, job, fault)
+        }
+        Err(mut seat) => {
+            seat.leave();
+            Worked {
+                seat,
+                job,
+                end: None,
+                fault: Some(SessionFault::Memory),
+            }
+        }
+    }
+}
