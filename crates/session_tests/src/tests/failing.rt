@@ -21,7 +21,7 @@ where
         return Ok(true);
     };
     let (log, jobs, result) = record_all(rt, alloc, log, jobs(alloc, 2, 20)?, &Open);
-    let (_, lists) = open(alloc, log.close()).ok().ok_or("not opened")?;
+    let (_, lists) = open(alloc, log.close().into_inner()).ok().ok_or("not opened")?;
     let mut guest = 0u32;
     for job in &jobs {
         // Of so many records the first is the opening.
