@@ -20,7 +20,7 @@ use Rattle.session.specs.declared.job.Job.{Job}
 use Rattle.session.specs.declared.task.Task.{Task}
 use Rattle.session.specs.declared.task.Worked.{Worked}
 use Rattle.session.specs.Pairs.{ArePairs}
-use Rattle.session.proofs.Outputs.{output_further}
+use Rattle.commit_core.proofs.Runs.{output_further}
 use Rattle.session.specs.Sessions.{AreRecorded, AreReported, HasNumber, HasRecorded, IsRecordingOrNone, IsReported, report_of, reports_of}
 use Rattle.session.specs.Tasks.{faults_met, jobs_of, jobs_worked, met_once, seats_worked}
 use Rattle.session.specs.Works.{Choosers, Sinks, HasFinished, HasWorked, IsBegun, IsSameJob, IsToItsEnd, opening_for}
