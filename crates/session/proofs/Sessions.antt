@@ -10,11 +10,10 @@ use Rattle.trace_log.specs.Kept.{LogValue}
 use Rattle.commit_group.specs.declared.fault.FlushFault.{FlushFault}
 use Rattle.commit_group.specs.Seats.{FlusherValue, GroupId, RecorderValue, new_flusher_seat}
 use Rattle.commit_group.specs.Turns.{AllCommitted}
-use Rattle.recorder.specs.Gained.{Device}
 use Rattle.session.specs.declared.fault.SessionFault.{SessionFault}
 use Rattle.session.specs.declared.job.Job.{Job}
 use Rattle.session.specs.Faults.{flusher_met}
-use Rattle.session.specs.Gains.{HasFlushed, HasGained, HoldsFirst, StandsIn}
+use Rattle.session.specs.Gains.{Device, HasFlushed, HasGained, HoldsFirst, StandsIn}
 use Rattle.session.specs.Sessions.{AreRecorded, HasRun, IsLeft}
 use Rattle.session.specs.Works.{Sinks}
 use Rattle.std.specs.Prelude.{MatchOption}

@@ -8,14 +8,13 @@ use Rattle.rrv_model.specs.Recovered.{next_guest, of_guest, IsRecovered}
 use Rattle.trace_log.specs.Kept.{Keeps, LogValue}
 use Rattle.commit_core.specs.Runs.{IsOutput}
 use Rattle.commit_group.specs.Numbers.{IsPlaced}
-use Rattle.recorder.specs.Gained.{Device}
 use Rattle.recorder.specs.Recorded.{IsFirst}
 use Rattle.session.specs.declared.fault.SessionFault.{SessionFault}
 use Rattle.session.specs.declared.fault.SessionFault.TheVariants as faults
 use Rattle.session.specs.declared.job.Job.{Job}
 use Rattle.session.specs.declared.report.GuestReport.{GuestReport}
 use Rattle.session.specs.declared.task.Worked.{Worked}
-use Rattle.session.specs.Gains.{HasGained, IsFull}
+use Rattle.session.specs.Gains.{Device, HasGained, IsFull}
 use Rattle.session.specs.Openings.{IsFirstBad}
 use Rattle.session.specs.Works.{Choosers, Sinks, IsSameJob, IsToItsEnd, Takes, opening_for}
 
