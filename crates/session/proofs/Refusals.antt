@@ -1,8 +1,8 @@
 -- What the fault of a session tells.
-use Rattle.std.proofs.Common.{◌≡◌, ◌≢◌, inl, inr, ◌⊎◌, ℕ, zero, suc, ◌+◌, ◌<◌, ◌≤◌, List, [], ◌∷◌, ◌++◌, length, refl, sym, ap, ◌∙◌, subst, arith, Bool, true, false}
+use Rattle.std.proofs.Common.{◌≡◌, ◌≢◌, inl, inr, ℕ, zero, suc, ◌<◌, List, [], ◌∷◌, ◌++◌, length, refl, sym, ◌∙◌, subst, arith, false}
 use Rattle.std.proofs.lemmas.List.Elements.{Contains-append_cases}
 use Rattle.std.specs.Prelude.{Option, Some, None, Result, Ok, Err, OnOk, IfErr, Vec, vec_items, slice_get}
-use Rattle.std.specs.List.{AllByRecursion, Contains}
+use Rattle.std.specs.List.{Contains}
 use Rattle.std.specs.declared.alloc.Global.{Global}
 use Rattle.trace_log.specs.Kept.{LogValue}
 use Rattle.commit_group.specs.declared.fault.FlushFault.{FlushFault}
@@ -15,12 +15,12 @@ use Rattle.session.specs.declared.task.Task.{Task}
 use Rattle.session.specs.declared.task.Worked.{Worked}
 use Rattle.session.specs.Faults.{IsLowest, IsNoLater, flush_told, flusher_met}
 use Rattle.session.specs.Gains.{IsLeftBy}
-use Rattle.session.specs.Openings.{IsFirstBad, RefusesJob, RefusesJobs, StartsGuest}
+use Rattle.session.specs.Openings.{RefusesJobs}
 use Rattle.session.specs.Pairs.{ArePairs}
-use Rattle.session.specs.Sessions.{AreTooMany, AreUntouched, RefusesSession}
+use Rattle.session.specs.Sessions.{RefusesSession}
 use Rattle.session.specs.Tasks.{faults_met, met_once, seats_of, seats_worked}
 use Rattle.session.specs.Works.{AreMet, Choosers, HasWorked, IsMet, Sinks}
-use Rattle.commit_group.specs.Seats.{AllNew, AllOf, RecorderValue}
+use Rattle.commit_group.specs.Seats.{AllNew, RecorderValue}
 use Rattle.session.proofs.Pairs.{pairs_length}
 use Rattle.session.proofs.Tasks.{all_of}
 
@@ -36,12 +36,12 @@ only_one a fault (suc k, low, is) = absurd (omega (arith, low))
 -- no fault comes before a failed call of the disk
 first_of_all : (fault : SessionFault) → IsNoLater fault faults.DeviceFailed → fault ≡ faults.DeviceFailed
 first_of_all faults.DeviceFailed h = refl
-first_of_all (faults.SinkFailed g) h = elim h [ | inl l ↦ absurd (omega (arith, l)) | inr e ↦ absurd (omega (arith, e.0)) ]
-first_of_all (faults.Held g) h = elim h [ | inl l ↦ absurd (omega (arith, l)) | inr e ↦ absurd (omega (arith, e.0)) ]
-first_of_all faults.Memory h = elim h [ | inl l ↦ absurd (omega (arith, l)) | inr e ↦ absurd (omega (arith, e.0)) ]
-first_of_all faults.TooManyGuests h = elim h [ | inl l ↦ absurd (omega (arith, l)) | inr e ↦ absurd (omega (arith, e.0)) ]
-first_of_all faults.StoreFull h = elim h [ | inl l ↦ absurd (omega (arith, l)) | inr e ↦ absurd (omega (arith, e.0)) ]
-first_of_all (faults.BadOpening g) h = elim h [ | inl l ↦ absurd (omega (arith, l)) | inr e ↦ absurd (omega (arith, e.0)) ]
+first_of_all (faults.SinkFailed g) h = elim h [ inl l ↦ absurd (omega (arith, l)) | inr e ↦ absurd (omega (arith, e.0)) ]
+first_of_all (faults.Held g) h = elim h [ inl l ↦ absurd (omega (arith, l)) | inr e ↦ absurd (omega (arith, e.0)) ]
+first_of_all faults.Memory h = elim h [ inl l ↦ absurd (omega (arith, l)) | inr e ↦ absurd (omega (arith, e.0)) ]
+first_of_all faults.TooManyGuests h = elim h [ inl l ↦ absurd (omega (arith, l)) | inr e ↦ absurd (omega (arith, e.0)) ]
+first_of_all faults.StoreFull h = elim h [ inl l ↦ absurd (omega (arith, l)) | inr e ↦ absurd (omega (arith, e.0)) ]
+first_of_all (faults.BadOpening g) h = elim h [ inl l ↦ absurd (omega (arith, l)) | inr e ↦ absurd (omega (arith, e.0)) ]
 
 module _ {C O S D : Type 0} (log log' : LogValue D) (jobs jobs' : Vec (Job C O S) Global) where
   -- ---- the flusher's
@@ -111,12 +111,12 @@ module _ {C O S : Type 0} (choosers : Choosers C) (sinks : Sinks S) where
       elim (Contains-append_cases (flusher_met flushed) (faults_met done) fault lowest.0) [
         | inl flusher ↦ flusher_tells_one log log' jobs jobs' flushed fault left flusher
         | inr worker ↦
-          let h = of_one tasks done fault pairs worker in
-          let place = (all_of choosers sinks group tasks done new pairs h.0 h.1 h.2).1 in
-          let same = pairs_length (HasWorked choosers sinks) tasks done pairs in
-          let low = h.4 in
-          worker_tells log log' jobs jobs' h.1.guest fault (subst (λ (k : ℕ). k < length (vec_items jobs)) (sym place) (omega arith))
-          (λ other. whole_unless log log' jobs jobs' flushed (faults_met done) fault left whole lowest other) h.3
+            let h = of_one tasks done fault pairs worker in
+            let place = (all_of choosers sinks group tasks done new pairs h.0 h.1 h.2).1 in
+            let same = pairs_length (HasWorked choosers sinks) tasks done pairs in
+            let low = h.4 in
+            worker_tells log log' jobs jobs' h.1.guest fault (subst (λ (k : ℕ). k < length (vec_items jobs)) (sym place) (omega arith))
+            (λ other. whole_unless log log' jobs jobs' flushed (faults_met done) fault left whole lowest other) h.3
       ]
 
 -- ---- before a thread starts
