@@ -1,4 +1,3 @@
-pub mod RecoveredRecordings
 pub mod NoPart
 pub mod Tried
 pub mod Words

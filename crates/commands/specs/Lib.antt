@@ -1,3 +1,4 @@
 pub mod Told
+pub mod Silent
 pub mod Tried
 pub mod Request

@@ -4,10 +4,10 @@ use Rattle.elf_load.specs.declared.fault.ElfFault.{ElfFault}
 use Rattle.elf_load.specs.declared.fault.ElfFault.TheVariants as elf_faults
 use Rattle.recover.specs.declared.fault.OpenFault.{OpenFault}
 use Rattle.recover.specs.declared.fault.OpenFault.TheVariants as open_faults
-use Rattle.recorder.specs.declared.fault.RecordingFault.{RecordingFault}
-use Rattle.recorder.specs.declared.fault.RecordingFault.TheVariants as recording_faults
 use Rattle.replayer.specs.declared.fault.ReplayFault.{ReplayFault}
 use Rattle.replayer.specs.declared.fault.ReplayFault.TheVariants as replay_faults
+use Rattle.session.specs.declared.fault.SessionFault.{SessionFault}
+use Rattle.session.specs.declared.fault.SessionFault.TheVariants as session_faults
 use Rattle.commands.specs.declared.refusal.Refusal.{Refusal}
 use Rattle.commands.specs.declared.refusal.Refusal.TheVariants as refusals
 
@@ -18,10 +18,16 @@ open_told open_faults.DeviceFailed = refusals.DeviceFailed
 open_told open_faults.Memory = refusals.Memory
 open_told open_faults.NewerVersion = refusals.NewerVersion
 
-abbrev pub recording_told : RecordingFault → Refusal
-recording_told recording_faults.DeviceFailed = refusals.DeviceFailed
-recording_told recording_faults.StoreFull = refusals.StoreFull
-recording_told recording_faults.Memory = refusals.Memory
+abbrev pub session_told : SessionFault → Refusal
+session_told session_faults.DeviceFailed = refusals.DeviceFailed
+session_told session_faults.StoreFull = refusals.StoreFull
+session_told session_faults.Memory = refusals.Memory
+session_told fault = refusals.Session fault
+
+-- a sink refused output
+abbrev pub IsOfSink : Refusal → Type 0
+IsOfSink (refusals.Session (session_faults.SinkFailed guest)) = Unit {0}
+IsOfSink _ = ⊥
 
 abbrev pub replay_told : ReplayFault → Refusal
 replay_told replay_faults.DeviceFailed = refusals.DeviceFailed

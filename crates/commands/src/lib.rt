@@ -4,9 +4,11 @@
 mod exit_five;
 mod printing;
 mod program_file;
+mod recording;
 mod refusal;
 mod request;
 mod running;
+mod silence;
 mod trial;
 
 pub use program_file::read_program;

@@ -2,12 +2,12 @@
 
 ghost use Rattle.std.specs.Prelude.{◌≡◌, ◌≢◌};
 ghost use Rattle.std.specs.IoError.{error_kind};
-ghost use Rattle.commands.specs.Told.{elf_told, open_told, recording_told, replay_told};
+ghost use Rattle.commands.specs.Told.{IsOfSink, elf_told, open_told, replay_told, session_told};
 
 use elf_load::fault::ElfFault;
-use recorder::RecordingFault;
 use recover::OpenFault;
 use replayer::ReplayFault;
+use session::SessionFault;
 use std::io;
 use std::io::ErrorKind;
 use thiserror::Error;
@@ -45,6 +45,9 @@ pub enum Refusal {
     /// The first record is no opening of a guest.
     #[error("bad opening")]
     BadOpening,
+    /// The session met what only a session meets.
+    #[error("{fault}")]
+    Session { fault: SessionFault },
     /// The output could not be written.
     #[error("output failed")]
     OutputFailed,
@@ -53,14 +56,15 @@ pub enum Refusal {
     Memory,
 }
 
-impl From<RecordingFault> for Refusal {
-    ghost from_gives = { λ fault e. e ≡ recording_told fault };
+impl From<SessionFault> for Refusal {
+    ghost from_gives = { λ fault e. e ≡ session_told fault };
 
-    fn from(fault: RecordingFault) -> Self {
+    fn from(fault: SessionFault) -> Self {
         match fault {
-            RecordingFault::DeviceFailed => Refusal::DeviceFailed,
-            RecordingFault::StoreFull => Refusal::StoreFull,
-            RecordingFault::Memory => Refusal::Memory,
+            SessionFault::DeviceFailed => Refusal::DeviceFailed,
+            SessionFault::StoreFull => Refusal::StoreFull,
+            SessionFault::Memory => Refusal::Memory,
+            fault => Refusal::Session { fault },
         }
     }
 }
@@ -105,13 +109,17 @@ impl Refusal {
         Refusal::CannotReadFile
     }
 
-    /// The refusal of a trial, whose disk is in memory: such a disk fails for want of memory alone.
+    /// The refusal of a trial, whose disk and sink are in memory: such fail for want of memory alone.
     pub fn of_trial(self) -> Self
-        ensures memory { self ≡ Refusal.DeviceFailed → result ≡ Refusal.Memory }
-        ensures other { self ≢ Refusal.DeviceFailed → result ≡ self }
+        ensures disk { self ≡ Refusal.DeviceFailed → result ≡ Refusal.Memory }
+        ensures sink { IsOfSink self → result ≡ Refusal.Memory }
+        ensures other { self ≢ Refusal.DeviceFailed → (IsOfSink self → ⊥) → result ≡ self }
     {
         match self {
-            Refusal::DeviceFailed => Refusal::Memory,
+            Refusal::DeviceFailed
+            | Refusal::Session {
+                fault: SessionFault::SinkFailed { .. },
+            } => Refusal::Memory,
             other => other,
         }
     }

@@ -18,6 +18,8 @@ use std::convert::AsStr;
 use std::io;
 use std::io::{ErrorKind, Write};
 use std::rt::Files;
+use std::sync::Wait;
+use std::thread::Threads;
 
 /// The name of the guest of a trial.
 const NAME: &[u8] = b"g0";
@@ -28,7 +30,12 @@ const QUANTUM: u32 = 50_000;
 /// Does what a line of words asks for, which are those after the program's name, and returns the exit status: 0 done
 /// (also for a call of help), 1 refused, 2 a line that is none. What is asked for goes to `out`. A refusal's text,
 /// behind `rrv: `, and the text of a bad line go to `err`.
-pub fn run<R: Files + AllocGlobal, S: AsStr, O: Write, E: Write>(
+pub fn run<
+    R: Files + AllocGlobal + Threads + Wait + Sync,
+    S: AsStr,
+    O: Write,
+    E: Write,
+>(
     rt: &R,
     words: &[S],
     out: &mut O,
@@ -81,7 +88,7 @@ fn report_refusal<E: Write>(refusal: &Refusal, err: &mut E) -> u8
 }
 
 /// Does what is asked for, or tells why not, and answers the status.
-fn run_request<R: Files + AllocGlobal, O: Write, E: Write>(
+fn run_request<R: Files + AllocGlobal + Threads + Wait + Sync, O: Write, E: Write>(
     rt: &R,
     request: Request<'_>,
     out: &mut O,
@@ -96,7 +103,7 @@ fn run_request<R: Files + AllocGlobal, O: Write, E: Write>(
 }
 
 /// Does what each command does.
-fn perform<R: Files + AllocGlobal, O: Write, E: Write>(
+fn perform<R: Files + AllocGlobal + Threads + Wait + Sync, O: Write, E: Write>(
     rt: &R,
     request: Request<'_>,
     out: &mut O,
@@ -104,23 +111,25 @@ fn perform<R: Files + AllocGlobal, O: Write, E: Write>(
 ) -> Result<(), Refusal> {
     match request {
         Request::Demonstration => try_program(
+            rt,
             rt.alloc(),
             image_of(rt.alloc(), &EXIT_FIVE)?,
             out,
             err,
         ),
-        Request::Try { elf } => try_program(rt.alloc(), image_in(rt, elf)?, out, err),
+        Request::Try { elf } => try_program(rt, rt.alloc(), image_in(rt, elf)?, out, err),
     }
 }
 
 /// Records a program, replays what was recorded, and prints the output, the records and the end.
-fn try_program<O: Write, E: Write>(
+fn try_program<R: Threads + Wait + Sync, O: Write, E: Write>(
+    rt: &R,
     alloc: Global,
     image: Image,
     out: &mut O,
     err: &mut E,
 ) -> Result<(), Refusal> {
-    let trial = try_image(alloc, image, NAME, [0; 16], QUANTUM).map_err(
+    let trial = try_image(rt, alloc, image, NAME, [0; 16], QUANTUM).map_err(
         |refusal| refusal.of_trial(),
     )?;
     print_trial(alloc, &trial, out, err)

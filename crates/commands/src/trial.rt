@@ -1,36 +1,36 @@
 //! A trial of a program: it is recorded to a disk in memory, and what the disk holds is opened again and replayed.
 
-ghost use Rattle.std.specs.Prelude.{◌≡◌, IsSome, IfOk, IfErr};
+ghost use Rattle.std.specs.Prelude.{◌≡◌, IsSome, IfOk, IfErr, length};
 ghost use Rattle.rrv_model.specs.Opening.{IsName};
 ghost use Rattle.rrv_model.specs.Recording.{IsRecording, EndsIn, items_of};
 ghost use Rattle.guest_calls.specs.Guest.{state_of};
 ghost use Rattle.serial_sched.specs.Slices.{IsQuantum};
 ghost use Rattle.recorder.specs.Recorded.{IsFirst, opening_of};
-ghost use Rattle.recorder.specs.Turns.{TakesTurns};
 ghost use Rattle.replayer.specs.Replayed.{OutputOf, chunks_in};
-ghost use Rattle.commands.specs.Tried.{RefusesTrial};
+ghost use Rattle.commands.specs.Tried.{RefusesTrial, report_of};
 
+use crate::recording::record_image;
 use crate::refusal::Refusal;
 use elf_load::image::Image;
-use guest_calls::Guest;
-use recorder::{RecordingFault, record_guest};
 use recover::open;
 use replayer::{Replayed, read_guest, replay};
 use rrv_model::record::Record;
+use session::GuestReport;
 use std::alloc::Global;
-use trace_disk::MemDisk;
-use trace_log::Log;
+use std::sync::Wait;
+use std::thread::Threads;
 
-/// A guest as it was recorded, the records that its store was found to hold, and the guest as they replay it.
+/// What is reported of a recorded guest, the records that its store was found to hold, and the guest as they replay it.
 #[derive(Drop)]
 pub struct Trial {
-    pub recorded: Guest,
+    pub recorded: GuestReport,
     pub records: Vec<Record>,
     pub replayed: Replayed,
 }
 
 /// Records a program as guest 0 to a disk in memory, opens the disk again, and replays what it holds.
-pub fn try_image(
+pub fn try_image<R: Threads + Wait + Sync>(
+    rt: &R,
     alloc: Global,
     image: Image,
     name: &[u8],
@@ -44,17 +44,13 @@ pub fn try_image(
     ensures ends { IfOk result (λ trial. EndsIn (items_of trial.records.items) (state_of trial.replayed.guest)) }
     ensures output { IfOk result (λ trial.
         OutputOf (items_of trial.records.items) (chunks_in trial.replayed.output.items)) }
-    ensures turns { IfOk result (λ trial. TakesTurns quantum (items_of trial.records.items)) }
-    ensures ended { IfOk result (λ trial. IsSome (state_of trial.recorded).ended) }
-    ensures same { IfOk result (λ trial. state_of trial.replayed.guest ≡ state_of trial.recorded) }
-    ensures refused { IfErr result (λ e. RefusesTrial e quantum (opening_of 0 image name.now random)) }
+    ensures ended { IfOk result (λ trial. IsSome trial.recorded.end) }
+    ensures same { IfOk result (λ trial.
+        trial.recorded ≡ report_of trial.records.items (state_of trial.replayed.guest)) }
+    ensures refused { IfErr result (λ e. RefusesTrial e (opening_of 0 image name.now random)) }
 {
-    let mut log = match Log::create(MemDisk::new(alloc)) {
-        Ok(log) => log,
-        Err((_, fault)) => return Err(Refusal::from(RecordingFault::from(fault))),
-    };
-    let recorded = record_guest(alloc, &mut log, image, name, random, quantum)?;
-    let (log, lists) = match open(alloc, log.close()) {
+    let (disk, recorded) = record_image(rt, alloc, image, name, random, quantum)?;
+    let (log, lists) = match open(alloc, disk) {
         Ok(opened) => opened,
         Err((_, fault)) => return Err(Refusal::from(fault)),
     };

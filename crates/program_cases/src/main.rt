@@ -8,9 +8,14 @@ use std::fs;
 use std::io::{self, Read};
 use std::process::ExitCode;
 use std::rt::Files;
+use std::sync::Wait;
+use std::thread::Threads;
 
 /// What a line of the program prints; None where it is refused, tells errors, or finds no memory.
-fn printed<R: Files + AllocGlobal>(rt: &R, words: &str) -> Option<Vec<u8>> {
+fn printed<R: Files + AllocGlobal + Threads + Wait + Sync>(
+    rt: &R,
+    words: &str,
+) -> Option<Vec<u8>> {
     let words: Vec<&str> = words.split_whitespace().collect(rt.alloc()).ok()?;
     let mut out = Vec::new(rt.alloc());
     let mut err = Vec::new(rt.alloc());
@@ -33,7 +38,7 @@ fn joined<R: Files + AllocGlobal>(rt: &R, files: &str) -> Option<Vec<u8>> {
 }
 
 /// Whether a line of the program prints what it has to.
-fn holds<R: Files + AllocGlobal>(rt: &R, line: &str) -> bool {
+fn holds<R: Files + AllocGlobal + Threads + Wait + Sync>(rt: &R, line: &str) -> bool {
     let Some((words, files)) = line.split_once(" = ") else {
         return false;
     };

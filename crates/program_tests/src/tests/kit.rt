@@ -7,7 +7,9 @@ use std::fmt::{Debug, Display};
 use std::fs;
 use std::process::Abort;
 use std::rt::Files;
+use std::sync::Wait;
 use std::test::Fail;
+use std::thread::Threads;
 use test_guests::files::file_of;
 
 /// What a file holds.
@@ -80,7 +82,10 @@ fn bytes_of(alloc: Global, content: &Content<'_>) -> Result<Vec<u8>, Fail> {
 }
 
 /// Does a line, and ends the test where it answers or says something else.
-pub(crate) fn play<R: Abort + AllocGlobal + Files>(rt: &R, row: &Row<'_>) -> Result<(), Fail> {
+pub(crate) fn play<R>(rt: &R, row: &Row<'_>) -> Result<(), Fail>
+where
+    R: Abort + AllocGlobal + Files + Threads + Wait + Sync,
+{
     if let Some((name, content)) = &row.file {
         let bytes = bytes_of(rt.alloc(), content)?;
         fs::write(rt, *name, bytes.as_slice())?;
@@ -98,10 +103,10 @@ pub(crate) fn play<R: Abort + AllocGlobal + Files>(rt: &R, row: &Row<'_>) -> Res
 }
 
 /// The same for lines one after another.
-pub(crate) fn play_all<R: Abort + AllocGlobal + Files>(
-    rt: &R,
-    rows: &[Row<'_>],
-) -> Result<(), Fail> {
+pub(crate) fn play_all<R>(rt: &R, rows: &[Row<'_>]) -> Result<(), Fail>
+where
+    R: Abort + AllocGlobal + Files + Threads + Wait + Sync,
+{
     for row in rows {
         play(rt, row)?;
     }

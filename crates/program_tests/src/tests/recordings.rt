@@ -1,30 +1,65 @@
 //! Guests that are recorded to a disk in memory, and found there again.
 
+ghost use Rattle.std.specs.Prelude.{◌≡◌, false};
+
 use super::kit::same;
-use elf_load::image::parse;
-use recorder::{RecordingFault, record_guest};
+use recorder::MemSink;
 use recover::{Lists, open};
 use replayer::{read_guest, replay};
 use rrv_model::machine::GuestEnd;
+use serial_sched::RoundRobin;
+use session::{Gate, GuestReport, Job, SessionFault, record_all};
 use std::alloc::Global;
 use std::process::Abort;
+use std::sync::Wait;
 use std::test::Fail;
+use std::thread::Threads;
 use test_guests::files::{EXIT_FIVE, file_of};
+use test_guests::outsides::Nothing;
 use trace_disk::{Disk, FailOnce, MemDisk};
 use trace_log::Log;
 
-/// Records a guest that exits with 5, and answers its number, and how it ended or why it did not.
-fn recorded<R: Abort + AllocGlobal, D: Disk>(
+/// Lets every step be made.
+#[derive(Drop)]
+struct Open;
+
+impl Gate for Open {
+    fn may_step(&self, _guest: u32) -> bool {
+        true
+    }
+
+    fn submitted(&self, _guest: u32, _frames: u32) {}
+}
+
+/// Records a guest that exits with 5 in a session of its own, and answers the log, and what is reported of it or why
+/// nothing is.
+fn recorded<R, D>(
     rt: &R,
-    log: &mut Log<D>,
-) -> Result<(u32, Result<Option<GuestEnd>, RecordingFault>), Fail> {
+    log: Log<D>,
+) -> Result<(Log<D>, Result<GuestReport, SessionFault>), Fail>
+where
+    R: Abort + AllocGlobal + Threads + Wait + Sync,
+    D: Disk + Drop,
+    requires { log.is_broken ≡ false }
+{
     let alloc = rt.alloc();
-    let elf = file_of(alloc, &EXIT_FIVE)?;
-    let image = parse(alloc, &elf)?;
-    let number = log.next_guest();
-    assert!(rt; number < u32::MAX);
-    let guest = record_guest(alloc, log, image, b"five", [0; 16], 64);
-    Ok((number, guest.map(|guest| guest.ended())))
+    let mut jobs = Vec::new(alloc);
+    jobs.push(Job {
+        elf: file_of(alloc, &EXIT_FIVE)?,
+        name: Vec::from_slice(alloc, b"five")?,
+        random: [0; 16],
+        chooser: RoundRobin::new(64),
+        outside: Nothing,
+        sink: MemSink::new(alloc),
+    })?;
+    let (log, _, result) = record_all(rt, alloc, log, jobs, &Open);
+    match result {
+        Ok(report) => {
+            let guest = report.guests.first().ok_or("no report")?;
+            Ok((log, Ok(*guest)))
+        }
+        Err(fault) => Ok((log, Err(fault))),
+    }
 }
 
 /// How many records of a guest a store has, and how it ends as they replay it.
@@ -42,12 +77,20 @@ fn replayed<D: Disk>(
 #[test]
 fn each_guest_has_the_next_number(rt: HostRuntime) -> Result<(), Fail> {
     let alloc = rt.alloc();
-    let mut log = Log::create(MemDisk::new(alloc)).ok().ok_or("not made")?;
+    let log = Log::create(MemDisk::new(alloc)).ok().ok_or("not made")?;
+    let mut disk = log.close();
     for number in 0..3 {
-        let found = recorded(&rt, &mut log)?;
-        same(&rt, &number, found, (number, Ok(Some(GuestEnd::Exited(5)))));
+        let (log, _) = open(alloc, disk).ok().ok_or("not opened")?;
+        let (log, found) = recorded(&rt, log)?;
+        disk = log.close();
+        let want = GuestReport {
+            number,
+            records: 2,
+            end: Some(GuestEnd::Exited(5)),
+        };
+        same(&rt, &number, found, Ok(want));
     }
-    let (log, lists) = open(alloc, log.close()).ok().ok_or("not opened")?;
+    let (log, lists) = open(alloc, disk).ok().ok_or("not opened")?;
     same(&rt, &"next guest", log.next_guest(), 3);
     let mut disk = log.close();
     for number in 0..3 {
@@ -57,22 +100,25 @@ fn each_guest_has_the_next_number(rt: HostRuntime) -> Result<(), Fail> {
     Ok(())
 }
 
-/// Records a guest where this call of the disk fails, and answers how many of its records the disk then holds.
-fn kept_by_failing<R: Abort + AllocGlobal>(rt: &R, call: u64) -> Result<u32, Fail> {
+/// Records a guest where this call of the disk fails, and tells whether the disk then holds records of it.
+fn is_kept_by_failing<R>(rt: &R, call: u64) -> Result<bool, Fail>
+where
+    R: Abort + AllocGlobal + Threads + Wait + Sync,
+{
     let disk = FailOnce::new(MemDisk::new(rt.alloc()), call);
-    let mut log = Log::create(disk).ok().ok_or("not made")?;
-    let found = recorded(rt, &mut log)?;
-    same(rt, &call, found, (0, Err(RecordingFault::DeviceFailed)));
-    let (_, lists) = open(rt.alloc(), log.close()).ok().ok_or("not opened")?;
-    Ok(lists.len(0))
+    let log = Log::create(disk).ok().ok_or("not made")?;
+    let (log, found) = recorded(rt, log)?;
+    same(rt, &call, found, Err(SessionFault::DeviceFailed));
+    let (_, lists) = open(rt.alloc(), log.close().into_inner()).ok().ok_or("not opened")?;
+    Ok(lists.len(0) > 0)
 }
 
 #[test]
 fn a_failed_call_of_the_disk_leaves_a_beginning(rt: HostRuntime) -> Result<(), Fail> {
-    // Two calls make the log, and each record takes four: the body, a sync, the gate, and a sync behind which it stays.
-    for call in 3..11 {
-        let kept = kept_by_failing(&rt, call)?;
-        same(&rt, &call, u64::from(kept), (call - 2) / 4);
+    // Two calls make the log. The first records take four: the body, a sync, the gate, and a sync behind which they stay.
+    for call in 3..7 {
+        let kept = is_kept_by_failing(&rt, call)?;
+        same(&rt, &call, kept, call == 6);
     }
     Ok(())
 }

@@ -4,14 +4,13 @@ use super::kit::shows;
 use commands::Refusal;
 use elf_load::fault::ElfFault;
 use guest_calls::{SetPageFault, SetRestFault};
-use recorder::RecordingFault;
 use recover::{OpenFault, ReadFault};
 use replayer::ReplayFault;
 use serial_sched::{FollowFault, SliceFault};
+use session::SessionFault;
 use std::fmt::Display;
 use std::process::Abort;
 use std::test::Fail;
-use trace_log::LogFault;
 
 /// Ends the test where one of these is shown by another text than the one beside it.
 fn show<R: Abort + AllocGlobal, T: Display>(rt: &R, rows: &[(T, &str)]) -> Result<(), Fail> {
@@ -47,30 +46,36 @@ fn texts_of_refusals(rt: HostRuntime) -> Result<(), Fail> {
             (Refusal::OutputFailed, "output failed"),
             (Refusal::Memory, "out of memory"),
             (Refusal::DeviceFailed.of_trial(), "out of memory"),
+            (
+                Refusal::from(SessionFault::SinkFailed { guest: 0 }).of_trial(),
+                "out of memory",
+            ),
+            (
+                Refusal::from(SessionFault::Held { guest: 0 }).of_trial(),
+                "guest 0: held",
+            ),
             (Refusal::StoreFull.of_trial(), "store full"),
         ],
     )
 }
 
 #[test]
-fn refusals_of_a_recording(rt: HostRuntime) -> Result<(), Fail> {
-    show(
-        &rt,
-        &[
-            (RecordingFault::DeviceFailed, "device failed"),
-            (RecordingFault::StoreFull, "store full"),
-            (RecordingFault::Memory, "out of memory"),
-        ],
-    )?;
+fn refusals_of_a_session(rt: HostRuntime) -> Result<(), Fail> {
     let faults = [
-        (LogFault::DeviceFailed, "device failed"),
-        (LogFault::Broken, "device failed"),
-        (LogFault::NotEmpty, "device failed"),
-        (LogFault::TooLong, "store full"),
-        (LogFault::Memory, "out of memory"),
+        (SessionFault::DeviceFailed, "device failed"),
+        (
+            SessionFault::SinkFailed { guest: 2 },
+            "guest 2: output failed",
+        ),
+        (SessionFault::Held { guest: 3 }, "guest 3: held"),
+        (SessionFault::Memory, "out of memory"),
+        (SessionFault::TooManyGuests, "too many guests"),
+        (SessionFault::StoreFull, "store full"),
+        (SessionFault::BadOpening { guest: 1 }, "guest 1: bad opening"),
     ];
     for (fault, want) in faults {
-        shows(&rt, &Refusal::from(RecordingFault::from(fault)), want)?;
+        shows(&rt, &fault, want)?;
+        shows(&rt, &Refusal::from(fault), want)?;
     }
     Ok(())
 }

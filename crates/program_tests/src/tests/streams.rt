@@ -8,7 +8,9 @@ use std::fs;
 use std::io::{self, ErrorKind, Read, Write};
 use std::process::Abort;
 use std::rt::Files;
+use std::sync::Wait;
 use std::test::Fail;
+use std::thread::Threads;
 use test_guests::files::{EXIT_FIVE, file_of};
 
 /// What is printed of a guest that writes `hi`.
@@ -44,12 +46,10 @@ impl Write for Sink {
 
 /// What a line returns, what its output took, and its errors, where the output takes so many bytes of a write, and so
 /// many in all.
-fn printed<R: Abort + AllocGlobal + Files>(
-    rt: &R,
-    words: &[&str],
-    most: usize,
-    room: usize,
-) -> (u8, Vec<u8>, Vec<u8>) {
+fn printed<R>(rt: &R, words: &[&str], most: usize, room: usize) -> (u8, Vec<u8>, Vec<u8>)
+where
+    R: Abort + AllocGlobal + Files + Threads + Wait + Sync,
+{
     let mut out = Sink {
         taken: Vec::new(rt.alloc()),
         most,
@@ -62,12 +62,15 @@ fn printed<R: Abort + AllocGlobal + Files>(
 
 /// Ends the test where a guest that writes `hi` is printed otherwise by an output that takes so many bytes of a write,
 /// and so many in all.
-fn prints_hi<R: Abort + AllocGlobal + Files>(
+fn prints_hi<R>(
     rt: &R,
     rows: &[(usize, usize)],
     status: u8,
     errors: &[u8],
-) -> Result<(), Fail> {
+) -> Result<(), Fail>
+where
+    R: Abort + AllocGlobal + Files + Threads + Wait + Sync,
+{
     let elf = file_of(rt.alloc(), &HELLO)?;
     fs::write(rt, "hello", elf.as_slice())?;
     for (most, room) in rows {
