@@ -15,7 +15,6 @@ use Rattle.rrv_model.specs.Settled.{IsSettled}
 use Rattle.trace_disk.specs.declared.mem_disk.MemDisk.{MemDisk}
 use Rattle.trace_disk.specs.MemDisk.{memory_state}
 use Rattle.trace_disk.specs.contracts.mem_disk.MemDiskDisk.TheImpl.{ghosts}
-use Rattle.trace_log.specs.Created.{new_log}
 use Rattle.trace_log.specs.Kept.{Keeps, LogValue}
 use Rattle.recover.specs.declared.fault.OpenFault.{OpenFault}
 use Rattle.recover.specs.declared.fault.OpenFault.TheVariants as open_faults
@@ -27,7 +26,7 @@ use Rattle.session.specs.declared.fault.SessionFault.TheVariants as faults
 use Rattle.session.specs.declared.job.Job.{Job}
 use Rattle.session.specs.declared.report.GuestReport.{GuestReport}
 use Rattle.session.specs.Openings.{StartsGuest}
-use Rattle.session.specs.Sessions.{AreRecorded, AreReported, HasRun, IsLeft, IsRecordingOrNone, IsReported, RefusesSession}
+use Rattle.session.specs.Sessions.{AreRecorded, AreReported, HasRun, IsRecordingOrNone, IsReported, RefusesSession}
 use Rattle.session.specs.Works.{Choosers, Sinks, IsRecordedFrom, opening_for}
 use Rattle.commands.specs.declared.refusal.Refusal.{Refusal}
 use Rattle.commands.specs.declared.refusal.Refusal.TheVariants as refusals

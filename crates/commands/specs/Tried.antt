@@ -8,7 +8,6 @@ use Rattle.serial_sched.specs.declared.chooser.RoundRobin.{RoundRobin}
 use Rattle.trace_disk.specs.declared.mem_disk.MemDisk.{MemDisk}
 use Rattle.trace_disk.specs.MemDisk.{memory_state}
 use Rattle.trace_log.specs.Kept.{Keeps, LogValue}
-use Rattle.session.specs.declared.fault.SessionFault.{SessionFault}
 use Rattle.session.specs.declared.fault.SessionFault.TheVariants as faults
 use Rattle.session.specs.declared.job.Job.{Job}
 use Rattle.session.specs.declared.report.GuestReport.{GuestReport}

@@ -30,12 +30,7 @@ const QUANTUM: u32 = 50_000;
 /// Does what a line of words asks for, which are those after the program's name, and returns the exit status: 0 done
 /// (also for a call of help), 1 refused, 2 a line that is none. What is asked for goes to `out`. A refusal's text,
 /// behind `rrv: `, and the text of a bad line go to `err`.
-pub fn run<
-    R: Files + AllocGlobal + Threads + Wait + Sync,
-    S: AsStr,
-    O: Write,
-    E: Write,
->(
+pub fn run<R: Files + AllocGlobal + Threads + Wait + Sync, S: AsStr, O: Write, E: Write>(
     rt: &R,
     words: &[S],
     out: &mut O,
