@@ -13,10 +13,10 @@ use trace_disk::{FailOnce, MemDisk};
 use trace_log::Log;
 
 /// How often each guest puts a letter out.
-const TIMES: u32 = 20;
+const TIMES: u32 = 10;
 
 /// More calls than a session makes: two make the log, and each record takes four at most.
-const CALLS: u64 = 2 + 4 * 2 * 22 + 1;
+const CALLS: u64 = 2 + 4 * 2 * 12 + 1;
 
 /// The records of a guest are the first of its run, and each letter that left has its record.
 fn is_beginning<R: Abort + AllocGlobal>(
