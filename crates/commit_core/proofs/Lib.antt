@@ -1,6 +1,6 @@
 pub mod Lists
 pub mod Events
-mod Runs
+pub mod Runs
 mod Stages
 mod Invariant
 mod Rows

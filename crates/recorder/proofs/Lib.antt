@@ -1,8 +1,4 @@
 pub mod Sizes
-pub mod Silence
-pub mod Turns
-pub mod Growth
-pub mod RecordingRefusals
 pub mod Puts
 pub mod Leaving
 pub mod Made

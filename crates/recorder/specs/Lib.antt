@@ -1,8 +1,5 @@
-pub mod Silent
-pub mod Turns
 pub mod Recorded
 pub mod Told
-pub mod Gained
 pub mod Owed
 pub mod Recorders
 pub mod RecorderCalls

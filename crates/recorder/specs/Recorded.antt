@@ -1,36 +1,32 @@
--- What it means that a guest has been recorded: its records, in a log, and the state that they end in.
-use Rattle.std.specs.Prelude.{◌≡◌, ℕ, List, ◌∷◌, map}
+-- What it means that a guest has been recorded: its records, and the state that they end in.
+use Rattle.std.specs.Prelude.{◌≡◌, ℕ, List, ◌∷◌}
 use Rattle.std.specs.List.{AllByRecursion}
+use Rattle.rrv_model.specs.declared.record.Item.{Item}
 use Rattle.rrv_model.specs.declared.record.Item.TheVariants as items
 use Rattle.rrv_model.specs.declared.record.Record.{Record}
 use Rattle.rrv_model.specs.State.{State}
 use Rattle.rrv_model.specs.Recording.{IsRecording, IsNumbered, EndsIn, items_of}
-use Rattle.rrv_model.specs.RecordText.{HasText, record_text}
-use Rattle.recorder.specs.Turns.{TakesTurns}
-
--- the texts of records, each a body of its own
-abbrev pub texts_of : List Record → List (List ℕ)
-texts_of records = map record_text records
+use Rattle.rrv_model.specs.RecordText.{HasText}
 
 -- the record of an opening
 abbrev pub opening_of : ℕ → List ℕ → List ℕ → List ℕ → Record
 opening_of guest elf name random =
     record { guest = guest; index = 0; item = items.Opening (record { elf = elf; name = name; random = random }) }
 
--- the records of this guest are a recording that ends in this state, and each has a text
+-- the item is no part of a checkpoint
+abbrev pub IsNoPart : Item → Type 0
+IsNoPart (items.Opening o) = Unit {0}
+IsNoPart (items.Frame f) = Unit {0}
+IsNoPart (items.Part p) = ⊥
+
+-- the records of this guest are a recording with no part of a checkpoint that ends in this state, and each has a text
 pub record IsRecorded (guest : ℕ) (records : List Record) (s : State) : Type 0 where
   pub recording : IsRecording records
   pub numbered : IsNumbered guest 0 records
   pub ends : EndsIn (items_of records) s
   pub has_text : AllByRecursion HasText records
+  pub no_part : AllByRecursion (λ r. IsNoPart r.item) records
 
 -- this is the first of the records
 abbrev pub IsFirst : Record → List Record → Type 0
 IsFirst r records = (rest : List Record) × (records ≡ r ∷ rest)
-
--- The records of this guest, its opening's first, are a recording that ends in this state, and each has a text. Its
--- threads take turns by this quantum.
-pub record IsRecordedBy (guest quantum : ℕ) (opening : Record) (records : List Record) (s : State) : Type 0 where
-  pub opens : IsFirst opening records
-  pub recorded : IsRecorded guest records s
-  pub turns : TakesTurns quantum (items_of records)

@@ -5,7 +5,7 @@ pub mod Works
 pub mod FirstFaults
 pub mod Driven
 pub mod Worked
-pub mod Outputs
 pub mod Recorded
 pub mod Sessions
 pub mod Openings
+pub mod Refusals

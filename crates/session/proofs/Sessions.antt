@@ -10,16 +10,17 @@ use Rattle.trace_log.specs.Kept.{LogValue}
 use Rattle.commit_group.specs.declared.fault.FlushFault.{FlushFault}
 use Rattle.commit_group.specs.Seats.{FlusherValue, GroupId, RecorderValue, new_flusher_seat}
 use Rattle.commit_group.specs.Turns.{AllCommitted}
-use Rattle.recorder.specs.Gained.{Device}
 use Rattle.session.specs.declared.fault.SessionFault.{SessionFault}
 use Rattle.session.specs.declared.job.Job.{Job}
 use Rattle.session.specs.Faults.{flusher_met}
-use Rattle.session.specs.Gains.{HasFlushed, HasGained, HoldsFirst, StandsIn}
+use Rattle.session.specs.Gains.{Device, HasFlushed, HasGained, HoldsFirst, StandsIn}
 use Rattle.session.specs.Sessions.{AreRecorded, HasRun, IsLeft}
 use Rattle.session.specs.Works.{Sinks}
 use Rattle.std.specs.Prelude.{MatchOption}
 use Rattle.commit_group.specs.Reports.{HasEnded}
+use Rattle.commit_group.specs.Numbers.{IsPlaced, base}
 use Rattle.commit_group.specs.Seats.{AllNew}
+use Rattle.std.specs.List.{AllByRecursion}
 use Rattle.session.specs.declared.report.GuestReport.{GuestReport}
 use Rattle.session.specs.declared.task.Task.{Task}
 use Rattle.session.specs.declared.task.Worked.{Worked}
@@ -29,7 +30,8 @@ use Rattle.session.specs.Tasks.{faults_met, jobs_of, jobs_worked, seats_of, seat
 use Rattle.session.specs.Works.{Choosers, HasWorked}
 use Rattle.session.proofs.Gained.{leaves_kept}
 use Rattle.session.proofs.Recorded.{IsEnded, all_recorded, all_reported, ended_at}
-use Rattle.session.proofs.Tasks.{all_of}
+use Rattle.session.proofs.Pairs.{pairs_length}
+use Rattle.session.proofs.Tasks.{all_of, jobs_length, worked_length}
 
 module _ {D : Type 0} (device : Device D) where
   -- what a new group's flusher stands in
@@ -82,7 +84,7 @@ module _ {D : Type 0} (device : Device D) where
     )
 
     pub nothing_ran : (log : LogValue D) (jobs : List (Job C O S)) → HasRun sinks device [] log log jobs jobs
-    nothing_ran log jobs = record { gained = none_gained log; recorded = none_recorded log.next_guest jobs }
+    nothing_ran log jobs = record { gained = none_gained log; only = tt; recorded = none_recorded log.next_guest jobs }
 
 -- where there is no fault the flusher met none
 pub flusher_met_none : (flushed : Result Unit FlushFault) (rest : List SessionFault) (P : Type 0) → flusher_met flushed ++ rest ≡ [] → OnOk flushed P → P × (rest ≡ [])
@@ -102,6 +104,7 @@ pub record AreJoined {C O S D : Type 0} (choosers : Choosers C) (sinks : Sinks S
   pub works : ArePairs (HasWorked choosers sinks) tasks done
   pub flusher : HasFlushed device old f log log' flushed
   pub count : length (seats_worked done) ≡ f.group.guests
+  pub placed : AllByRecursion (IsPlaced (base f.first_guest) f.group.guests) f.committed
   pub each : (k : ℕ) (r : RecorderValue) → slice_get (seats_worked done) k ≡ Some r → (sent : ℕ) × (committed : ℕ) × (seen : ℕ) × HasEnded f sent committed seen r
 
 module _ {C O S D : Type 0} (choosers : Choosers C) (sinks : Sinks S) (device : Device D) (group : GroupId) (old f : FlusherValue) (log log' : LogValue D)
@@ -114,10 +117,20 @@ module _ {C O S D : Type 0} (choosers : Choosers C) (sinks : Sinks S) (device : 
       let e = j.each k r at in
       ended_at f log.next_guest (0 + k) e.0 e.1 e.2 r e.3 (place ∙ omega arith) (omega arith) (first_is device group old f log log' flushed j.new j.flusher)
 
+  -- what is committed is of the session's guests alone
+  only_these : (count : ℕ) → AreJoined choosers sinks device group old f log log' flushed tasks done → length tasks ≡ count → AllByRecursion (IsPlaced log.next_guest count) f.committed
+  only_these count j given =
+      let guests : f.group.guests ≡ count = sym j.count ∙ worked_length done ∙ sym (pairs_length (HasWorked choosers sinks) tasks done j.works) ∙ given in
+      elim (first_is device group old f log log' flushed j.new j.flusher) [
+        | inl first ↦ subst (λ (n : ℕ). AllByRecursion (IsPlaced log.next_guest n) f.committed) guests (subst (λ (o : Option ℕ). AllByRecursion (IsPlaced (base o) f.group.guests) f.committed) first j.placed)
+        | inr none ↦ subst (λ (l : List Record). AllByRecursion (IsPlaced log.next_guest count) l) (sym none) tt
+      ]
+
   pub has_run : (jobs jobs' : List (Job C O S)) → AreJoined choosers sinks device group old f log log' flushed tasks done → jobs_of tasks ≡ jobs → jobs' ≡ jobs_worked done
       → HasRun sinks device f.committed log log' jobs jobs'
   has_run jobs jobs' j given back = record {
     gained = session_gained device group old f log log' flushed j.new j.flusher;
+    only = only_these (length jobs) j (sym (jobs_length tasks) ∙ ap length given);
     recorded = subst (λ l. AreRecorded sinks f.committed log.next_guest l jobs') given (subst (λ l. AreRecorded sinks f.committed log.next_guest (jobs_of tasks) l) (sym back)
         (subst (λ (n : ℕ). AreRecorded sinks f.committed n (jobs_of tasks) (jobs_worked done)) (omega arith) (all_recorded choosers sinks f log.next_guest 0 tasks done j.works (ends j))));
   }

@@ -1,5 +1,6 @@
 -- Which jobs start a guest.
-use Rattle.std.specs.Prelude.{◌≡◌, ◌⊎◌, ℕ, List, slice_get, vec_items, Some, None}
+use Rattle.std.specs.Prelude.{◌≡◌, ◌⊎◌, ℕ, List, slice_get, take, vec_items, Some, None}
+use Rattle.std.specs.List.{AllByRecursion}
 use Rattle.rrv_model.specs.Elf.{refusal}
 use Rattle.rrv_model.specs.Opening.{IsName}
 use Rattle.session.specs.declared.fault.SessionFault.{SessionFault}
@@ -15,9 +16,17 @@ pub record StartsGuest {C O S : Type 0} (job : Job C O S) : Type 0 where
 abbrev pub RefusesJob : {C O S : Type 0} → ℕ → Job C O S → SessionFault → Type 0
 RefusesJob place job fault = (fault ≡ faults.Memory) ⊎ ((fault ≡ faults.BadOpening place) × (StartsGuest job → ⊥))
 
--- so of one of the jobs
+-- so of one of the jobs, and those before it start guests
 pub record RefusesJobs {C O S : Type 0} (jobs : List (Job C O S)) (fault : SessionFault) : Type 0 where
   pub place : ℕ
   pub job : Job C O S
   pub is_there : slice_get jobs place ≡ Some job
   pub refuses : RefusesJob place job fault
+  pub before : AllByRecursion StartsGuest (take place jobs)
+
+-- the job at this place is the first that starts no guest
+pub record IsFirstBad {C O S : Type 0} (jobs : List (Job C O S)) (place : ℕ) : Type 0 where
+  pub job : Job C O S
+  pub is_there : slice_get jobs place ≡ Some job
+  pub starts_none : StartsGuest job → ⊥
+  pub before : AllByRecursion StartsGuest (take place jobs)

@@ -1,16 +1,21 @@
 -- What a session gives.
-use Rattle.std.specs.Prelude.{◌≡◌, ◌⊎◌, ℕ, ◌+◌, ◌≤◌, List, [], ◌∷◌, length}
+use Rattle.std.specs.Prelude.{◌≡◌, ◌⊎◌, ℕ, ◌+◌, ◌<◌, ◌≤◌, true, false, List, [], ◌∷◌, length, Vec, vec_items}
+use Rattle.std.specs.List.{AllByRecursion}
+use Rattle.std.specs.declared.alloc.Global.{Global}
 use Rattle.rrv_model.specs.declared.record.Record.{Record}
 use Rattle.rrv_model.specs.Recording.{IsNumbered, IsRecording}
 use Rattle.rrv_model.specs.Recovered.{next_guest, of_guest, IsRecovered}
 use Rattle.trace_log.specs.Kept.{Keeps, LogValue}
 use Rattle.commit_core.specs.Runs.{IsOutput}
-use Rattle.recorder.specs.Gained.{Device}
+use Rattle.commit_group.specs.Numbers.{IsPlaced}
 use Rattle.recorder.specs.Recorded.{IsFirst}
+use Rattle.session.specs.declared.fault.SessionFault.{SessionFault}
+use Rattle.session.specs.declared.fault.SessionFault.TheVariants as faults
 use Rattle.session.specs.declared.job.Job.{Job}
 use Rattle.session.specs.declared.report.GuestReport.{GuestReport}
 use Rattle.session.specs.declared.task.Worked.{Worked}
-use Rattle.session.specs.Gains.{HasGained}
+use Rattle.session.specs.Gains.{Device, HasGained, IsFull}
+use Rattle.session.specs.Openings.{IsFirstBad}
 use Rattle.session.specs.Works.{Choosers, Sinks, IsSameJob, IsToItsEnd, Takes, opening_for}
 
 -- there is no record, or they are a recording of this guest, its opening's first
@@ -64,12 +69,38 @@ pub record IsLeft {D : Type 0} (device : Device D) (log : LogValue D) (bodies : 
   pub recovered : IsRecovered bodies earlier
   pub above : next_guest earlier ≤ log.next_guest
 
--- These records were committed, whatever bodies the log kept before, and each job was recorded so far.
+-- These records were committed, whatever bodies the log kept before: of each job what was recorded so far, and no others.
 pub record HasRun {C O S D : Type 0} (sinks : Sinks S) (device : Device D) (committed : List Record)
     (log log' : LogValue D) (jobs jobs' : List (Job C O S)) : Type 0 where
   pub gained : (bodies : List (List ℕ)) (earlier : List Record)
       → IsLeft device log bodies earlier → HasGained device committed log log' bodies earlier
+  pub only : AllByRecursion (IsPlaced log.next_guest (length jobs)) committed
   pub recorded : AreRecorded sinks committed log.next_guest jobs jobs'
+
+-- ---- faults
+
+-- more than 16, or their numbers would pass the greatest
+abbrev pub AreTooMany : {C O S D : Type 0} → LogValue D → List (Job C O S) → Type 0
+AreTooMany log jobs = (16 < length jobs) ⊎ (4294967295 < log.next_guest + length jobs)
+
+-- nothing was recorded
+abbrev pub AreUntouched : {C O S D : Type 0} → (log log' : LogValue D) → (jobs jobs' : Vec (Job C O S) Global) → Type 0
+AreUntouched log log' jobs jobs' = (log' ≡ log) × (jobs' ≡ jobs)
+
+-- what each fault tells of the log and the jobs: a failed call of the disk alone breaks the log
+abbrev pub RefusesSession : {C O S D : Type 0} → (log log' : LogValue D) → (jobs jobs' : Vec (Job C O S) Global)
+    → SessionFault → Type 0
+RefusesSession log log' jobs jobs' faults.DeviceFailed = log'.is_broken ≡ true
+RefusesSession log log' jobs jobs' (faults.SinkFailed guest) =
+    (guest < length (vec_items jobs)) × (log'.is_broken ≡ false)
+RefusesSession log log' jobs jobs' (faults.Held guest) =
+    (guest < length (vec_items jobs)) × (log'.is_broken ≡ false)
+RefusesSession log log' jobs jobs' faults.Memory = log'.is_broken ≡ false
+RefusesSession log log' jobs jobs' faults.TooManyGuests =
+    AreTooMany log (vec_items jobs) × AreUntouched log log' jobs jobs'
+RefusesSession log log' jobs jobs' faults.StoreFull = (log'.is_broken ≡ false) × IsFull log'
+RefusesSession log log' jobs jobs' (faults.BadOpening guest) =
+    IsFirstBad (vec_items jobs) guest × AreUntouched log log' jobs jobs'
 
 -- ---- reports
 

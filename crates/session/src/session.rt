@@ -1,10 +1,10 @@
 //! A session, from its jobs to its report.
 
-ghost use Rattle.std.specs.Prelude.{◌≡◌, ◌⊎◌, ◌↔◌, ◌<◌, ◌≤◌, ◌+◌, List, false, length, IfOk, OnOk, Err};
+ghost use Rattle.std.specs.Prelude.{◌≡◌, ◌<◌, ◌≤◌, ◌+◌, List, [], false, length, IfErr, IfOk, OnErr, OnOk, Err};
 ghost use Rattle.rrv_model.specs.declared.record.Record.{Record};
 ghost use Rattle.std.specs.List.{AllByRecursion};
 ghost use Rattle.session.specs.Openings.{StartsGuest};
-ghost use Rattle.session.specs.Sessions.{AreReported, HasRun};
+ghost use Rattle.session.specs.Sessions.{AreReported, AreTooMany, AreUntouched, HasRun, RefusesSession};
 
 use crate::fault::SessionFault;
 use crate::gate::Gate;
@@ -48,9 +48,11 @@ fn record_some<
     requires some { (0 < length jobs.items) × (length jobs.items ≤ 16) }
     requires whole { log.is_broken ≡ false }
     requires numbers { log.next_guest + length jobs.items ≤ 4294967295 }
-    ensures { (committed : List Record) × HasRun S.Sink D.Disk committed log result.0 jobs.items result.1.items
+    ensures recorded { (committed : List Record) × HasRun S.Sink D.Disk committed log result.0 jobs.items result.1.items
         × IfOk result.2 (λ r. AreReported C.Chooser S.Sink committed log.next_guest
         jobs.items result.1.items r.guests.items) }
+    ensures whole { OnOk result.2 (result.0.is_broken ≡ false) }
+    ensures refused { IfErr result.2 (RefusesSession log result.0 jobs result.1) }
 {
     let first = log.next_guest();
     let Ok(room) = make_room(alloc, jobs.len()) else {
@@ -101,22 +103,24 @@ pub fn record_all<
     ensures recorded { (committed : List Record) × HasRun S.Sink D.Disk committed log result.0 jobs.items result.1.items
         × IfOk result.2 (λ r. AreReported C.Chooser S.Sink committed log.next_guest
         jobs.items result.1.items r.guests.items) }
-    ensures many { (16 < length jobs.items) ⊎ (4294967295 < log.next_guest + length jobs.items)
-        → (result.0 ≡ log) × (result.1 ≡ jobs) × (result.2 ≡ Err SessionFault.TooManyGuests) }
+    ensures whole { OnOk result.2 (result.0.is_broken ≡ false) }
     ensures starts { OnOk result.2 (AllByRecursion StartsGuest jobs.items) }
+    ensures refused { IfErr result.2 (RefusesSession log result.0 jobs result.1) }
+    ensures many { AreTooMany log jobs.items → result.2 ≡ Err SessionFault.TooManyGuests }
+    ensures none { jobs.items ≡ [] → AreUntouched log result.0 jobs result.1 × OnErr result.2 ⊥ }
 {
     let count = jobs.len();
     if count > 16 || log.next_guest() > u32::MAX - count as u32 {
         return (log, jobs, Err(SessionFault::TooManyGuests));
-    }
-    if let Err(fault) = check_jobs(alloc, &jobs) {
-        return (log, jobs, Err(fault));
     }
     if count == 0 {
         let report = SessionReport {
             guests: Vec::new(alloc),
         };
         return (log, jobs, Ok(report));
+    }
+    if let Err(fault) = check_jobs(alloc, &jobs) {
+        return (log, jobs, Err(fault));
     }
     record_some(rt, alloc, log, jobs, gate)
 }

@@ -10,4 +10,5 @@ returns-in_err-check_job-clause-refused g c =
       job = c.index-jobs-place.result;
       is_there = get_is _ _ _ c.loop-place-test.true c.index-jobs-place.is;
       refuses = c.in_err-check_job.ensures.refused;
+      before = c.loop-place.invariant;
     })

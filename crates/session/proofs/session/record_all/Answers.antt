@@ -1,5 +1,7 @@
-use Rattle.std.proofs.Common.{rules, []}
+use Rattle.std.proofs.Common.{rules, [], subst}
 use Rattle.session.proofs.Pairs.{none_left}
+use Rattle.session.specs.Openings.{RefusesJobs}
+use Rattle.session.proofs.Refusals.{job_tells}
 use Rattle.session.proofs.Sessions.{none_reported, nothing_ran}
 use Rattle.session.proofs.session.record_all.Goals as goal
 
@@ -11,3 +13,6 @@ returns-then-count-eq0-clause-recorded g c = ([], nothing_ran g.D.Disk g.S.Sink 
 
 pub returns-in-Err-clause-recorded : goal.returns-in-Err-clause-recorded
 returns-in-Err-clause-recorded g c = ([], nothing_ran g.D.Disk g.S.Sink c.args.log c.args.jobs.items, tt)
+
+pub returns-in-Err-clause-refused : goal.returns-in-Err-clause-refused
+returns-in-Err-clause-refused g c = job_tells c.args.log c.args.jobs c.in-Err.fault c.requires.whole (subst (λ l. RefusesJobs l c.in-Err.fault) c.deref.ensures.value c.in-Err.ensures.refused)

@@ -1,5 +1,5 @@
 use Rattle.std.proofs.Common.{rules, arith, ◌≡◌, [], ◌++◌, length, sym, ap, ◌∙◌, subst}
-use Rattle.std.specs.Prelude.{slice_get, Option}
+use Rattle.std.specs.Prelude.{slice_get, Option, Some}
 use Rattle.commit_group.specs.Seats.{AllNew, AllOf, GroupId}
 use Rattle.session.specs.declared.fault.SessionFault.{SessionFault}
 use Rattle.session.specs.Faults.{IsLowest, flusher_met}
@@ -9,12 +9,13 @@ use Rattle.session.specs.Tasks.{faults_met}
 use Rattle.session.specs.Works.{HasWorked}
 use Rattle.session.proofs.Pairs.{pairs_length}
 use Rattle.session.proofs.Recorded.{all_numbered}
-use Rattle.session.proofs.Sessions.{AreJoined, has_reported, has_run, nothing_ran}
+use Rattle.session.proofs.Refusals.{lowest_tells}
+use Rattle.session.proofs.Sessions.{AreJoined, flusher_met_none, has_reported, has_run, nothing_ran}
 use Rattle.session.proofs.Tasks.{all_fresh, all_of, jobs_length, seats_length, worked_length}
 use Rattle.session.proofs.session.record_some.Goals as goal
 
-pub returns-in_default : goal.returns-in_default
-returns-in_default g c = ([], nothing_ran g.D.Disk g.S.Sink c.args.log c.args.jobs.items, tt)
+pub returns-in_default-clause-recorded : goal.returns-in_default-clause-recorded
+returns-in_default-clause-recorded g c = ([], nothing_ran g.D.Disk g.S.Sink c.args.log c.args.jobs.items, tt)
 
 pub run-done-requires-after_bounds : goal.run-done-requires-after_bounds
 run-done-requires-after_bounds g c κs within =
@@ -81,8 +82,8 @@ end-requires-clause-of_group g c =
     let all = all_of g.C.Chooser g.S.Sink c.in-Ok.room.flusher.group c.give.new.tasks.items c.run-done.result.0.items new c.run-done.ensures.works in
     subst (λ gr. AllOf gr c.take_back.new.seats.items) (sym c.run-done.ensures.flushed.group) (subst (λ l. AllOf c.in-Ok.room.flusher.group l) (sym c.take_back.ensures.seats) all)
 
-pub returns-in-Some : goal.returns-in-Some
-returns-in-Some g c =
+pub returns-in-Some-clause-recorded : goal.returns-in-Some-clause-recorded
+returns-in-Some-clause-recorded g c =
     let h = c.in-Ok.ensures in
     let T = c.give.new.tasks.items in
     let Z = c.run-done.result.0.items in
@@ -95,13 +96,14 @@ returns-in-Some g c =
       works = c.run-done.ensures.works;
       flusher = c.run-done.ensures.flushed;
       count = worked_length Z ∙ sym same ∙ len ∙ h.count ∙ sym h.guests_are ∙ ap (λ (gr : GroupId). gr.guests) (sym c.run-done.ensures.flushed.group);
+      placed = c.end.ensures.placed;
       each = λ k r at. (_, _, _, c.end.ensures.each k r (ap (λ l. slice_get l k) c.take_back.ensures.seats ∙ at));
     } in
     let run = has_run g.C.Chooser g.S.Sink g.D.Disk group c.in-Ok.room.flusher c.run-done.result.1 c.args.log c.run-done.result.2 c.run-done.result.3 T Z c.args.jobs.items c.take_back.new.jobs.items joined c.give.ensures.jobs c.take_back.ensures.jobs in
     (c.run-done.result.1.committed, run, tt)
 
-pub returns : goal.returns
-returns g c =
+pub returns-clause-recorded : goal.returns-clause-recorded
+returns-clause-recorded g c =
     let h = c.in-Ok.ensures in
     let T = c.give.new.tasks.items in
     let Z = c.run-done.result.0.items in
@@ -114,6 +116,7 @@ returns g c =
       works = c.run-done.ensures.works;
       flusher = c.run-done.ensures.flushed;
       count = worked_length Z ∙ sym same ∙ len ∙ h.count ∙ sym h.guests_are ∙ ap (λ (gr : GroupId). gr.guests) (sym c.run-done.ensures.flushed.group);
+      placed = c.end.ensures.placed;
       each = λ k r at. (_, _, _, c.end.ensures.each k r (ap (λ l. slice_get l k) c.take_back.ensures.seats ∙ at));
     } in
     let run = has_run g.C.Chooser g.S.Sink g.D.Disk group c.in-Ok.room.flusher c.run-done.result.1 c.args.log c.run-done.result.2 c.run-done.result.3 T Z c.args.jobs.items c.take_back.new.jobs.items joined c.give.ensures.jobs c.take_back.ensures.jobs in
@@ -127,3 +130,19 @@ returns g c =
       has_reported g.C.Chooser g.S.Sink g.D.Disk group c.in-Ok.room.flusher c.run-done.result.1 c.args.log c.run-done.result.2 c.run-done.result.3 T Z c.args.jobs.items c.take_back.new.jobs.items
           c.next_guest-first.result c.take_back.new.reports.items joined c.give.ensures.jobs c.take_back.ensures.jobs c.next_guest-first.ensures c.take_back.ensures.reports none (omega arith),
     )
+
+pub returns-in-Some-clause-refused : goal.returns-in-Some-clause-refused
+returns-in-Some-clause-refused g c =
+    let T = c.give.new.tasks.items in
+    let Z = c.run-done.result.0.items in
+    let f = c.run-done.ensures.flushed in
+    let met = flusher_met c.run-done.result.3 in
+    lowest_tells g.C.Chooser g.S.Sink c.args.log c.run-done.result.2 c.args.jobs c.take_back.new.jobs c.in-Ok.room.flusher.group c.run-done.result.3 T Z c.in-Some.fault f.refused f.whole
+    (subst (λ l. AllNew c.in-Ok.room.flusher.group l) (sym c.give.ensures.seats) c.in-Ok.ensures.seats) c.run-done.ensures.works (sym (jobs_length T) ∙ ap length c.give.ensures.jobs)
+    (subst (λ l. IsLowest (met ++ faults_met l) (Some c.in-Some.fault)) c.deref.ensures.value (subst (λ (o : Option SessionFault). IsLowest (met ++ faults_met c.deref.result.now) o) c.in-Some.is c.lowest_fault-lowest.ensures))
+
+pub returns-clause-whole : goal.returns-clause-whole
+returns-clause-whole g c =
+    let rest = faults_met c.deref.result.now in
+    let none = subst (λ (o : Option SessionFault). IsLowest (flusher_met c.run-done.result.3 ++ rest) o) c.in_default-lowest.is c.lowest_fault-lowest.ensures in
+    (flusher_met_none c.run-done.result.3 rest _ none c.run-done.ensures.flushed.whole).0
