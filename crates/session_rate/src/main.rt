@@ -6,12 +6,11 @@ mod sessions;
 
 use countdown::COUNTDOWN;
 use sessions::{Outcome, run_session};
-use std::fs;
-use std::io;
 use std::process::ExitCode;
 use std::rt::Files;
 use std::sync::Wait;
 use std::thread::Threads;
+use std::{fs, io};
 use test_guests::arguments::arguments;
 use test_guests::files::file_of;
 

@@ -28,7 +28,12 @@ fn is_whole<R: Abort + AllocGlobal>(
     same(rt, &place, job.sink.puts().len(), times as usize);
     begin_output(rt, job.sink.puts(), place, times);
     let kept = store.replayed(rt.alloc(), place)?;
-    same(rt, &place, (kept.records, kept.end), (records as usize, exited));
+    same(
+        rt,
+        &place,
+        (kept.records, kept.end),
+        (records as usize, exited),
+    );
     same(rt, &place, kept.output.len(), times as usize);
     begin_output(rt, &kept.output, place, times);
     Ok(())
