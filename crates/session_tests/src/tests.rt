@@ -1,11 +1,16 @@
-//! Sessions of guests that put a byte out a thousand times, or fewer.
+//! Sessions of guests that put letters out.
 
 use std::fmt::Debug;
 use std::process::Abort;
 
+mod at_once;
 mod failing;
+mod gates;
 mod jobs;
 mod many;
+mod refused;
+mod store;
+mod whole;
 
 /// Ends the test where something else is found than wanted. An assertion costs its proof wherever it stands; this one stands once.
 fn same<T: PartialEq + Debug + Drop>(rt: &impl Abort, what: &impl Debug, found: T, want: T) {

@@ -1,8 +1,9 @@
 //! Sessions of two guests of which one call of the disk fails.
 
-use super::jobs::{Open, jobs, taken};
+use super::gates::Open;
+use super::jobs::{MemJob, begin_output, jobs};
 use super::same;
-use recover::open;
+use super::store::Store;
 use session::{SessionFault, record_all};
 use std::process::Abort;
 use std::sync::Wait;
@@ -11,7 +12,28 @@ use std::thread::Threads;
 use trace_disk::{FailOnce, MemDisk};
 use trace_log::Log;
 
-/// Records two guests where this call of the disk fails, and tells whether it did. Each byte that left has its record.
+/// How often each guest puts a letter out.
+const TIMES: u32 = 10;
+
+/// More calls than a session makes: two make the log, and each record takes four at most.
+const CALLS: u64 = 2 + 4 * 2 * 12 + 1;
+
+/// The records of a guest are the first of its run, and each letter that left has its record.
+fn is_beginning<R: Abort + AllocGlobal>(
+    rt: &R,
+    store: &mut Store,
+    guest: u32,
+    job: &MemJob,
+) -> Result<(), Fail> {
+    let taken = job.sink.puts();
+    let kept = store.replayed(rt.alloc(), guest)?;
+    begin_output(rt, &kept.output, guest, TIMES);
+    begin_output(rt, taken, guest, TIMES);
+    same(rt, &guest, taken.len() <= kept.output.len(), true);
+    Ok(())
+}
+
+/// Records two guests where this call of the disk fails, and tells whether it did.
 fn session_failing_at<R>(rt: &R, call: u64) -> Result<bool, Fail>
 where
     R: Abort + AllocGlobal + Threads + Wait + Sync,
@@ -20,13 +42,11 @@ where
     let Ok(log) = Log::create(FailOnce::new(MemDisk::new(alloc), call)) else {
         return Ok(true);
     };
-    let (log, jobs, result) = record_all(rt, alloc, log, jobs(alloc, 2, 20)?, &Open);
-    let (_, lists) = open(alloc, log.close().into_inner()).ok().ok_or("not opened")?;
+    let (log, jobs, result) = record_all(rt, alloc, log, jobs(alloc, 2, TIMES)?, &Open);
+    let mut store = Store::of(alloc, log.close().into_inner())?;
     let mut guest = 0u32;
     for job in &jobs {
-        // Of so many records the first is the opening.
-        let frames = lists.len(guest).saturating_sub(1) as usize;
-        same(rt, &guest, taken(rt, job) <= frames, true);
+        is_beginning(rt, &mut store, guest, job)?;
         guest = guest.saturating_add(1);
     }
     match result {
@@ -38,10 +58,12 @@ where
     }
 }
 
+// The last call is one that no session makes.
 #[test]
-fn each_byte_that_left_has_its_record(rt: HostRuntime) -> Result<(), Fail> {
-    for call in 1..60 {
+fn each_letter_that_left_has_its_record(rt: HostRuntime) -> Result<(), Fail> {
+    for call in 1..CALLS {
         session_failing_at(&rt, call)?;
     }
+    same(&rt, &"all", session_failing_at(&rt, CALLS)?, false);
     Ok(())
 }

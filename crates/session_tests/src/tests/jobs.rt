@@ -1,54 +1,58 @@
-//! The jobs that are recorded, and what is left of them.
+//! The jobs that are recorded, and what their guests put out.
 
 use super::same;
+use guest_calls::Put;
 use recorder::MemSink;
 use serial_sched::RoundRobin;
-use session::{Gate, Job};
+use session::Job;
 use std::alloc::Global;
 use std::process::Abort;
 use std::test::Fail;
 use test_guests::files::file_of;
 use test_guests::outsides::Nothing;
-use test_guests::words::{A1_FILE, ECALL, a0, a2, a7};
+use test_guests::words::{ECALL, a0, a2, a7};
 
 /// A job whose sink lies in memory.
 pub(super) type MemJob = Job<RoundRobin, Nothing, MemSink>;
 
-/// Lets every step be made.
-#[derive(Drop)]
-pub(super) struct Open;
-
-impl Gate for Open {
-    fn may_step(&self, _guest: u32) -> bool {
-        true
-    }
-
-    fn submitted(&self, _guest: u32, _frames: u32) {}
-}
-
-/// Puts the first byte of the file out so often, below 2,048 times, and exits with 5.
-fn putting(times: u32) -> [u32; 11] {
+/// A guest that puts a letter out so often, below 2,048 times, and exits with 5. It counts down, and takes the letter of the sum
+/// of its count and its place, below 2,048, modulo 16.
+fn putting(place: u32, times: u32) -> [u32; 19] {
     [
         times.wrapping_shl(20) | 0x413, // li s0, times
         a0(1),
-        A1_FILE,
+        place.wrapping_shl(20) | 0x0004_0593, // addi a1, s0, place
+        0x00F5_F593, // andi a1, a1, 15
+        0x0001_02B7, // lui t0, 0x10
+        0x0055_85B3, // add a1, a1, t0
+        0x0905_8593, // addi a1, a1, 0x90: the letters stand at 0x10090
         a2(1),
         a7(64),
         ECALL,
         0xFFF4_0413, // addi s0, s0, -1
-        0xFE04_14E3, // bnez s0, to the second
+        0xFC04_1CE3, // bnez s0, to the second
         a0(5),
         a7(93),
         ECALL,
+        0x6463_6261, // abcd
+        0x6867_6665, // efgh
+        0x6C6B_6A69, // ijkl
+        0x706F_6E6D, // mnop
     ]
 }
 
-/// So many jobs, each of a guest that puts a byte out so often.
-pub(super) fn jobs(alloc: Global, count: usize, times: u32) -> Result<Vec<MemJob>, Fail> {
+/// The letter that a guest at this place puts out when it has counted down to so many.
+fn letter(place: u32, count: u32) -> u8 {
+    let number = count.wrapping_add(place) % 16;
+    b'a' + number as u8
+}
+
+/// So many jobs, each of a guest that puts a letter out so often.
+pub(super) fn jobs(alloc: Global, count: u32, times: u32) -> Result<Vec<MemJob>, Fail> {
     let mut jobs = Vec::new(alloc);
-    for _ in 0..count {
+    for place in 0..count {
         jobs.push(Job {
-            elf: file_of(alloc, &putting(times))?,
+            elf: file_of(alloc, &putting(place, times))?,
             name: Vec::from_slice(alloc, b"putting")?,
             random: [7; 16],
             chooser: RoundRobin::new(1000),
@@ -59,15 +63,17 @@ pub(super) fn jobs(alloc: Global, count: usize, times: u32) -> Result<Vec<MemJob
     Ok(jobs)
 }
 
-/// How many bytes the job's sink took. Each is the file's first, and went to descriptor 1.
-pub(super) fn taken(rt: &impl Abort, job: &MemJob) -> usize {
-    for put in job.sink.puts() {
+/// These puts are the first of what a guest at this place puts out in so many times.
+pub(super) fn begin_output(rt: &impl Abort, puts: &[Put], place: u32, times: u32) {
+    same(rt, &"few", puts.len() <= times as usize, true);
+    let mut count = times;
+    for put in puts {
         same(
             rt,
-            &"put",
+            &(place, count),
             (put.descriptor, put.bytes.as_slice()),
-            (1, b"\x7F" as &[u8]),
+            (1, &[letter(place, count)] as &[u8]),
         );
+        count = count.wrapping_sub(1);
     }
-    job.sink.puts().len()
 }
