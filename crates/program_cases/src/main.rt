@@ -12,10 +12,7 @@ use std::sync::Wait;
 use std::thread::Threads;
 
 /// What a line of the program prints; None where it is refused, tells errors, or finds no memory.
-fn printed<R: Files + AllocGlobal + Threads + Wait + Sync>(
-    rt: &R,
-    words: &str,
-) -> Option<Vec<u8>> {
+fn printed<R: Files + AllocGlobal + Threads + Wait + Sync>(rt: &R, words: &str) -> Option<Vec<u8>> {
     let words: Vec<&str> = words.split_whitespace().collect(rt.alloc()).ok()?;
     let mut out = Vec::new(rt.alloc());
     let mut err = Vec::new(rt.alloc());

@@ -76,11 +76,21 @@ fn goes_on_at_the_first_byte_not_taken(rt: HostRuntime) -> Result<(), Fail> {
     outputs.push(put_of(alloc, 1, b"")?);
     outputs.reserve()?;
     outputs.push(put_of(alloc, 2, b"no")?);
-    same(&rt, &"first", outputs.release(&rt, &mut sink, 2), (2, false));
+    same(
+        &rt,
+        &"first",
+        outputs.release(&rt, &mut sink, 2),
+        (2, false),
+    );
     same(&rt, &"failures", sink.failures(), 1);
     same(&rt, &"released", outputs.released(), 0);
     took(&rt, &sink.inner, &[(1, b"he")]);
-    same(&rt, &"second", outputs.release(&rt, &mut sink, 2), (3, true));
+    same(
+        &rt,
+        &"second",
+        outputs.release(&rt, &mut sink, 2),
+        (3, true),
+    );
     same(&rt, &"released", outputs.released(), 2);
     took(&rt, &sink.inner, &[(1, b"he"), (1, b"ll"), (1, b"o")]);
     same(&rt, &"third", outputs.release(&rt, &mut sink, 3), (2, true));

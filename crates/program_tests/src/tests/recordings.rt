@@ -33,10 +33,7 @@ impl Gate for Open {
 
 /// Records a guest that exits with 5 in a session of its own, and answers the log, and what is reported of it or why
 /// nothing is.
-fn recorded<R, D>(
-    rt: &R,
-    log: Log<D>,
-) -> Result<(Log<D>, Result<GuestReport, SessionFault>), Fail>
+fn recorded<R, D>(rt: &R, log: Log<D>) -> Result<(Log<D>, Result<GuestReport, SessionFault>), Fail>
 where
     R: Abort + AllocGlobal + Threads + Wait + Sync,
     D: Disk + Drop,
@@ -109,7 +106,9 @@ where
     let log = Log::create(disk).ok().ok_or("not made")?;
     let (log, found) = recorded(rt, log)?;
     same(rt, &call, found, Err(SessionFault::DeviceFailed));
-    let (_, lists) = open(rt.alloc(), log.close().into_inner()).ok().ok_or("not opened")?;
+    let (_, lists) = open(rt.alloc(), log.close().into_inner())
+        .ok()
+        .ok_or("not opened")?;
     Ok(lists.len(0) > 0)
 }
 

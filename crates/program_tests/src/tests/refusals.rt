@@ -71,7 +71,10 @@ fn refusals_of_a_session(rt: HostRuntime) -> Result<(), Fail> {
         (SessionFault::Memory, "out of memory"),
         (SessionFault::TooManyGuests, "too many guests"),
         (SessionFault::StoreFull, "store full"),
-        (SessionFault::BadOpening { guest: 1 }, "guest 1: bad opening"),
+        (
+            SessionFault::BadOpening { guest: 1 },
+            "guest 1: bad opening",
+        ),
     ];
     for (fault, want) in faults {
         shows(&rt, &fault, want)?;

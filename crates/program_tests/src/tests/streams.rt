@@ -62,12 +62,7 @@ where
 
 /// Ends the test where a guest that writes `hi` is printed otherwise by an output that takes so many bytes of a write,
 /// and so many in all.
-fn prints_hi<R>(
-    rt: &R,
-    rows: &[(usize, usize)],
-    status: u8,
-    errors: &[u8],
-) -> Result<(), Fail>
+fn prints_hi<R>(rt: &R, rows: &[(usize, usize)], status: u8, errors: &[u8]) -> Result<(), Fail>
 where
     R: Abort + AllocGlobal + Files + Threads + Wait + Sync,
 {
