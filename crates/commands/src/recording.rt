@@ -8,12 +8,12 @@ ghost use Rattle.recorder.specs.Recorded.{opening_of};
 ghost use Rattle.commands.specs.Tried.{IsOneJob, IsStored, RefusesTrial, TakesTurns};
 
 use crate::refusal::Refusal;
-use crate::silence::{OpenGate, Silence};
+use crate::silence::Silence;
 use elf_load::image::Image;
 use recorder::MemSink;
 use rrv_model::refusal::Memory;
 use serial_sched::RoundRobin;
-use session::{GuestReport, Job, record_all};
+use session::{GuestReport, Job, OpenGate, record_all};
 use std::alloc::Global;
 use std::sync::Wait;
 use std::thread::Threads;

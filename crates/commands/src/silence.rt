@@ -3,7 +3,6 @@
 ghost use Rattle.commands.specs.Silent.{IsSilent};
 
 use guest_calls::Outside;
-use session::Gate;
 
 /// An environment with no input, zero bytes for random ones, and the moment (0, 0).
 #[derive(Drop)]
@@ -23,16 +22,4 @@ impl Outside for Silence {
     fn now(&mut self, _clock: u32) -> (u64, u32) {
         (0, 0)
     }
-}
-
-/// A gate that lets every step be made.
-#[derive(Drop)]
-pub(crate) struct OpenGate;
-
-impl Gate for OpenGate {
-    fn may_step(&self, _guest: u32) -> bool {
-        true
-    }
-
-    fn submitted(&self, _guest: u32, _frames: u32) {}
 }

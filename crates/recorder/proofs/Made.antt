@@ -66,6 +66,9 @@ keeps_released a b word looks same = record {
   here = ap (λ (q : RecorderValue). q.has_left) looks;
 }
 
+pub looks_once : (a b c : GuestRecorder) (word : ℕ) → SendsSome a b → c.seat ≡ after_look b.seat word → c.seat.looks ≡ a.seat.looks + 1
+looks_once a b c word sends looks = ap (λ (q : RecorderValue). q.looks) looks ∙ ap (λ (q : RecorderValue). q.looks + 1) sends.seat
+
 pub put_stays : (a b : GuestRecorder) → SendsSome a b → (out : List (ℕ × ℕ)) → HasPut a out → HasPut b out
 put_stays a b h out p = record {
   each = λ k le within.

@@ -141,6 +141,11 @@ pub record PutsCounted {S : Type 0} (tells : S → Type 0) (taken : S → List (
   pub has_put : (out : List (ℕ × ℕ)) → HasPut old out → HasPut new (out ++ put)
   pub counted : count ≡ count_of put
 
+-- only the sink refuses a release
+abbrev pub RefusesRelease : RecorderFault → ℕ → ℕ → Type 0
+RefusesRelease (faults.SinkFailed taken) old new = HasFailed old new
+RefusesRelease _ old new = ⊥
+
 -- why a settling recorder isn't settled: it knows of a halt, or the sink refused; the sink's failures rise by that alone
 abbrev pub RefusesSettle : GuestRecorder → RecorderFault → ℕ → ℕ → Type 0
 RefusesSettle r faults.Halted old new = (r.seat.knows_halt ≡ true) × (new ≡ old)

@@ -1,6 +1,6 @@
 -- Calls of a recorder drive it.
 use Rattle.std.proofs.Common.{◌≡◌, ◌↔◌, ℕ, ◌-◌, List, [], ◌∷◌, ◌++◌, length, take, refl, sym, ap, ◌∙◌, subst, arith, append_assoc}
-use Rattle.std.specs.Prelude.{Result}
+use Rattle.std.specs.Prelude.{Result, Err}
 use Rattle.std.proofs.lemmas.List.{append-nil}
 use Rattle.rrv_model.specs.declared.record.Choice.{Choice}
 use Rattle.rrv_model.specs.declared.record.Record.{Record}
@@ -10,6 +10,7 @@ use Rattle.guest_calls.specs.Guest.{state_of}
 use Rattle.serial_sched.specs.Asking.{Gives}
 use Rattle.commit_group.specs.Seats.{RecorderValue}
 use Rattle.recorder.specs.declared.fault.RecorderFault.{RecorderFault}
+use Rattle.recorder.specs.declared.fault.RecorderFault.TheVariants as faults
 use Rattle.commit_core.specs.Runs.{ItemsPut}
 use Rattle.rrv_model.specs.Recording.{items_of}
 use Rattle.recorder.specs.Owed.{joined}
@@ -110,3 +111,8 @@ drives_both sinks a b c s t u g h = record {
 -- the sink stays
 pub drives_still : {S : Type 0} (sinks : Sinks S) (a b : GuestRecorder) (s : S) → GoesOn a b [] → Drives sinks a b s s
 drives_still sinks a b s h = record { put = []; takes = λ t. sym (append-nil (sinks.taken s)); goes = h; tells = ((λ t. t), (λ t. t)) }
+
+-- ---- halts
+
+pub halted_is : (fault : RecorderFault) → (r : Result (Unit {0}) RecorderFault) → r ≡ Err fault → r ≡ Err faults.Halted → fault ≡ faults.Halted
+halted_is fault r is e = cc

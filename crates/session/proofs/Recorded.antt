@@ -214,7 +214,7 @@ module _ {C O S : Type 0} (choosers : Choosers C) (sinks : Sinks S) (f : Flusher
   finished_one old new place w e none all here room =
       let own : of_guest (first + new.seat.guest) f.committed ≡ renumbered first new.seat.sent = e.own ∙ ap (λ l. renumbered first l) (ap (λ n. take n new.seat.sent) (e.all all) ∙ take_all new.seat.sent) in
       let finished : HasFinished choosers w.put new = elim (w.finished none) [
-        | inl halted ↦ absurd (true_is_not_false (sym (e.halt halted) ∙ here))
+        | inl stopped ↦ absurd (true_is_not_false (sym (e.halt stopped.knows) ∙ here))
         | inr done ↦ done
       ] in record {
         number_is = refl;

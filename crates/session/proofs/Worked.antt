@@ -1,5 +1,5 @@
 -- What a worker gives back.
-use Rattle.std.proofs.Common.{◌≡◌, ◌⊎◌, inl, inr, ℕ, ◌≤◌, List, [], ◌∷◌, ◌++◌, length, take, None, Option, Some, true, true≢false, refl, sym, ap, ◌∙◌, subst, arith}
+use Rattle.std.proofs.Common.{◌≡◌, ◌⊎◌, inl, inr, ℕ, ◌+◌, ◌-◌, ◌≤◌, List, [], ◌∷◌, ◌++◌, length, length-append, take, None, Option, Some, true, true≢false, refl, sym, ap, ◌∙◌, subst, arith}
 use Rattle.std.proofs.lemmas.List.{append-nil, take-append-le, take_all}
 use Rattle.std.specs.Prelude.{IsSome}
 use Rattle.rrv_model.specs.declared.record.Item.{Item}
@@ -19,6 +19,7 @@ use Rattle.guest_calls.specs.Guest.{state_of}
 use Rattle.commit_core.specs.Runs.{IsOutput, ItemsPut}
 use Rattle.commit_group.specs.Seats.{RecorderValue}
 use Rattle.recorder.specs.Recorded.{IsNoPart, IsRecorded, opening_of}
+use Rattle.recorder.specs.Owed.{Owed, joined, left_of}
 use Rattle.recorder.specs.Recorders.{GuestRecorder, IsSettled, made}
 use Rattle.recorder.proofs.Released.{output_is_durable, settled_has_put_all}
 use Rattle.session.specs.declared.fault.SessionFault.{SessionFault}
@@ -27,8 +28,13 @@ use Rattle.session.specs.declared.job.Job.{Job}
 use Rattle.session.specs.declared.task.Task.{Task}
 use Rattle.session.specs.declared.task.Worked.{Worked}
 use Rattle.session.proofs.Works.{no_fault, none_put}
-use Rattle.session.specs.Drives.{Drives, IsDone, IsDriven, IsOver, LeavesWith}
-use Rattle.session.specs.Works.{AreMet, Choosers, HasFinished, HasWorked, IsBegun, IsRecordedFrom, IsSameJob, Sinks, opening_for}
+use Rattle.session.specs.Drives.{Drives, HasHalted, IsDone, IsDriven, IsOver, LeavesWith}
+use Rattle.session.specs.Works.{AreMet, Choosers, HasFinished, HasStopped, HasWorked, IsBegun, IsRecordedFrom, IsSameJob, Sinks, opening_for}
+
+none_left : (o : Owed) (k : ℕ) → k ≤ o.released → left_of o k ≡ []
+none_left o k low =
+    let none : k - o.released ≡ 0 = omega arith in
+    ap (λ (n : ℕ). joined (take n o.owed)) none
 
 -- ---- the front of a recording
 
@@ -123,12 +129,26 @@ module _ {C O S : Type 0} (choosers : Choosers C) (sinks : Sinks S) (old new : G
       goes_on none (inr (inl done)) = inl done
       goes_on none (inr (inr many)) = inr (sym (ap length (ap (λ (l : List Record). new.seat.sent ++ l) settled.sent ∙ append-nil new.seat.sent)) ∙ many)
 
+  pub stopped : (end : Option GuestEnd) (fault : Option SessionFault) → HasHalted new → HasStopped drives.put (record { seat = seat; job = job'; end = end; fault = fault })
+  stopped end fault halted =
+      let size : length (made new) ≡ length new.seat.sent + length new.backlog = length-append new.seat.sent new.backlog in
+      let h = driven.has_put.each new.seat.seen (omega arith) (omega arith) in
+      record {
+        knows = halted.knows;
+        output = (
+          h.0,
+          subst (λ (l : List Record). ItemsPut (items_of l) h.0) (take-append-le new.seat.seen new.seat.sent new.backlog low) h.1,
+          sym (append-nil drives.put) ∙ ap (λ (l : List (ℕ × ℕ)). drives.put ++ l) (sym (none_left new.owed new.seat.seen halted.left)) ∙ h.2,
+        );
+      }
+
   pub has_worked : (end : Option GuestEnd) (fault : Option SessionFault) → AreMet new.seat.guest fault
-      → (fault ≡ None → (new.seat.knows_halt ≡ true) ⊎ HasFinished choosers drives.put (record { seat = seat; job = job'; end = end; fault = fault }))
+      → (fault ≡ None → HasStopped drives.put (record { seat = seat; job = job'; end = end; fault = fault }) ⊎ HasFinished choosers drives.put (record { seat = seat; job = job'; end = end; fault = fault }))
       → HasWorked choosers sinks (record { seat = old.seat; job = job }) (record { seat = seat; job = job'; end = end; fault = fault })
   has_worked end fault met done = record {
     group = drives.goes.group;
     guest = drives.goes.guest;
+    left = refl;
     job = same;
     sent = begun_front opening new.seat.guest new.seat.sent new.backlog (state_of new.guest) driven.recorded;
     put = drives.put;
@@ -138,9 +158,13 @@ module _ {C O S : Type 0} (choosers : Choosers C) (sinks : Sinks S) (old new : G
     finished = done;
   }
 
+-- what leaves of a recorder
+abbrev pub left_with : {C O S : Type 0} → GuestRecorder → Job C O S → Option SessionFault → Worked C O S
+left_with r job fault = record { seat = record r.seat { has_left = true }; job = job; end = (state_of r.guest).ended; fault = fault }
+
 pub worked : {C O S : Type 0} (choosers : Choosers C) (sinks : Sinks S) (guest : ℕ) (seat : RecorderValue) (old new : GuestRecorder) (job job' : Job C O S) (fault : Option SessionFault) (worked : Worked C O S)
     → guest ≡ seat.guest → old.seat ≡ seat → IsDriven (opening_for seat.guest job) old [] → Drives sinks old new job.sink job'.sink → IsSameJob job job' → AreMet guest fault
-    → (fault ≡ None → (new.seat.knows_halt ≡ true) ⊎ IsDone choosers new job'.chooser) → LeavesWith new job' fault worked
+    → (fault ≡ None → HasHalted new ⊎ IsDone choosers new job'.chooser) → LeavesWith new job' fault worked
     → HasWorked choosers sinks (record { seat = seat; job = job }) worked
 worked {C = C} {O = O} {S = S} choosers sinks guest seat old new job job' fault out place same_seat begun drives same met done leaves =
     let begun' : IsDriven (opening_for old.seat.guest job) old [] = subst (λ (q : RecorderValue). IsDriven (opening_for q.guest job) old []) (sym same_seat) begun in
@@ -150,10 +174,12 @@ worked {C = C} {O = O} {S = S} choosers sinks guest seat old new job job' fault 
     subst (λ (x : RecorderValue × Worked C O S). HasWorked choosers sinks (record { seat = x.0; job = job }) x.1) (λ i. (same_seat i, sym leaves.is i))
     (has_worked choosers sinks old new job job' begun' drives same low end fault met' (λ none. finish (done none)))
   where
-    finish : (new.seat.knows_halt ≡ true) ⊎ IsDone choosers new job'.chooser
-        → (new.seat.knows_halt ≡ true) ⊎ HasFinished choosers drives.put (record { seat = record new.seat { has_left = true }; job = job'; end = (state_of new.guest).ended; fault = fault })
-    finish (inl halted) = inl halted
-    finish (inr done) = inr (finished choosers sinks old new job job' (subst (λ (q : RecorderValue). IsDriven (opening_for q.guest job) old []) (sym same_seat) begun) drives same leaves.seen (state_of new.guest).ended fault refl done.settled done.over)
+    begun_here : IsDriven (opening_for old.seat.guest job) old []
+    begun_here = subst (λ (q : RecorderValue). IsDriven (opening_for q.guest job) old []) (sym same_seat) begun
+
+    finish : HasHalted new ⊎ IsDone choosers new job'.chooser → HasStopped drives.put (left_with new job' fault) ⊎ HasFinished choosers drives.put (left_with new job' fault)
+    finish (inl halted) = inl (stopped choosers sinks old new job job' begun_here drives same leaves.seen (state_of new.guest).ended fault halted)
+    finish (inr done) = inr (finished choosers sinks old new job job' begun_here drives same leaves.seen (state_of new.guest).ended fault refl done.settled done.over)
 
 -- a worker that found no memory for its recorder
 pub worked_none : {C O S : Type 0} (choosers : Choosers C) (sinks : Sinks S) (task : Task C O S) (seat : RecorderValue) → seat ≡ record task.seat { has_left = true } → task.seat.sent ≡ []
@@ -163,6 +189,7 @@ worked_none choosers sinks task seat is none =
     record {
       group = ap (λ (q : RecorderValue). q.group) is;
       guest = ap (λ (q : RecorderValue). q.guest) is;
+      left = ap (λ (q : RecorderValue). q.has_left) is;
       job = record { elf = refl; name = refl; random = refl };
       sent = inl sent;
       put = [];

@@ -1,13 +1,16 @@
 -- How a worker drives its guest's recorder.
-use Rattle.std.specs.Prelude.{◌≡◌, ◌⊎◌, ◌↔◌, ℕ, ◌≤◌, true, Option, List, ◌++◌, length, IsSome}
+use Rattle.std.specs.Prelude.{◌≡◌, ◌⊎◌, ◌↔◌, ℕ, ◌+◌, ◌≤◌, true, Option, None, Some, List, [], ◌++◌, length, IsSome}
 use Rattle.rrv_model.specs.declared.record.Record.{Record}
 use Rattle.guest_calls.specs.Guest.{state_of}
 use Rattle.recorder.specs.declared.fault.RecorderFault.{RecorderFault}
 use Rattle.recorder.specs.declared.fault.RecorderFault.TheVariants as faults
 use Rattle.recorder.specs.Recorders.{GuestRecorder, HasPut, IsSettled, made}
 use Rattle.session.specs.declared.fault.SessionFault.{SessionFault}
+use Rattle.session.specs.declared.fault.SessionFault.TheVariants as session_faults
 use Rattle.session.specs.declared.job.Job.{Job}
 use Rattle.session.specs.declared.task.Worked.{Worked}
+use Rattle.session.specs.declared.rounds.Turn.{Turn}
+use Rattle.session.specs.declared.rounds.Turn.TheVariants as turns
 use Rattle.session.specs.declared.rounds.WorkFault.{WorkFault}
 use Rattle.session.specs.declared.rounds.WorkFault.TheVariants as work_faults
 use Rattle.session.specs.Works.{Choosers, IsRecordedFrom, Sinks, Takes}
@@ -35,9 +38,21 @@ abbrev pub IsOver : {C : Type 0} → Choosers C → GuestRecorder → C → Type
 IsOver choosers r chooser =
     IsSome (state_of r.guest).ended ⊎ (choosers.is_done chooser ⊎ (length (made r) ≡ 4294967295))
 
--- a recorder that found a halt knows of it
-abbrev pub KnowsHalt : GuestRecorder → RecorderFault → Type 0
-KnowsHalt r fault = fault ≡ faults.Halted → r.seat.knows_halt ≡ true
+-- it knows of a halt, and all output that was seen to be durable has left
+pub record HasHalted (r : GuestRecorder) : Type 0 where
+  pub knows : r.seat.knows_halt ≡ true
+  pub left : r.seat.seen ≤ r.owed.released
+
+-- all that was made is sent, or it knows of a halt
+abbrev pub HasSent : GuestRecorder → Type 0
+HasSent r = (r.backlog ≡ []) ⊎ (r.seat.knows_halt ≡ true)
+
+-- how often in a row the gate refused a step, behind this turn
+abbrev pub next_held : Turn → ℕ → ℕ
+next_held turns.Stepped held = 0
+next_held turns.Held held = held + 1
+next_held turns.Waits held = held
+next_held turns.Over held = 0
 
 -- how a worker tells why its recorder didn't go on
 abbrev pub work_told : RecorderFault → WorkFault
@@ -48,6 +63,13 @@ work_told faults.Memory = work_faults.Memory
 work_told (faults.Refused fault) = work_faults.Memory
 work_told faults.TooManyRecords = work_faults.Memory
 work_told faults.BadOpening = work_faults.Memory
+
+-- what a session tells of a worker's fault; of a halt the flusher tells
+abbrev pub fault_told : ℕ → WorkFault → Option SessionFault
+fault_told guest work_faults.Halted = None
+fault_told guest work_faults.SinkFailed = Some (session_faults.SinkFailed guest)
+fault_told guest work_faults.Held = Some (session_faults.Held guest)
+fault_told guest work_faults.Memory = Some session_faults.Memory
 
 -- ---- the end of a worker
 

@@ -86,17 +86,23 @@ pub record HasFinished {C O S : Type 0} (choosers : Choosers C) (put : List (ℕ
   pub seen : new.seat.seen ≡ length new.seat.sent
   pub whole : IsToItsEnd choosers (opening_for new.seat.guest new.job) new.seat.guest new.seat.sent put new.end new.job
 
--- The seat and the job are the same. What was sent is nothing, or a recording of the job's opening. The sink took a
+-- it found the group halted, and all output of the records that it saw to be durable has left
+pub record HasStopped {C O S : Type 0} (put : List (ℕ × ℕ)) (new : Worked C O S) : Type 0 where
+  pub knows : new.seat.knows_halt ≡ true
+  pub output : IsAllOutput put (take new.seat.seen new.seat.sent)
+
+-- The seat and the job are the same, and the seat has left. What was sent is nothing, or a recording of the job's opening. The sink took a
 -- beginning of the output of those records that were seen to be durable. The guest is recorded to its end, unless the
 -- worker met a fault or found the group halted.
 pub record HasWorked {C O S : Type 0} (choosers : Choosers C) (sinks : Sinks S)
     (old : Task C O S) (new : Worked C O S) : Type 0 where
   pub group : new.seat.group ≡ old.seat.group
   pub guest : new.seat.guest ≡ old.seat.guest
+  pub left : new.seat.has_left ≡ true
   pub job : IsSameJob old.job new.job
   pub sent : IsBegun (opening_for new.seat.guest new.job) new.seat.guest new.seat.sent
   pub put : List (ℕ × ℕ)
   pub takes : Takes sinks old.job.sink new.job.sink put
   pub output : IsOutput put (take new.seat.seen new.seat.sent)
   pub faults : AreMet new.seat.guest new.fault
-  pub finished : new.fault ≡ None → (new.seat.knows_halt ≡ true) ⊎ HasFinished choosers put new
+  pub finished : new.fault ≡ None → HasStopped put new ⊎ HasFinished choosers put new

@@ -8,3 +8,15 @@ pub trait Gate {
     /// The guest's worker has sent so many frames. It tells this after each frame that it sent.
     fn submitted(&self, guest: u32, frames: u32);
 }
+
+/// A gate that lets every step be made.
+#[derive(Clone, Copy, Debug, Drop)]
+pub struct OpenGate;
+
+impl Gate for OpenGate {
+    fn may_step(&self, _guest: u32) -> bool {
+        true
+    }
+
+    fn submitted(&self, _guest: u32, _frames: u32) {}
+}

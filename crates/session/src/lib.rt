@@ -10,6 +10,8 @@ mod hand_over;
 mod job;
 mod lowest;
 mod opening;
+mod pace;
+mod place;
 mod report;
 mod room;
 mod rounds;
@@ -21,7 +23,7 @@ mod work;
 mod worker;
 
 pub use fault::SessionFault;
-pub use gate::Gate;
+pub use gate::{Gate, OpenGate};
 pub use job::Job;
 pub use report::{GuestReport, SessionReport};
 pub use session::record_all;

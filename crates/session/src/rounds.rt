@@ -1,11 +1,12 @@
 //! The rounds of a worker: it sends and releases what it can, and makes a frame where the gate lets it.
 
-ghost use Rattle.std.specs.Prelude.{◌≡◌, ◌≢◌, ◌<◌, [], true, Err, IfErr, IfOk, None, OnOk};
+ghost use Rattle.std.specs.Prelude.{◌≡◌, ◌≢◌, ◌↔◌, ◌<◌, [], true, Err, IfErr, IfOk, IsTrue, None, OnOk};
 ghost use Rattle.recorder.specs.Recorders.{IsSettled};
-ghost use Rattle.session.specs.Drives.{Drives, GoesOn, IsOver, KnowsHalt, work_told};
+ghost use Rattle.session.specs.Drives.{Drives, GoesOn, HasHalted, HasSent, IsOver, next_held, work_told};
 ghost use Rattle.session.specs.declared.rounds.WorkFault.TheVariants as work_faults;
 
 use crate::gate::Gate;
+use crate::place::Place;
 use guest_calls::{Guest, Outside};
 use recorder::{Recorder, RecorderFault};
 use rrv_model::limits::MIN_QUANTUM;
@@ -82,7 +83,7 @@ fn choose<C: Chooser>(
     let runnable = guest.running(alloc)?;
     if runnable.is_empty() {
         return Ok(Some(Choice {
-            tid: 0,
+            tid: 1,
             quantum: MIN_QUANTUM,
         }));
     }
@@ -91,7 +92,7 @@ fn choose<C: Chooser>(
 
 /// Tests whether there is no frame to make.
 fn is_over<C: Chooser>(recorder: &Recorder, chooser: &C) -> bool
-    ensures { result ≡ true → IsOver C.Chooser recorder.now chooser.now }
+    ensures { IsTrue result ↔ IsOver C.Chooser recorder.now chooser.now }
 {
     recorder.guest().ended().is_some() || chooser.done() || recorder.made() == u32::MAX
 }
@@ -102,8 +103,7 @@ fn take_turn<C: Chooser, O: Outside, G: Gate>(
     recorder: &mut Recorder,
     chooser: &mut C,
     outside: &mut O,
-    gate: &G,
-    guest: u32,
+    place: &Place<G>,
 ) -> Result<Turn, WorkFault>
     ensures goes { GoesOn recorder.old recorder.new [] }
     ensures over { IfOk result (λ turn. turn ≡ Turn.Over → IsOver C.Chooser recorder.new chooser.new) }
@@ -115,7 +115,7 @@ fn take_turn<C: Chooser, O: Outside, G: Gate>(
     if is_over(recorder, chooser) {
         return Ok(Turn::Over);
     }
-    if !gate.may_step(guest) {
+    if !place.may_step() {
         return Ok(Turn::Held);
     }
     let Some(choice) = choose(alloc, recorder.guest(), chooser)? else {
@@ -125,45 +125,42 @@ fn take_turn<C: Chooser, O: Outside, G: Gate>(
     Ok(Turn::Stepped)
 }
 
-/// Sends what waits, as long as the queue has room, and tells the gate of a frame that it sent.
+/// Sends what waits, as long as the queue has room, and tells what it sent.
 fn send<G: Gate, R: Wait>(
     rt: &R,
     recorder: &mut Recorder,
-    gate: &G,
-    guest: u32,
+    place: &Place<G>,
 ) -> Result<(), RecorderFault>
     ensures goes { GoesOn recorder.old recorder.new [] }
     ensures halted { IfErr result (λ _. recorder.new.seat.knows_halt ≡ true) }
 {
     let before = recorder.sent();
     let result = recorder.send(rt);
-    let sent = recorder.sent();
-    if before < sent && 1 < sent {
-        gate.submitted(guest, sent - 1);
-    }
+    place.tell_sent(before, recorder.sent());
     result
 }
 
-/// Sends what it can, and puts out what may leave.
+/// Sends what it can, and puts out what may leave, also where the flusher has halted.
 fn send_and_release<S: Sink, G: Gate, R: Wait>(
     rt: &R,
     recorder: &mut Recorder,
     sink: &mut S,
-    gate: &G,
-    guest: u32,
+    place: &Place<G>,
 ) -> Result<(), RecorderFault>
     ensures drives { Drives S.Sink recorder.old recorder.new sink.old sink.new }
-    ensures halted { IfErr result (KnowsHalt recorder.new) }
+    ensures halted { result ≡ Err RecorderFault.Halted → HasHalted recorder.new }
 {
-    send(rt, recorder, gate, guest)?;
-    recorder.release(rt, sink)
+    let sent = send(rt, recorder, place);
+    recorder.release(rt, sink)?;
+    sent
 }
 
 /// Lets others run where no frame was made. It answers how often in a row the gate has refused.
 fn rest(turn: Turn, held: u32) -> Result<u32, WorkFault>
     requires { held < 10_000_000 }
-    ensures held { IfOk result (λ held. held < 10_000_000) }
-    ensures refused { IfErr result (λ e. e ≡ WorkFault.Held) }
+    ensures few { IfOk result (λ count. count < 10_000_000) }
+    ensures held { IfOk result (λ count. count ≡ next_held turn held) }
+    ensures refused { IfErr result (λ e. (e ≡ WorkFault.Held) × (next_held turn held ≡ 10_000_000)) }
 {
     match turn {
         Turn::Stepped | Turn::Over => Ok(0),
@@ -187,17 +184,16 @@ fn make_frames<C: Chooser, O: Outside, S: Sink, G: Gate, R: Wait>(
     chooser: &mut C,
     outside: &mut O,
     sink: &mut S,
-    gate: &G,
-    guest: u32,
+    place: &Place<G>,
 ) -> Result<(), WorkFault>
     ensures drives { Drives S.Sink recorder.old recorder.new sink.old sink.new }
     ensures over { OnOk result (IsOver C.Chooser recorder.new chooser.new) }
-    ensures halted { result ≡ Err WorkFault.Halted → recorder.new.seat.knows_halt ≡ true }
+    ensures halted { result ≡ Err WorkFault.Halted → HasHalted recorder.new }
 {
     let mut held = 0;
     for _ in rt.forever() {
-        send_and_release(rt, recorder, sink, gate, guest)?;
-        let turn = take_turn(alloc, recorder, chooser, outside, gate, guest)?;
+        send_and_release(rt, recorder, sink, place)?;
+        let turn = take_turn(alloc, recorder, chooser, outside, place)?;
         if turn == Turn::Over {
             return Ok(());
         }
@@ -214,25 +210,26 @@ pub(crate) fn drive<C: Chooser, O: Outside, S: Sink, G: Gate, R: Wait>(
     chooser: &mut C,
     outside: &mut O,
     sink: &mut S,
-    gate: &G,
-    guest: u32,
+    place: &Place<G>,
 ) -> Result<(), WorkFault>
     ensures drives { Drives S.Sink recorder.old recorder.new sink.old sink.new }
     ensures over { OnOk result (IsOver C.Chooser recorder.new chooser.new) }
     ensures settled { OnOk result (IsSettled recorder.new) }
-    ensures halted { result ≡ Err WorkFault.Halted → recorder.new.seat.knows_halt ≡ true }
+    ensures halted { result ≡ Err WorkFault.Halted → HasHalted recorder.new }
 {
-    make_frames(rt, alloc, recorder, chooser, outside, sink, gate, guest)?;
+    make_frames(rt, alloc, recorder, chooser, outside, sink, place)?;
+    place.pace.hurry();
     recorder.settle(rt, sink)?;
     Ok(())
 }
 
 /// Sends what waits, while that may be.
-pub(crate) fn send_rest<G: Gate, R: Wait>(rt: &R, recorder: &mut Recorder, gate: &G, guest: u32)
-    ensures { GoesOn recorder.old recorder.new [] }
+pub(crate) fn send_rest<G: Gate, R: Wait>(rt: &R, recorder: &mut Recorder, place: &Place<G>)
+    ensures goes { GoesOn recorder.old recorder.new [] }
+    ensures rest { HasSent recorder.new }
 {
     for _ in rt.forever() {
-        if send(rt, recorder, gate, guest).is_err() || recorder.sent() == recorder.made() {
+        if send(rt, recorder, place).is_err() || recorder.sent() == recorder.made() {
             return;
         }
         thread::yield_now();

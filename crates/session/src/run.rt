@@ -9,6 +9,7 @@ ghost use Rattle.session.specs.Workers.{CanRun};
 
 use crate::flush::flush;
 use crate::gate::Gate;
+use crate::pace::Pace;
 use crate::start::start_all;
 use crate::task::{Task, Worked};
 use crate::worker::{Worker, finish_all};
@@ -50,6 +51,8 @@ pub(crate) fn run<
     ensures works { ArePairs (HasWorked C.Chooser S.Sink) tasks.items result.0.items }
     ensures flushed { HasFlushed D.Disk flusher result.1 log result.2 result.3 }
 {
+    let pace = Pace::new();
+    let pace = &pace;
     thread::scope(
         thread::scope_env(),
         rt,
@@ -67,8 +70,8 @@ pub(crate) fn run<
             let mut done = done;
             let mut flusher = flusher;
             let mut log = log;
-            start_all(scope, rt, alloc, tasks, &mut workers, gate, &mut flusher);
-            let flushed = flush(rt, alloc, &mut flusher, &mut log);
+            start_all(scope, rt, alloc, tasks, &mut workers, gate, pace, &mut flusher);
+            let flushed = flush(rt, alloc, &mut flusher, &mut log, pace);
             finish_all(rt, workers, &mut done);
             (done, flusher, log, flushed)
         },

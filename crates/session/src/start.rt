@@ -8,6 +8,7 @@ ghost use Rattle.session.specs.Works.{HasWorked, IsFresh};
 ghost use Rattle.session.specs.Workers.{WorksOn};
 
 use crate::gate::Gate;
+use crate::pace::Pace;
 use crate::task::{Begun, Task, Worked};
 use crate::work::work;
 use crate::worker::Worker;
@@ -35,6 +36,7 @@ pub(crate) fn start<
     alloc: Global,
     task: Task<C, O, S>,
     gate: &'s G,
+    pace: &'s Pace,
     flusher: &mut FlusherSeat,
 ) -> Worker<C, O, S>
     requires sync { IsSync R.row × IsSync G.row }
@@ -46,7 +48,7 @@ pub(crate) fn start<
     let job = move || -> Worked<C, O, S>
         requires { IsSync R.row × IsSync G.row × IsFresh task }
         ensures { HasWorked C.Chooser S.Sink task result }
-    { work(rt, alloc, task, gate) };
+    { work(rt, alloc, task, gate, pace) };
     match scope.spawn_with(promise, job) {
         Ok(handle) => Worker::Running(handle),
         Err(refused) => {
@@ -72,6 +74,7 @@ pub(crate) fn start_all<
     tasks: Vec<Task<C, O, S>>,
     workers: &mut Vec<Worker<C, O, S>>,
     gate: &'s G,
+    pace: &'s Pace,
     flusher: &mut FlusherSeat,
 )
     requires sync { IsSync R.row × IsSync G.row }
@@ -82,6 +85,6 @@ pub(crate) fn start_all<
     ensures same { flusher.new ≡ record flusher.old { halted = flusher.new.halted } }
 {
     for task in tasks {
-        workers.push_reserved(start(scope, rt, alloc, task, gate, flusher));
+        workers.push_reserved(start(scope, rt, alloc, task, gate, pace, flusher));
     }
 }

@@ -1,13 +1,15 @@
 //! What a worker does.
 
 ghost use Rattle.std.specs.Prelude.{◌≡◌, ◌⊎◌, [], true, IfErr, IfOk, None};
-ghost use Rattle.session.specs.Drives.{Drives, GoesOn, IsDone, IsDriven, LeavesWith};
+ghost use Rattle.session.specs.Drives.{Drives, GoesOn, HasHalted, HasSent, IsDone, IsDriven, LeavesWith, fault_told};
 ghost use Rattle.session.specs.Works.{AreMet, HasWorked, IsFresh, IsSameJob, opening_for};
 
 use crate::copying::copy_opening;
 use crate::fault::SessionFault;
 use crate::gate::Gate;
 use crate::job::Job;
+use crate::pace::Pace;
+use crate::place::Place;
 use crate::rounds::{WorkFault, drive, send_rest};
 use crate::task::{Task, Worked};
 use commit_group::RecorderSeat;
@@ -40,6 +42,7 @@ fn open<C: Chooser + Drop, O: Outside + Drop, S: Sink + Drop>(
 
 /// How a worker's fault is told. That the group has halted is none of its own.
 fn told(fault: WorkFault, guest: u32) -> Option<SessionFault>
+    ensures told { result ≡ fault_told guest fault }
     ensures met { AreMet guest result }
     ensures none { result ≡ None → fault ≡ WorkFault.Halted }
 {
@@ -55,17 +58,18 @@ fn told(fault: WorkFault, guest: u32) -> Option<SessionFault>
 fn end_early<G: Gate, R: Wait>(
     rt: &R,
     recorder: &mut Recorder,
-    gate: &G,
-    guest: u32,
+    place: &Place<G>,
     fault: WorkFault,
 ) -> Option<SessionFault>
     ensures goes { GoesOn recorder.old recorder.new [] }
-    ensures met { AreMet guest result }
+    ensures told { result ≡ fault_told place.now.guest fault }
+    ensures met { AreMet place.now.guest result }
     ensures none { result ≡ None → (fault ≡ WorkFault.Halted) × (recorder.new ≡ recorder.old) }
+    ensures rest { (result ≡ None) ⊎ HasSent recorder.new }
 {
-    match told(fault, guest) {
+    match told(fault, place.guest) {
         Some(fault) => {
-            send_rest(rt, recorder, gate, guest);
+            send_rest(rt, recorder, place);
             Some(fault)
         }
         None => None,
@@ -78,14 +82,13 @@ fn record<C: Chooser + Drop, O: Outside + Drop, S: Sink + Drop, G: Gate, R: Wait
     alloc: Global,
     recorder: &mut Recorder,
     job: &mut Job<C, O, S>,
-    gate: &G,
-    guest: u32,
+    place: &Place<G>,
 ) -> Option<SessionFault>
     ensures drives { Drives S.Sink recorder.old recorder.new job.old.sink job.new.sink }
     ensures job { IsSameJob job.old job.new }
-    ensures met { AreMet guest result }
-    ensures done { result ≡ None → (recorder.new.seat.knows_halt ≡ true)
-        ⊎ IsDone C.Chooser recorder.new job.new.chooser }
+    ensures met { AreMet place.now.guest result }
+    ensures done { result ≡ None → HasHalted recorder.new ⊎ IsDone C.Chooser recorder.new job.new.chooser }
+    ensures rest { HasSent recorder.new }
 {
     let driven = drive(
         rt,
@@ -94,12 +97,11 @@ fn record<C: Chooser + Drop, O: Outside + Drop, S: Sink + Drop, G: Gate, R: Wait
         &mut job.chooser,
         &mut job.outside,
         &mut job.sink,
-        gate,
-        guest,
+        place,
     );
     match driven {
         Ok(()) => None,
-        Err(fault) => end_early(rt, recorder, gate, guest, fault),
+        Err(fault) => end_early(rt, recorder, place, fault),
     }
 }
 
@@ -121,11 +123,12 @@ fn leave<C: Chooser + Drop, O: Outside + Drop, S: Sink + Drop>(
 }
 
 /// Records the job's guest to its end, and leaves.
-pub(crate) fn work<C: Chooser + Drop, O: Outside + Drop, S: Sink + Drop, G: Gate, R: Wait>(
+fn record_and_leave<C: Chooser + Drop, O: Outside + Drop, S: Sink + Drop, G: Gate, R: Wait>(
     rt: &R,
     alloc: Global,
     task: Task<C, O, S>,
     gate: &G,
+    pace: &Pace,
 ) -> Worked<C, O, S>
     requires { IsFresh task }
     ensures { HasWorked C.Chooser S.Sink task result }
@@ -134,7 +137,8 @@ pub(crate) fn work<C: Chooser + Drop, O: Outside + Drop, S: Sink + Drop, G: Gate
     let guest = seat.guest();
     match open(alloc, seat, &job) {
         Ok(mut recorder) => {
-            let fault = record(rt, alloc, &mut recorder, &mut job, gate, guest);
+            let place = Place { guest, gate, pace };
+            let fault = record(rt, alloc, &mut recorder, &mut job, &place);
             leave(recorder, job, fault)
         }
         Err(mut seat) => {
@@ -147,4 +151,20 @@ pub(crate) fn work<C: Chooser + Drop, O: Outside + Drop, S: Sink + Drop, G: Gate
             }
         }
     }
+}
+
+/// Records the job's guest to its end, leaves, and wakes the flusher.
+pub(crate) fn work<C: Chooser + Drop, O: Outside + Drop, S: Sink + Drop, G: Gate, R: Wait>(
+    rt: &R,
+    alloc: Global,
+    task: Task<C, O, S>,
+    gate: &G,
+    pace: &Pace,
+) -> Worked<C, O, S>
+    requires { IsFresh task }
+    ensures { HasWorked C.Chooser S.Sink task result }
+{
+    let worked = record_and_leave(rt, alloc, task, gate, pace);
+    pace.hurry();
+    worked
 }

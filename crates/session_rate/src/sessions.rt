@@ -2,7 +2,7 @@
 
 use recorder::MemSink;
 use serial_sched::RoundRobin;
-use session::{Gate, Job, SessionReport, record_all};
+use session::{Job, OpenGate, SessionReport, record_all};
 use std::alloc::Global;
 use std::sync::Wait;
 use std::thread::Threads;
@@ -20,18 +20,6 @@ pub struct Outcome {
     pub records: u64,
     /// How many bytes the store has.
     pub bytes: u64,
-}
-
-/// Lets every step be made.
-#[derive(Drop)]
-struct Open;
-
-impl Gate for Open {
-    fn may_step(&self, _guest: u32) -> bool {
-        true
-    }
-
-    fn submitted(&self, _guest: u32, _frames: u32) {}
 }
 
 /// So many guests of a file.
@@ -73,7 +61,7 @@ pub fn run_session<R: AllocGlobal + Threads + Wait + Sync>(
 ) -> Option<Outcome> {
     let alloc = rt.alloc();
     let log = Log::create(MemDisk::new(alloc)).ok()?;
-    let (log, _, result) = record_all(rt, alloc, log, jobs_of(alloc, elf, guests)?, &Open);
+    let (log, _, result) = record_all(rt, alloc, log, jobs_of(alloc, elf, guests)?, &OpenGate);
     let report = result.ok()?;
     Some(Outcome {
         guests: report.guests.len(),

@@ -8,7 +8,7 @@ use recover::{Lists, open};
 use replayer::{read_guest, replay};
 use rrv_model::machine::GuestEnd;
 use serial_sched::RoundRobin;
-use session::{Gate, GuestReport, Job, SessionFault, record_all};
+use session::{GuestReport, Job, OpenGate, SessionFault, record_all};
 use std::alloc::Global;
 use std::process::Abort;
 use std::sync::Wait;
@@ -18,18 +18,6 @@ use test_guests::files::{EXIT_FIVE, file_of};
 use test_guests::outsides::Nothing;
 use trace_disk::{Disk, FailOnce, MemDisk};
 use trace_log::Log;
-
-/// Lets every step be made.
-#[derive(Drop)]
-struct Open;
-
-impl Gate for Open {
-    fn may_step(&self, _guest: u32) -> bool {
-        true
-    }
-
-    fn submitted(&self, _guest: u32, _frames: u32) {}
-}
 
 /// Records a guest that exits with 5 in a session of its own, and answers the log, and what is reported of it or why
 /// nothing is.
@@ -49,7 +37,7 @@ where
         outside: Nothing,
         sink: MemSink::new(alloc),
     })?;
-    let (log, _, result) = record_all(rt, alloc, log, jobs, &Open);
+    let (log, _, result) = record_all(rt, alloc, log, jobs, &OpenGate);
     match result {
         Ok(report) => {
             let guest = report.guests.first().ok_or("no report")?;

@@ -1,10 +1,9 @@
 //! Sessions of two guests of which one call of the disk fails.
 
-use super::gates::Open;
 use super::jobs::{MemJob, begin_output, jobs};
 use super::same;
 use super::store::Store;
-use session::{SessionFault, record_all};
+use session::{OpenGate, SessionFault, record_all};
 use std::process::Abort;
 use std::sync::Wait;
 use std::test::Fail;
@@ -42,7 +41,7 @@ where
     let Ok(log) = Log::create(FailOnce::new(MemDisk::new(alloc), call)) else {
         return Ok(true);
     };
-    let (log, jobs, result) = record_all(rt, alloc, log, jobs(alloc, 2, TIMES)?, &Open);
+    let (log, jobs, result) = record_all(rt, alloc, log, jobs(alloc, 2, TIMES)?, &OpenGate);
     let mut store = Store::of(alloc, log.close().into_inner())?;
     let mut guest = 0u32;
     for job in &jobs {

@@ -3,18 +3,6 @@
 use session::Gate;
 use std::sync::atomic::{AtomicBool, AtomicU32, Ordering};
 
-/// Lets every step be made.
-#[derive(Drop)]
-pub(super) struct Open;
-
-impl Gate for Open {
-    fn may_step(&self, _guest: u32) -> bool {
-        true
-    }
-
-    fn submitted(&self, _guest: u32, _frames: u32) {}
-}
-
 /// Holds one guest until another has sent three frames.
 #[derive(Drop)]
 pub(super) struct Behind {

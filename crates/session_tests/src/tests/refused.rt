@@ -1,10 +1,9 @@
 //! Sessions that are refused before a guest starts.
 
-use super::gates::Open;
 use super::jobs::jobs;
 use super::same;
 use super::store::Store;
-use session::{SessionFault, record_all};
+use session::{OpenGate, SessionFault, record_all};
 use std::test::Fail;
 use trace_disk::MemDisk;
 use trace_log::Log;
@@ -14,7 +13,7 @@ use trace_log::Log;
 fn seventeen_guests_are_too_many(rt: HostRuntime) -> Result<(), Fail> {
     let alloc = rt.alloc();
     let log = Log::create(MemDisk::new(alloc)).ok().ok_or("not made")?;
-    let (_, back, result) = record_all(&rt, alloc, log, jobs(alloc, 17, 1)?, &Open);
+    let (_, back, result) = record_all(&rt, alloc, log, jobs(alloc, 17, 1)?, &OpenGate);
     same(&rt, &"back", back.len(), 17);
     same(
         &rt,
@@ -34,7 +33,7 @@ fn a_job_that_starts_no_guest(rt: HostRuntime) -> Result<(), Fail> {
     if let Some(job) = all.last_mut() {
         job.elf.truncate(40);
     }
-    let (log, _, result) = record_all(&rt, alloc, log, all, &Open);
+    let (log, _, result) = record_all(&rt, alloc, log, all, &OpenGate);
     same(
         &rt,
         &"bad",

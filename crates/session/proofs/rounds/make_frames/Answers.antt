@@ -20,5 +20,5 @@ returns-in_err-held-clause-drives g c =
 pub loop-preserved : goal.loop-preserved
 loop-preserved g c = record {
   drives = drives_both g.S.Sink _ _ _ _ _ _ (drives_both g.S.Sink _ _ _ _ _ _ c.loop.invariant.drives c.send_and_release.ensures.drives) (drives_still g.S.Sink _ _ _ c.take_turn.ensures.goes);
-  few = c.in_ok-held.ensures.held;
+  few = c.in_ok-held.ensures.few;
 }

@@ -1,9 +1,24 @@
+use Rattle.std.proofs.Common.{subst, sym, ◌∙◌}
+use Rattle.std.proofs.lemmas.Result.{err_from_is_err_and}
+use Rattle.recorder.specs.declared.fault.RecorderFault.TheVariants as faults
+use Rattle.recorder.specs.RecorderCalls.{RefusesRelease}
 use Rattle.recorder.proofs.Made.{keeps_released}
-use Rattle.session.proofs.Driven.{drives_both, drives_more, drives_still}
+use Rattle.session.proofs.Driven.{drives_both, drives_more, drives_still, halted_is}
 use Rattle.session.proofs.rounds.send_and_release.Goals as goal
+
+pub returns-in_err-release-clause-drives : goal.returns-in_err-release-clause-drives
+returns-in_err-release-clause-drives g c =
+    let r = c.release.ensures in
+    drives_both g.S.Sink _ _ _ _ _ _ (drives_still g.S.Sink _ _ _ c.send-sent.ensures.goes)
+    (drives_more g.S.Sink _ _ _ _ _ (keeps_released _ _ _ r.looks r.same) r.put r.tells)
 
 pub returns-clause-drives : goal.returns-clause-drives
 returns-clause-drives g c =
     let r = c.release.ensures in
-    drives_both g.S.Sink _ _ _ _ _ _ (drives_still g.S.Sink _ _ _ c.send.ensures.goes)
+    drives_both g.S.Sink _ _ _ _ _ _ (drives_still g.S.Sink _ _ _ c.send-sent.ensures.goes)
     (drives_more g.S.Sink _ _ _ _ _ (keeps_released _ _ _ r.looks r.same) r.put r.tells)
+
+pub returns-in_err-release-clause-halted : goal.returns-in_err-release-clause-halted
+returns-in_err-release-clause-halted g c e =
+    let p = err_from_is_err_and c.from_residual.result c.from_residual.ensures.1 in
+    absurd (subst (λ f. RefusesRelease f (g.S.Sink.faults c.args.sink.now) (g.S.Sink.faults c.release.new.sink)) {y = faults.Halted} (sym p.2 ∙ halted_is p.0 _ p.1 e) c.in_err-release.ensures.refused)

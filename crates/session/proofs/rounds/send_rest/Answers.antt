@@ -1,8 +1,8 @@
 use Rattle.session.proofs.Driven.{goes_both}
 use Rattle.session.proofs.rounds.send_rest.Goals as goal
 
-pub returns-then-is_err : goal.returns-then-is_err
-returns-then-is_err g c = goes_both _ _ _ _ _ c.loop.invariant.goes c.send.ensures.goes
+pub returns-then-is_err-clause-goes : goal.returns-then-is_err-clause-goes
+returns-then-is_err-clause-goes g c = goes_both _ _ _ _ _ c.loop.invariant.goes c.send.ensures.goes
 
 pub loop-preserved : goal.loop-preserved
 loop-preserved g c = record { goes = goes_both _ _ _ _ _ c.loop.invariant.goes c.send.ensures.goes }

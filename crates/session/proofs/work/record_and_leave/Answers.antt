@@ -1,7 +1,7 @@
 use Rattle.std.proofs.Common.{ap, ◌∙◌, true}
 use Rattle.commit_group.specs.Seats.{RecorderValue}
 use Rattle.session.proofs.Worked.{worked, worked_none}
-use Rattle.session.proofs.work.work.Goals as goal
+use Rattle.session.proofs.work.record_and_leave.Goals as goal
 
 pub returns-in-Err : goal.returns-in-Err
 returns-in-Err g c = worked_none g.C.Chooser g.S.Sink c.args.task c.leave-in-Err.new.self (c.leave-in-Err.ensures ∙ ap (λ (q : RecorderValue). record q { has_left = true }) c.in-Err.ensures.back) c.requires.sent

@@ -1,0 +1,29 @@
+//! A worker's place in its session.
+
+use crate::gate::Gate;
+use crate::pace::Pace;
+
+/// Which guest a worker records, told by its place among the jobs, and what it shares with the others.
+#[derive(Clone, Copy)]
+pub(crate) struct Place<'s, G: Gate> {
+    pub guest: u32,
+    pub gate: &'s G,
+    pub pace: &'s Pace,
+}
+
+impl<G: Gate> Place<'_, G> {
+    /// Whether the guest may step.
+    pub(crate) fn may_step(&self) -> bool {
+        self.gate.may_step(self.guest)
+    }
+
+    /// Tells the flusher of the records that were sent, and the gate of the frames among them. The first record is no frame.
+    pub(crate) fn tell_sent(&self, before: u32, sent: u32) {
+        if before < sent {
+            self.pace.sent(sent - before);
+            if 1 < sent {
+                self.gate.submitted(self.guest, sent - 1);
+            }
+        }
+    }
+}
