@@ -1,7 +1,12 @@
 -- Two lists side by side.
 use Rattle.std.proofs.Common.{◌≡◌, suc, List, [], ◌∷◌, ◌++◌, length, refl, sym, ap, ◌∙◌, subst, append_assoc, arith}
 use Rattle.std.proofs.lemmas.List.{append-nil}
+use Rattle.std.specs.Prelude.{true}
+use Rattle.std.specs.List.{AllByRecursion}
+use Rattle.commit_group.specs.Seats.{FlusherValue}
+use Rattle.session.specs.declared.worker.Worker.{Worker}
 use Rattle.session.specs.Pairs.{ArePairs}
+use Rattle.session.specs.Workers.{HaltsFor}
 
 pub pairs_push : {A B : Type 0} (P : A → B → Type 0) (xs : List A) (ys : List B) (x : A) (y : B) → ArePairs P xs ys → P x y → ArePairs P (xs ++ x ∷ []) (ys ++ y ∷ [])
 pairs_push P [] [] x y _ p = (p, tt)
@@ -43,3 +48,12 @@ pairs_length P [] [] _ = refl
 pairs_length P [] (b ∷ ys) all = elim all [ ]
 pairs_length P (a ∷ xs) [] all = elim all [ ]
 pairs_length P (a ∷ xs) (b ∷ ys) all = ap suc (pairs_length P xs ys all.1)
+
+-- ---- workers that no thread could be made for
+
+halts_more : {C O S : Type 0} (f g : FlusherValue) → (f.halted ≡ true → g.halted ≡ true) → (xs : List (Worker C O S)) (x : Worker C O S) → AllByRecursion (HaltsFor f) xs → HaltsFor g x → AllByRecursion (HaltsFor g) (xs ++ x ∷ [])
+halts_more f g stays [] x all here = (here, tt)
+halts_more f g stays (w ∷ xs) x all here = ((λ e. stays (all.0 e)), halts_more f g stays xs x all.1 here)
+
+pub halts_push : {C O S : Type 0} (f g : FlusherValue) → (f.halted ≡ true → g.halted ≡ true) → (xs ys : List (Worker C O S)) (x : Worker C O S) → ys ≡ xs ++ x ∷ [] → AllByRecursion (HaltsFor f) xs → HaltsFor g x → AllByRecursion (HaltsFor g) ys
+halts_push f g stays xs ys x is all here = subst (AllByRecursion (HaltsFor g)) (sym is) (halts_more f g stays xs x all here)

@@ -70,7 +70,16 @@ pub(crate) fn run<
             let mut done = done;
             let mut flusher = flusher;
             let mut log = log;
-            start_all(scope, rt, alloc, tasks, &mut workers, gate, pace, &mut flusher);
+            start_all(
+                scope,
+                rt,
+                alloc,
+                tasks,
+                &mut workers,
+                gate,
+                pace,
+                &mut flusher,
+            );
             let flushed = flush(rt, alloc, &mut flusher, &mut log, pace);
             finish_all(rt, workers, &mut done);
             (done, flusher, log, flushed)

@@ -1,11 +1,11 @@
 //! How the workers are started.
 
-ghost use Rattle.std.specs.Prelude.{◌≡◌, ◌≤◌, [], length, vec_capacity};
+ghost use Rattle.std.specs.Prelude.{◌≡◌, ◌≤◌, [], length, true, vec_capacity};
 ghost use Rattle.std.specs.List.{AllByRecursion};
 ghost use Rattle.std.specs.Thread.{IsSync};
 ghost use Rattle.session.specs.Pairs.{ArePairs};
 ghost use Rattle.session.specs.Works.{HasWorked, IsFresh};
-ghost use Rattle.session.specs.Workers.{WorksOn};
+ghost use Rattle.session.specs.Workers.{HaltsFor, WorksOn};
 
 use crate::gate::Gate;
 use crate::pace::Pace;
@@ -43,6 +43,8 @@ pub(crate) fn start<
     requires fresh { IsFresh task }
     ensures works { WorksOn C.Chooser S.Sink task result }
     ensures same { flusher.new ≡ record flusher.old { halted = flusher.new.halted } }
+    ensures halted { HaltsFor flusher.new result }
+    ensures stays { flusher.old.halted ≡ true → flusher.new.halted ≡ true }
 {
     let promise = Begun(Snapshot::of(&task));
     let job = move || -> Worked<C, O, S>
@@ -82,6 +84,7 @@ pub(crate) fn start_all<
     requires room { (workers.old.items ≡ []) × (length tasks.items ≤ vec_capacity workers.old) }
     ensures works { ArePairs (WorksOn C.Chooser S.Sink) tasks.items workers.new.items }
     ensures count { length workers.new.items ≡ length tasks.items }
+    ensures halted { AllByRecursion (HaltsFor flusher.new) workers.new.items }
     ensures same { flusher.new ≡ record flusher.old { halted = flusher.new.halted } }
 {
     for task in tasks {

@@ -4,7 +4,7 @@ use Rattle.std.specs.Vec.Iter.{into_iter_items}
 use Rattle.session.specs.Pairs.{ArePairs}
 use Rattle.session.specs.Works.{IsFresh}
 use Rattle.session.specs.Workers.{WorksOn}
-use Rattle.session.proofs.Pairs.{pairs_next, pairs_whole, pairs_length, none_left}
+use Rattle.session.proofs.Pairs.{halts_push, pairs_next, pairs_whole, pairs_length, none_left}
 use Rattle.session.proofs.start.start_all.Goals as goal
 
 pub loop-task-preserved : goal.loop-task-preserved
@@ -18,6 +18,7 @@ loop-task-preserved g c =
       fresh.1,
       search rules,
       search rules,
+      halts_push c.loop-task.flusher c.start.new.flusher c.start.ensures.stays c.loop-task.workers.items _ c.start.result c.push_reserved.ensures.items was.4 c.start.ensures.halted,
       search rules,
     )
 
