@@ -1,0 +1,67 @@
+-- Pages of a checkpoint, put into a memory one after the other: first those that it unmaps, then all others.
+use Rattle.std.specs.Prelude.{ℕ, ◌/◌, ◌%◌, ◌<◌, ◌==◌, nat_lt, if◌then◌else◌, List, [], ◌∷◌, Option, Some, None}
+use Rattle.std.specs.Int.{bit_at}
+use Rattle.rrv_model.specs.declared.limits.TheConstants.{MAX_PAGES}
+use Rattle.rrv_model.specs.declared.machine.Permissions.{Permissions}
+use Rattle.rrv_model.specs.declared.record.PagePart.{PagePart}
+use Rattle.rrv_model.specs.declared.record.Part.{Part}
+use Rattle.rrv_model.specs.CallRows.{with_memory}
+use Rattle.rrv_model.specs.Checkpoint.{line_byte, patched_byte}
+use Rattle.rrv_model.specs.Memory.{Memory, Cell, page_bytes, page_count}
+use Rattle.rrv_model.specs.State.{State}
+use Rattle.checkpoint.specs.declared.fault.ApplyFault.{ApplyFault}
+use Rattle.checkpoint.specs.declared.fault.ApplyFault.TheVariants as faults
+
+-- a cell of a page that the checkpoint unmaps is gone
+abbrev pub cleared_cell : Option Permissions → Option Cell → Option Cell
+cleared_cell None old = None
+cleared_cell (Some permissions) old = old
+
+abbrev pub cleared : PagePart → Memory → Memory
+cleared p m a = if p.number == a / page_bytes then cleared_cell p.permissions (m a) else m a
+
+-- a cell of a page that the checkpoint maps is what its entry says
+abbrev pub set_cell : PagePart → Option Permissions → Option Cell → ℕ → Option Cell
+set_cell p None old a = old
+set_cell p (Some permissions) old a = Some (record { byte = patched_byte p old (a % page_bytes); permissions = permissions })
+
+abbrev pub set : PagePart → Memory → Memory
+set p m a = if p.number == a / page_bytes then set_cell p p.permissions (m a) a else m a
+
+abbrev pub all_cleared : List PagePart → Memory → Memory
+all_cleared [] m = m
+all_cleared (p ∷ pages) m = all_cleared pages (cleared p m)
+
+abbrev pub all_set : List PagePart → Memory → Memory
+all_set [] m = m
+all_set (p ∷ pages) m = all_set pages (set p m)
+
+-- byte k of a page that has a line for it, or this one
+abbrev pub lined : PagePart → ℕ → ℕ → ℕ
+lined p old k = if bit_at p.mask (k / 64) == 1 then line_byte p (k / 64) (k % 64) else old
+
+-- so far as its lines below this one
+abbrev pub lined_below : ℕ → PagePart → ℕ → ℕ → ℕ
+lined_below line p old k = if nat_lt (k / 64) line then lined p old k else old
+
+-- a state with one page, or some, put into its memory
+abbrev pub with_all_cleared : List PagePart → State → State
+with_all_cleared pages s = with_memory (all_cleared pages s.memory) s
+
+abbrev pub with_all_set : List PagePart → State → State
+with_all_set pages s = with_memory (all_set pages s.memory) s
+
+-- so of all parts
+abbrev pub with_parts_cleared : List Part → State → State
+with_parts_cleared [] s = s
+with_parts_cleared (part ∷ parts) s = with_parts_cleared parts (with_all_cleared part.pages s)
+
+abbrev pub with_parts_set : List Part → State → State
+with_parts_set [] s = s
+with_parts_set (part ∷ parts) s = with_parts_set parts (with_all_set part.pages s)
+
+-- why pages are not set that a guest may have, where this memory would come of it
+abbrev pub RefusesPages : ApplyFault → Memory → Type 0
+RefusesPages faults.BadPart m = ⊥
+RefusesPages faults.TooManyPages m = MAX_PAGES < page_count m
+RefusesPages faults.Memory m = Unit {0}

@@ -1,0 +1,10 @@
+//! Checkpoints of a guest: parts that, put onto the state of their base, give the state that they were made of.
+#![tactic(auto)]
+
+mod applying;
+mod fault;
+mod fitting;
+mod pages;
+
+pub use applying::apply;
+pub use fault::ApplyFault;
