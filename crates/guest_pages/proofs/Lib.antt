@@ -2,6 +2,7 @@ pub mod Cells
 pub mod Stores
 pub mod Facts
 pub mod MissingPages
+pub mod NextPages
 pub mod Ranges
 pub mod SameMemory
 pub mod SnapshotPages

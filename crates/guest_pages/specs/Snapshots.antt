@@ -1,7 +1,7 @@
 -- What is read of a page, and what changed since a snapshot.
-use Rattle.std.specs.Prelude.{◌≡◌, ◌≢◌, ℕ, ◌+◌, ◌*◌, ◌/◌, ◌<◌, List, Option, Some, None, slice_index, Contains}
+use Rattle.std.specs.Prelude.{◌≡◌, ◌≢◌, ℕ, ◌+◌, ◌*◌, ◌/◌, ◌<◌, ◌≤◌, true, false, List, Option, Some, None, slice_index, Contains}
 use Rattle.std.specs.List.Sorted.{IsStrictlyIncreasing}
-use Rattle.rrv_model.specs.Memory.{Memory, page_bytes}
+use Rattle.rrv_model.specs.Memory.{Memory, is_mapped, page_bytes}
 use Rattle.guest_pages.specs.declared.page.PageView.{PageView}
 
 -- so is page n of this memory: its permissions and bytes, or nothing where it isn't mapped
@@ -9,6 +9,12 @@ abbrev pub IsPageOf : Memory → ℕ → Option PageView → Type 0
 IsPageOf m n None = (k : ℕ) → k < page_bytes → m (n * page_bytes + k) ≡ None
 IsPageOf m n (Some v) = (k : ℕ) → k < page_bytes →
     m (n * page_bytes + k) ≡ Some (record { byte = slice_index v.bytes.now k; permissions = v.permissions })
+
+-- the least mapped page from this number on
+abbrev pub IsNextPage : Memory → ℕ → Option ℕ → Type 0
+IsNextPage m least None = (q : ℕ) → least ≤ q → is_mapped m q ≡ false
+IsNextPage m least (Some n) =
+    (least ≤ n) × (is_mapped m n ≡ true) × ((q : ℕ) → least ≤ q → q < n → is_mapped m q ≡ false)
 
 -- two memories have the same at every address of page n
 abbrev pub SameOn : ℕ → Memory → Memory → Type 0

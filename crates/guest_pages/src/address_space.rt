@@ -6,14 +6,14 @@ ghost use Rattle.std.specs.Int.{w8, w16, w32, to_le_bytes};
 ghost use Rattle.rrv_model.specs.Memory.{all_free, all_mapped, byte_or_zero, bytes_at, highest_free_up_to, mapped, no_memory, page_bytes, protected, readable, unmapped, writable, all_cells, stored, page_count, is_mapped, IsMemory};
 ghost use Rattle.guest_pages.specs.Space.{memory_of, memory_in, snapshots_of, fetched_word, loaded_byte, loaded_half, loaded_word, cell_byte, page_at, page_passes, test_of, present, CanFill, IsLoadRefusal, IsStoreRefusal};
 ghost use Rattle.guest_pages.specs.Mapping.{IsMapRefusal, covered};
-ghost use Rattle.guest_pages.specs.Snapshots.{AreChanges, IsPageOf};
+ghost use Rattle.guest_pages.specs.Snapshots.{AreChanges, IsNextPage, IsPageOf};
 ghost use Rattle.guest_pages.specs.WholePages.{with_page, MayHave};
 
 use crate::fault::PageFault;
 use crate::mapping::{
     add_page, add_pages, all_there, clear_pages, count_missing, first_there, insert_page,
-    join_permissions, list_changed, list_missing, overwrite_page, protect_range, remove_number,
-    remove_range, same_pages, view_page,
+    join_permissions, list_changed, list_missing, next_there, overwrite_page, protect_range,
+    remove_number, remove_range, same_pages, view_page,
 };
 use crate::page::{
     Access, PageView, Pages, copy_bytes, half_at, put_byte, put_bytes, put_half, put_word, word_at,
@@ -594,12 +594,27 @@ impl Space {
         view_page(&self.pages, number)
     }
 
+    /// The least mapped page from a number on. It takes no memory.
+    pub fn next_page(&self, least: u32) -> Option<u32>
+        ensures { IsNextPage (memory_of self.now) least result }
+    {
+        next_there(&self.pages, least)
+    }
+
     /// A page as a live snapshot has it, as [`Space::page`] reads it.
     pub fn snapshot_page(&self, snapshot: &Snapshot, number: u32) -> Option<PageView<'_>>
         requires { IsSome (snapshots_of self.now snapshot.now) }
         ensures { IsSomeAnd (snapshots_of self.now snapshot.now) (λ before. IsPageOf before number result) }
     {
         view_page(self.kept(snapshot).pages(), number)
+    }
+
+    /// The least page from a number on that a live snapshot has mapped.
+    pub fn snapshot_next_page(&self, snapshot: &Snapshot, least: u32) -> Option<u32>
+        requires { IsSome (snapshots_of self.now snapshot.now) }
+        ensures { IsSomeAnd (snapshots_of self.now snapshot.now) (λ before. IsNextPage before least result) }
+    {
+        next_there(self.kept(snapshot).pages(), least)
     }
 
     /// What a live snapshot keeps.
