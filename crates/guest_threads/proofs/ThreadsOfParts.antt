@@ -1,15 +1,18 @@
 -- Threads that a list of parts tells.
-use Rattle.std.proofs.Common.{◌≡◌, ℕ, zero, suc, ◌+◌, ◌^◌, ◌<◌, ◌≤◌, ◌==◌, ◌&&◌, not, nat_lt, Bool, true, false, cond, List, [], ◌∷◌, length, map, find, slice_index, Option, Some, None, IfSome, All, Contains, refl, sym, ◌∙◌, ap, subst, arith}
+use Rattle.std.proofs.Common.{◌≡◌, ℕ, zero, suc, ◌+◌, ◌^◌, ◌<◌, ◌≤◌, ◌==◌, ◌&&◌, not, nat_lt, Bool, true, false, cond, List, [], ◌∷◌, length, map, find, slice_index, Option, Some, None, IfSome, IsSome, All, Contains, get_or, refl, sym, ◌∙◌, ap, subst, arith}
 use Rattle.std.proofs.lemmas.Bool.{false≢true, ltb-true, lt-ltb, and_parts, and_from, or_parts}
 use Rattle.std.proofs.lemmas.Bool.Decides.{Decides-eqb}
 use Rattle.std.proofs.lemmas.List.{length-map}
 use Rattle.std.proofs.lemmas.List.Elements.{All-contains, All-from_recursion, recursion_from_All, All-contains_itself}
-use Rattle.std.proofs.lemmas.Map.Keys.{sorted_from_strictly_increasing}
+use Rattle.std.proofs.lemmas.Map.Keys.{sorted_from_strictly_increasing, IsStrictlyIncreasing-from_sorted, IsDistinct-from_apart}
+use Rattle.std.proofs.lemmas.Map.Steps.{length-le_from_keys}
+use Rattle.std.proofs.lemmas.Map.Views.{Contains-from_any}
+use Rattle.std.specs.Cmp.{nat_cmp_total, eq_by_cmp_equiv}
 use Rattle.std.proofs.lemmas.Map.Made.{AllPairs-from_IsDistinct, IsDistinct-from_AllPairs}
 use Rattle.std.specs.List.{list_any, AllByRecursion, IsDistinct}
 use Rattle.std.specs.List.Sorted.{IsStrictlyIncreasing, IsStrictlySortedBy}
 use Rattle.std.specs.Option.{option_map}
-use Rattle.std.specs.Ordering.{nat_cmp}
+use Rattle.std.specs.Ordering.{nat_cmp, eq_by_cmp}
 use Rattle.std.specs.Map.{keys_of}
 use Rattle.std.specs.BTreeMap.{is_at}
 use Rattle.std.specs.FinMap.{get}
@@ -19,7 +22,7 @@ use Rattle.rrv_model.specs.State.{IsThread, IsWaiting}
 use Rattle.guest_threads.specs.Threads.{thread_map}
 use Rattle.guest_threads.specs.ThreadParts.{entries_of, tids_rise, waits_in, order_fits, Fits, MakeThreads}
 use Rattle.rrv_model.proofs.Threads.{is_at_nat}
-use Rattle.rrv_model.proofs.ThreadRules.{same_tid, tied}
+use Rattle.rrv_model.proofs.ThreadRules.{same_tid, tied, by_cmp, unequal}
 use Rattle.guest_threads.proofs.ByTid.{entry_at, get_thread, none_later, counted}
 
 -- ---- rising tids
@@ -50,6 +53,13 @@ keys_told (p ∷ parts) = ap (λ (ks : List ℕ). p.tid ∷ ks) (keys_told parts
 
 sorted_told : (parts : List ThreadPart) → IsStrictlyIncreasing (map (λ p. p.tid) parts) → IsStrictlySortedBy nat_cmp (keys_of (entries_of parts))
 sorted_told parts h = subst (λ (ks : List ℕ). IsStrictlySortedBy nat_cmp ks) (sym (keys_told parts)) (sorted_from_strictly_increasing _ h)
+
+-- the tids of entries that stand in order rise
+pub told_rising : (parts : List ThreadPart) (es : List (ℕ × Thread)) → entries_of parts ≡ es → IsStrictlySortedBy nat_cmp (keys_of es)
+    → IsStrictlyIncreasing (map (λ p. p.tid) parts)
+told_rising parts es told ordered =
+    let keys : keys_of es ≡ map (λ (p : ThreadPart). p.tid) parts = ap (λ (entries : List (ℕ × Thread)). keys_of entries) (sym told) ∙ keys_told parts in
+    subst (λ (ks : List ℕ). IsStrictlyIncreasing ks) keys (IsStrictlyIncreasing-from_sorted (keys_of es) ordered)
 
 -- ---- the threads by tid
 
@@ -197,3 +207,19 @@ module _ (parts : List ThreadPart) (order : List ℕ) (next : ℕ) (h : MakeThre
       (IsDistinct-from_AllPairs same_decides order h.rules.waiting_once) where
         all_named : (order : List ℕ) → ((q : ℕ) → Contains order q → IsWaiting (get (thread_map (entries_of parts)) q)) → All (λ q. IsWaiting (get (thread_map (entries_of parts)) q)) order
         all_named order f = λ k d l. f _ (All-contains_itself order k d l)
+
+  -- each waiting thread stands once in the order
+  pub few_wait : length order ≤ 16
+  few_wait =
+      let among : length order ≤ length (entries_of parts) =
+      length-le_from_keys (eq_by_cmp_equiv nat_cmp_total) order (entries_of parts) apart_by_cmp (λ q any.
+      is_there (entry_at (entries_of parts) q) (subst (λ (o : Option Thread). IsWaiting o) (get_thread (entries_of parts) q)
+      ((h.rules.waiting q).0 (Contains-from_any same_tid q order any)))) in
+      omega (arith, among, length-map parts (λ (p : ThreadPart). let e : ℕ × Thread = (p.tid, p.thread) in e), few) where
+        apart_by_cmp : IsDistinct (eq_by_cmp nat_cmp) order
+        apart_by_cmp = IsDistinct-from_apart (eq_by_cmp nat_cmp) order (λ i j d below inside.
+            by_cmp (get_or order i d) (get_or order j d) (unequal (get_or order i d) (get_or order j d) (h.rules.waiting_once i j d below inside)))
+
+        is_there : (o : Option Thread) → IsWaiting o → IsSome o
+        is_there None w = absurd w
+        is_there (Some t) w = refl

@@ -7,7 +7,7 @@ use Rattle.std.specs.FinMap.{get}
 use Rattle.std.specs.List.{AllByRecursion, IsDistinct}
 use Rattle.rrv_model.specs.declared.machine.Thread.{Thread}
 use Rattle.rrv_model.specs.State.{State}
-use Rattle.rrv_model.specs.CallRows.{change_thread, waits_at, waiters, woken, wakes, changed}
+use Rattle.rrv_model.specs.CallRows.{waits_at, waiters, woken, wakes}
 use Rattle.guest_threads.specs.Threads.{ThreadsValue, with_threads}
 use Rattle.rrv_model.proofs.ThreadRules.{woken_is, changed_at, get-changed, resumed, by_cmp, unequal}
 use lib.Seq.{take-nil}

@@ -1,8 +1,8 @@
 -- The threads of a guest: by tid, with the waiting order and the next tid.
-use Rattle.std.specs.Prelude.{◌≢◌, ◌↔◌, ℕ, ◌+◌, ◌-◌, ◌^◌, ◌<◌, ◌≤◌, Bool, ◌||◌, nat_lt, nat_le, is_none, IsTrue, List, filter, Option, Some, None, IfSome, Contains, AllPairs}
+use Rattle.std.specs.Prelude.{ℕ, ◌+◌, ◌-◌, ◌^◌, Bool, ◌||◌, nat_lt, nat_le, is_none, IsTrue, List, filter, Option, None}
 use Rattle.std.specs.Map.{keys_of}
 use Rattle.std.specs.Ordering.{nat_cmp}
-use Rattle.std.specs.FinMap.{FinMap, from_entries, get, insert, remove, len}
+use Rattle.std.specs.FinMap.{FinMap, from_entries, get, remove, len}
 use Rattle.rrv_model.specs.declared.machine.Thread.{Thread}
 use Rattle.rrv_model.specs.Memory.{no_memory}
 use Rattle.rrv_model.specs.State.{State, IsRunning, AreThreads, with_thread}

@@ -45,6 +45,35 @@ impl Threads {
             next_tid,
         })
     }
+
+    /// The threads as a checkpoint tells them, by rising tid. Refused where a growth is.
+    pub fn to_parts(&self, alloc: Global) -> Result<Vec<ThreadPart>, Memory>
+        ensures told { IfOk result (λ parts. (s : State)
+            → with_parts parts.items self.now.waiting self.now.next_tid s ≡ with_threads self.now s) }
+        ensures rules { IfOk result (λ parts. MakeThreads parts.items self.now.waiting self.now.next_tid) }
+    {
+        // the tids rise, which a map's length tells
+        let _ordered = self.threads.len();
+        let parts = list_parts(alloc, &self.threads)?;
+        Ok(parts)
+    }
+}
+
+/// Each thread under its tid.
+fn list_parts(alloc: Global, threads: &BTreeMap<u32, Thread>) -> Result<Vec<ThreadPart>, Memory>
+    ensures { IfOk result (λ parts. entries_of parts.items ≡ threads.now.entries) }
+{
+    let mut parts = Vec::new(alloc);
+    for (tid, thread) in threads {
+        let part = ThreadPart {
+            tid: *tid,
+            thread: *thread,
+        };
+        if parts.push(part).is_err() {
+            return Err(Memory);
+        }
+    }
+    Ok(parts)
 }
 
 /// Tests whether a state may have these threads, told by rising tid.
