@@ -1,5 +1,5 @@
 -- The least page from a number on.
-use Rattle.std.proofs.Common.{◌≡◌, ◌∙◌, ℕ, ◌<◌, ◌≤◌, List, [], ◌∷◌, Option, Some, None, is_some, false, ap, refl, sym, subst, arith}
+use Rattle.std.proofs.Common.{◌≡◌, ◌∙◌, ℕ, ◌<◌, ◌≤◌, List, [], ◌∷◌, Option, Some, None, IfSome, is_some, false, ap, refl, sym, subst, arith}
 use Rattle.std.proofs.lemmas.Bool.{false≢true}
 use Rattle.std.specs.Cmp.{ranks}
 use Rattle.std.specs.declared.cmp.Ordering.{Ordering}
@@ -10,7 +10,7 @@ use Rattle.std.specs.BTreeMap.{BTreeMap}
 use Rattle.std.specs.BTreeMap.Range.{IsRangeOf}
 use Rattle.rrv_model.specs.Memory.{is_mapped}
 use Rattle.guest_pages.specs.declared.page.Page.{Page}
-use Rattle.guest_pages.specs.Space.{page_at, memory_in}
+use Rattle.guest_pages.specs.Space.{ArePages, IsPage, page_at, memory_in}
 use Rattle.guest_pages.specs.Snapshots.{IsNextPage}
 use Rattle.guest_pages.proofs.Facts.{is_mapped_in}
 
@@ -24,11 +24,16 @@ not_above a b Less l h = refl
 not_above a b Equal l h = refl
 not_above a b Greater l h = absurd (omega (arith, l, h))
 
-pub next_of_some : (m : BTreeMap ℕ Page) (least : ℕ) (e : ℕ × Page) (after r : List (ℕ × Page)) → r ≡ e ∷ after →
+-- a page that is there has a number that it may have
+low_number : (n : ℕ) (p : Option Page) (q : Page) → IfSome p (IsPage n) → p ≡ Some q → n < 0x80000
+low_number n p q h there = let page : IsPage n q = subst (λ (o : Option Page). IfSome o (IsPage n)) there h in page.high
+
+pub next_of_some : (m : BTreeMap ℕ Page) → ArePages m.entries → (least : ℕ) (e : ℕ × Page) (after r : List (ℕ × Page)) → r ≡ e ∷ after →
     IsRangeOf nat_cmp (Included least) Unbounded m r → IsNextPage (memory_in m.entries) least (Some e.0)
-next_of_some m least e after r is range =
+next_of_some m pages least e after r is range =
     let ranges : IsRangeOf nat_cmp (Included least) Unbounded m (e ∷ after) = subst (λ (es : List (ℕ × Page)). IsRangeOf nat_cmp (Included least) Unbounded m es) is range in (
       at_most least e.0 (nat_cmp least e.0) (ranks least e.0) ranges.1.0.0,
+      low_number e.0 (page_at m.entries e.0) e.1 (pages.each e.0) ranges.1.1,
       is_mapped_in m.entries e.0 ∙ ap is_some ranges.1.1,
       λ q from below. by_page q from below ranges (page_at m.entries q) refl,
     ) where

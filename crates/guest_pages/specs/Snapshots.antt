@@ -14,7 +14,7 @@ IsPageOf m n (Some v) = (k : ℕ) → k < page_bytes →
 abbrev pub IsNextPage : Memory → ℕ → Option ℕ → Type 0
 IsNextPage m least None = (q : ℕ) → least ≤ q → is_mapped m q ≡ false
 IsNextPage m least (Some n) =
-    (least ≤ n) × (is_mapped m n ≡ true) × ((q : ℕ) → least ≤ q → q < n → is_mapped m q ≡ false)
+    (least ≤ n) × (n < 0x80000) × (is_mapped m n ≡ true) × ((q : ℕ) → least ≤ q → q < n → is_mapped m q ≡ false)
 
 -- two memories have the same at every address of page n
 abbrev pub SameOn : ℕ → Memory → Memory → Type 0

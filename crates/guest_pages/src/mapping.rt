@@ -5,7 +5,7 @@ ghost use Rattle.std.specs.Ordering.{nat_cmp};
 ghost use Rattle.std.specs.Map.{keys_of};
 ghost use Rattle.std.specs.List.Sorted.{IsStrictlySortedBy};
 ghost use Rattle.rrv_model.specs.Memory.{all_mapped, is_mapped};
-ghost use Rattle.guest_pages.specs.Space.{memory_in, page_at};
+ghost use Rattle.guest_pages.specs.Space.{ArePages, memory_in, page_at};
 ghost use Rattle.guest_pages.specs.Mapping.{missing, has_number, union, AreProtected, IsClear, IsJoined, SamePage, SameAt, ListsOthers};
 ghost use Rattle.guest_pages.specs.Snapshots.{IsNextPage, IsPageOf};
 ghost use Rattle.guest_pages.specs.WholePages.{IsCopyOf, IsCopyOfBytes};
@@ -311,6 +311,7 @@ pub(crate) fn first_there(pages: &Pages, first: u32, count: u32) -> Option<u32>
 
 /// The least page from a number on that is there.
 pub(crate) fn next_there(pages: &Pages, least: u32) -> Option<u32>
+    requires { ArePages pages.now.entries }
     ensures { IsNextPage (memory_in pages.now.entries) least result }
 {
     let (number, _) = pages.range(least..).next()?;

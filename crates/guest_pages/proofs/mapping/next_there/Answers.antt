@@ -7,5 +7,5 @@ returns-in_err-number c =
 
 pub returns : goal.returns
 returns c =
-    next_of_some c.args.pages.now c.args.least (c.in_ok-number.number.now, c.in_ok-number.field-0-1.now) c.next.new.self c.range.result
+    next_of_some c.args.pages.now c.requires c.args.least (c.in_ok-number.number.now, c.in_ok-number.field-0-1.now) c.next.new.self c.range.result
     c.in_ok-number.ensures.steps (c.range.ensures.in_range tt)
