@@ -1,3 +1,4 @@
 pub mod Applies
 pub mod Fitting
+pub mod Made
 pub mod Patches

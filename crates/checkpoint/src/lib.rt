@@ -4,7 +4,9 @@
 mod applying;
 mod fault;
 mod fitting;
+mod making;
 mod pages;
 
 pub use applying::apply;
 pub use fault::ApplyFault;
+pub use making::make;
