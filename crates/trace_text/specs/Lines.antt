@@ -67,3 +67,13 @@ abbrev pub verify_line : ℕ → ℕ → Option GuestEnd → List ℕ
 verify_line records instructions end =
     codes "ok records=" ++ (decimal records
     ++ (codes " instructions=" ++ (decimal instructions ++ (codes " " ++ end_text end))))
+
+abbrev pub list_line : ℕ → List ℕ → ℕ → ℕ → ℕ → List ℕ
+list_line guest name records frames instructions =
+    decimal guest ++ (codes " " ++ (name_text name
+    ++ (codes " records=" ++ (decimal records ++ (codes " frames=" ++ (decimal frames
+    ++ (codes " instructions=" ++ decimal instructions)))))))
+
+abbrev pub report_line : List ℕ → Option GuestEnd → ℕ → List ℕ
+report_line name end records =
+    name_text name ++ (codes ": " ++ (end_text end ++ (codes ", records " ++ decimal records)))

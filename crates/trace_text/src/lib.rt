@@ -1,6 +1,10 @@
-//! The lines that are printed of records.
+//! The lines that are printed of records and of states, and the digest of a memory.
 #![tactic(auto)]
 
+mod guest_lines;
+mod memory_digest;
 mod text;
 
+pub use guest_lines::{ListLine, ReportLine};
+pub use memory_digest::digest_of;
 pub use text::{EndText, RecordLine, VerifyLine};

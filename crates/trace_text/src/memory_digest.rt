@@ -1,0 +1,56 @@
+//! The digest of a memory.
+
+ghost use Rattle.std.specs.Prelude.{◌≡◌, ℕ, ◌++◌, List, Some, length};
+ghost use Rattle.sha2.specs.Hashers.{Holds256};
+ghost use Rattle.sha2.specs.Sha256.{sha256};
+ghost use Rattle.rrv_model.specs.RecordText.{bit, permissions_byte};
+ghost use Rattle.rrv_model.specs.Memory.{page_bytes};
+ghost use Rattle.guest_pages.specs.Space.{memory_of};
+ghost use Rattle.trace_text.specs.Digest.{pages_bytes, piece};
+
+use guest_pages::Space;
+use rrv_model::machine::Permissions;
+use sha2::{Digest, Sha256};
+
+/// SHA-256 of all mapped pages by rising number, each as its number, its permissions and its bytes.
+pub fn digest_of(space: &Space) -> [u8; 32]
+    ensures { result ≡ sha256 (pages_bytes (memory_of space.now)) }
+{
+    // the proof opens the space here, for what holds of its pages
+    let _ = space.page_count();
+    let mut hasher = Sha256::new();
+    let mut least = 0;
+    while let Some(number) = space.next_page(least) {
+        let Some(page) = space.page(number) else {
+            unreachable!()
+        };
+        add_page(&mut hasher, number, page.permissions, page.bytes);
+        least = number + 1;
+    }
+    hasher.finalize()
+}
+
+/// Adds a page to the message of a hasher.
+fn add_page(hasher: &mut Sha256, number: u32, permissions: Permissions, bytes: &[u8; 4096])
+    ensures held { (m : List ℕ) → Holds256 hasher.old m
+        → Holds256 hasher.new (m ++ piece number permissions bytes.now) }
+    ensures full { length bytes.now ≡ page_bytes }
+{
+    hasher.update(number.to_le_bytes());
+    hasher.update([permissions_byte(permissions)]);
+    hasher.update(bytes);
+}
+
+/// The permissions in a byte: X 1, W 2, R 4 as a sum.
+fn permissions_byte(permissions: Permissions) -> u8
+    ensures { result ≡ permissions_byte (Some permissions) }
+{
+    bit(permissions.execute, 1) + bit(permissions.write, 2) + bit(permissions.read, 4)
+}
+
+/// A number where a bit is set, else 0.
+fn bit(is_set: bool, value: u8) -> u8
+    ensures { result ≡ bit is_set value }
+{
+    if is_set { value } else { 0 }
+}
