@@ -1,2 +1,4 @@
 pub mod Words
 pub mod Pieces
+pub mod StateTexts
+pub mod Tids

@@ -3,8 +3,10 @@
 
 mod guest_lines;
 mod memory_digest;
+mod state_lines;
 mod text;
 
 pub use guest_lines::{ListLine, ReportLine};
 pub use memory_digest::digest_of;
+pub use state_lines::StateLines;
 pub use text::{EndText, RecordLine, VerifyLine};
