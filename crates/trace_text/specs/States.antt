@@ -42,7 +42,8 @@ addresses_text t = codes "pc " ++ (word_text t.regs.pc ++ (codes " clear " ++ wo
 
 unfoldable pub thread_line : ℕ → Thread → List ℕ
 thread_line tid t =
-    codes "thread " ++ (decimal tid ++ (codes " " ++ (wait_text t.waits_at ++ (codes " " ++ (addresses_text t ++ newline)))))
+    codes "thread " ++ (decimal tid ++ (codes " " ++ (wait_text t.waits_at
+    ++ (codes " " ++ (addresses_text t ++ newline)))))
 
 -- behind a space
 unfoldable pub register_text : Regs → ℕ → List ℕ

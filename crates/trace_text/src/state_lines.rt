@@ -1,11 +1,13 @@
 //! The printed lines of a state.
 
-ghost use Rattle.std.specs.Prelude.{◌≡◌, ◌+◌, ◌<◌, ◌++◌, Some, flat_map};
+ghost use Rattle.std.specs.Prelude.{◌≡◌, ◌+◌, ◌<◌, Some, flat_map};
 ghost use Rattle.std.specs.Fmt.{WritesOnOk};
 ghost use Rattle.std.specs.FinMap.{entries};
 ghost use Rattle.guest_threads.specs.Threads.{thread_map};
 ghost use Rattle.guest_calls.specs.Guest.{state_of};
-ghost use Rattle.trace_text.specs.States.{addresses_text, byte_text, pages_line, place_line, register_text, registers_line, registers_lines, reservation_line, state_lines, thread_line, thread_lines, wait_text, break_line, end_line};
+ghost use Rattle.trace_text.specs.States.{addresses_text, break_line, byte_text, pages_line, register_text};
+ghost use Rattle.trace_text.specs.States.{registers_line, registers_lines, reservation_line, state_lines};
+ghost use Rattle.trace_text.specs.States.{thread_line, thread_lines, wait_text};
 
 use crate::memory_digest::digest_of;
 use crate::text::{EndText, write_word};
