@@ -1,2 +1,8 @@
 pub mod Steps
 pub mod ReplayRefusals
+pub mod Walked
+pub mod Kept
+pub mod Described
+pub mod Onward
+pub mod Placed
+pub mod Last

@@ -1,8 +1,9 @@
-//! Why a guest's records were not read, or not replayed.
+//! Why records were not read, not replayed, or not verified.
 
 ghost use Rattle.std.specs.Prelude.{◌≡◌};
 ghost use Rattle.replayer.specs.Told.{read_told};
 ghost use Rattle.replayer.specs.declared.fault.ReplayFault.TheVariants as refusals;
+ghost use Rattle.replayer.specs.declared.fault.VerifyFault.TheVariants as verify_faults;
 
 use recover::ReadFault;
 use rrv_model::refusal;
@@ -63,5 +64,46 @@ impl From<refusal::Memory> for ReplayFault {
 
     fn from(_: refusal::Memory) -> Self {
         ReplayFault::Memory
+    }
+}
+
+/// Why records are no recording, by the first that is bad.
+#[derive(Clone, Copy, Debug, PartialEq, Eq, Error)]
+pub enum VerifyFault {
+    /// A record doesn't follow from those before it.
+    #[error("record {index} does not replay")]
+    Mismatch { index: usize },
+    /// The parts of which this record is the last don't describe the state there.
+    #[error("checkpoint {index} is wrong")]
+    BadCheckpoint { index: usize },
+    /// The first record is no opening of a guest.
+    #[error("bad opening")]
+    BadOpening,
+    /// A growth was refused.
+    #[error("out of memory")]
+    Memory,
+}
+
+impl From<AllocError> for VerifyFault {
+    ghost from_gives = { λ _ e. e ≡ verify_faults.Memory };
+
+    fn from(_: AllocError) -> Self {
+        VerifyFault::Memory
+    }
+}
+
+impl<T: Drop> From<AllocFailed<T>> for VerifyFault {
+    ghost from_gives = { λ _ e. e ≡ verify_faults.Memory };
+
+    fn from(_: AllocFailed<T>) -> Self {
+        VerifyFault::Memory
+    }
+}
+
+impl From<refusal::Memory> for VerifyFault {
+    ghost from_gives = { λ _ e. e ≡ verify_faults.Memory };
+
+    fn from(_: refusal::Memory) -> Self {
+        VerifyFault::Memory
     }
 }

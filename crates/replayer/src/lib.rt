@@ -1,8 +1,19 @@
-//! Replays guests: reads the records of one, and follows each against what the guest's state makes of it.
+//! Replays guests: reads the records of one, verifies each against what the guest's state makes of it, and goes to any place
+//! of a verified recording.
 #![tactic(auto)]
 
 mod fault;
+mod forward;
+mod opened;
+mod place;
+mod recording;
 mod replaying;
+mod verified;
+mod verifying;
+mod walk;
 
-pub use fault::ReplayFault;
+pub use fault::{ReplayFault, VerifyFault};
+pub use place::Place;
+pub use recording::Verified;
 pub use replaying::{Replayed, read_guest, replay};
+pub use verifying::verify;

@@ -1,0 +1,202 @@
+-- How a replay goes from record to record.
+use Rattle.std.proofs.Common.{◌≡◌, ℕ, suc, ◌+◌, ◌<◌, ◌≤◌, List, [], ◌∷◌, ◌++◌, length, take, get_or, refl, sym, ◌∙◌, ap, subst, arith, Some, None, zero}
+use Rattle.std.specs.Prelude.{All, slice_get}
+use Rattle.std.proofs.Math.Seq.{take-suc}
+use Rattle.std.proofs.lemmas.List.{append-nil, append_assoc, length-take-le, take_all}
+use Rattle.std.proofs.lemmas.List.Elements.{All-push}
+use Rattle.std.specs.Prelude.{IsSomeAnd}
+use Rattle.rrv_model.specs.declared.record.Item.{Item}
+use Rattle.rrv_model.specs.declared.record.Item.TheVariants as items
+use Rattle.rrv_model.specs.declared.record.Opening.{Opening}
+use Rattle.rrv_model.specs.declared.record.Part.{Part}
+use Rattle.rrv_model.specs.declared.record.Record.{Record}
+use Rattle.rrv_model.specs.State.{State}
+use Rattle.rrv_model.specs.Opening.{Opens}
+use Rattle.rrv_model.specs.Recording.{IsNumbered, IsRecording, ItemsFollow, Starts, items_of, base_after, row_after}
+use Rattle.rrv_model.proofs.FrameLaws.{one_state_after_frame}
+use Rattle.rrv_model.proofs.RunLaws.{items-append, numbered-append}
+use Rattle.replayer.specs.declared.fault.VerifyFault.{VerifyFault}
+use Rattle.replayer.specs.declared.fault.VerifyFault.TheVariants as faults
+use Rattle.replayer.specs.Walks.{Leads, LeadsOn, Stands, StandsBehind}
+use Rattle.replayer.specs.Refusals.{EndsCheckpointAt, Fails, IsLastPart, RefusesFirst, RefusesNext, RefusesOpening, RefusesVerify, StopsAt, TakesMemory}
+
+one_more : (n : ℕ) → n + 1 ≡ suc n
+one_more n = omega arith
+
+-- ---- names
+
+-- one element more
+pub all_next : (P : ℕ → Type 0) (xs : List ℕ) (i : ℕ) → i < length xs → All P (take i xs) → P (get_or xs i 0) → All P (take (i + 1) xs)
+all_next P xs i below all one =
+    let next : take (i + 1) xs ≡ take (suc i) xs = ap (λ n. take n xs) (one_more i) in
+    subst (All P) (sym (next ∙ take-suc xs i 0 below)) (All-push P (take i xs) (get_or xs i 0) all one)
+
+pub all_of : (P : ℕ → Type 0) (xs : List ℕ) (n : ℕ) → length xs ≤ n → All P (take n xs) → All P xs
+all_of P xs n long all = subst (All P) (take_all n xs long) all
+
+-- ---- walks
+
+-- the opening alone
+pub stands_first : (r : Record) (o : Opening) (base s : State) → r.index ≡ 0 → r.item ≡ items.Opening o → Opens o.elf o.name o.random base → Opens o.elf o.name o.random s →
+    Stands r.guest (r ∷ []) base [] s
+stands_first r o base s index_is item_is opens_base opens =
+    let e : base ≡ s = opens_base.state_is ∙ sym opens.state_is in
+    let behind : StandsBehind (items.Opening o ∷ []) base [] s = λ rest. (
+      λ h.
+          let same : h.0 ≡ s = h.1.state_is ∙ sym opens.state_is in
+          subst (λ (b : State). ItemsFollow b [] s rest) (sym e) (subst (λ (m : State). ItemsFollow m [] m rest) same h.2),
+      λ h. (s, opens, subst (λ (b : State). ItemsFollow b [] s rest) e h),
+    ) in
+    record {
+      numbered = (refl, index_is, tt);
+      behind = subst (λ (it : Item). StandsBehind (it ∷ []) base [] s) (sym item_is) behind;
+    }
+
+-- what leads on is what follows
+leads_back : (it : Item) (base : State) (row : List Part) (s base' : State) (row' : List Part) (s' : State) → Leads it base row s base' row' s' →
+    (rest : List Item) → ItemsFollow base' row' s' rest → ItemsFollow base row s (it ∷ rest)
+leads_back (items.Opening o) base row s base' row' s' leads rest h = absurd leads
+leads_back (items.Frame f) base row s base' row' s' leads rest h =
+    (s', leads.0, subst (λ (b : State). ItemsFollow b [] s' rest) leads.1 (subst (λ (ps : List Part). ItemsFollow base' ps s' rest) leads.2 h))
+leads_back (items.Part p) base row s base' row' s' leads rest h =
+    let one = subst (λ (b : State). ItemsFollow b row' s' rest) leads.1 h in
+    let two = subst (λ (ps : List Part). ItemsFollow (base_after p.rest base s) ps s' rest) leads.2 one in
+    (leads.0, subst (λ (m : State). ItemsFollow (base_after p.rest base s) (row_after p.rest (row ++ p ∷ [])) m rest) leads.3 two)
+
+leads_on : (it : Item) (base : State) (row : List Part) (s base' : State) (row' : List Part) (s' : State) → Leads it base row s base' row' s' →
+    (rest : List Item) → ItemsFollow base row s (it ∷ rest) → ItemsFollow base' row' s' rest
+leads_on (items.Opening o) base row s base' row' s' leads rest h = absurd leads
+leads_on (items.Frame f) base row s base' row' s' leads rest h =
+    let same : h.0 ≡ s' = one_state_after_frame s f h.0 s' h.1 leads.0 in
+    subst (λ (ps : List Part). ItemsFollow base' ps s' rest) (sym leads.2)
+    (subst (λ (b : State). ItemsFollow b [] s' rest) (sym leads.1) (subst (λ (m : State). ItemsFollow base [] m rest) same h.2))
+leads_on (items.Part p) base row s base' row' s' leads rest h =
+    let three = subst (λ (m : State). ItemsFollow (base_after p.rest base s) (row_after p.rest (row ++ p ∷ [])) m rest) (sym leads.3) h.1 in
+    let two = subst (λ (ps : List Part). ItemsFollow (base_after p.rest base s) ps s' rest) (sym leads.2) three in
+    subst (λ (b : State). ItemsFollow b row' s' rest) (sym leads.1) two
+
+pub stands_next : (guest : ℕ) (records : List Record) (r : Record) (base : State) (row : List Part) (s base' : State) (row' : List Part) (s' : State) →
+    Stands guest records base row s → LeadsOn guest (length records) r base row s base' row' s' → Stands guest (records ++ r ∷ []) base' row' s'
+stands_next guest records r base row s base' row' s' h next = record {
+  numbered = numbered-append guest 0 records r h.numbered next.guest_is (omega (arith, next.index_is));
+  behind = λ rest.
+      let same : items_of (records ++ r ∷ []) ++ rest ≡ items_of records ++ r.item ∷ rest =
+      ap (λ (is : List Item). is ++ rest) (items-append records r) ∙ append_assoc (items_of records) (r.item ∷ []) rest in (
+        λ starts. leads_on r.item base row s base' row' s' next.leads rest ((h.behind (r.item ∷ rest)).0 (subst Starts same starts)),
+        λ follows. subst Starts (sym same) ((h.behind (r.item ∷ rest)).1 (leads_back r.item base row s base' row' s' next.leads rest follows)),
+      );
+}
+
+pub stands_at : (guest : ℕ) (records : List Record) (index : ℕ) (r : Record) (base : State) (row : List Part) (s base' : State) (row' : List Part) (s' : State) →
+    index < length records → r ≡ get_or records index r → Stands guest (take index records) base row s → LeadsOn guest index r base row s base' row' s' →
+    Stands guest (take (index + 1) records) base' row' s'
+stands_at guest records index r base row s base' row' s' below there h next =
+    let len : length (take index records) ≡ index = length-take-le index records (omega arith) in
+    let longer : take (index + 1) records ≡ take index records ++ r ∷ [] =
+    ap (λ n. take n records) (one_more index) ∙ take-suc records index r below ∙ ap (λ q. take index records ++ q ∷ []) (sym there) in
+    subst (λ (rs : List Record). Stands guest rs base' row' s') (sym longer)
+    (stands_next guest (take index records) r base row s base' row' s' h (subst (λ n. LeadsOn guest n r base row s base' row' s') (sym len) next))
+
+-- where records stand they are a recording
+pub recording_of : (guest : ℕ) (records : List Record) (base : State) (row : List Part) (s : State) → Stands guest records base row s → IsRecording records
+recording_of guest records base row s h = record {
+  guest = guest;
+  numbered = h.numbered;
+  starts = subst Starts (append-nil (items_of records)) ((h.behind []).1 tt);
+}
+
+pub recording_of_all : (guest : ℕ) (records : List Record) (index : ℕ) (base : State) (row : List Part) (s : State) → length records ≤ index →
+    Stands guest (take index records) base row s → IsRecording records
+recording_of_all guest records index base row s long h = subst IsRecording (take_all index records long) (recording_of guest (take index records) base row s h)
+
+-- ---- refusals
+
+numbered_end : (guest index : ℕ) (records : List Record) (r : Record) → IsNumbered guest index (records ++ r ∷ []) → (r.guest ≡ guest) × (r.index ≡ index + length records)
+numbered_end guest index [] r h = (h.0, omega (arith, h.1))
+numbered_end guest index (q ∷ records) r h =
+    let behind = numbered_end guest (index + 1) records r h.2 in
+    (behind.0, omega (arith, behind.1))
+
+one_guest : (guest other : ℕ) (records : List Record) (r : Record) → IsRecording records → IsNumbered guest 0 records → IsNumbered other 0 (records ++ r ∷ []) → other ≡ guest
+one_guest guest other [] r recording h k = absurd recording.starts
+one_guest guest other (q ∷ records) r recording h k = sym k.0 ∙ h.0
+
+found : (P : Record → Type 0) (records : List Record) (index : ℕ) (r : Record) → index < length records → r ≡ get_or records index r → P r → IsSomeAnd (slice_get records index) P
+found P [] index r below there h = absurd (omega arith)
+found P (q ∷ records) zero r below there h = subst P there h
+found P (q ∷ records) (suc index) r below there h = found P records index r (omega arith) there h
+
+lost : (P : Record → Type 0) (records : List Record) (index : ℕ) (r : Record) → index < length records → r ≡ get_or records index r → IsSomeAnd (slice_get records index) P → P r
+lost P [] index r below there h = absurd (omega arith)
+lost P (q ∷ records) zero r below there h = subst P (sym there) h
+lost P (q ∷ records) (suc index) r below there h = lost P records index r (omega arith) there h
+
+-- a record behind those that stand is this guest's, of this index, where all are numbered
+fits_there : (guest other : ℕ) (records : List Record) (index : ℕ) (r : Record) (base : State) (row : List Part) (s : State) → index < length records → r ≡ get_or records index r →
+    Stands guest (take index records) base row s → IsNumbered other 0 (take (index + 1) records) → (r.guest ≡ guest) × (r.index ≡ index)
+fits_there guest other records index r base row s below there h numbered =
+    let len : length (take index records) ≡ index = length-take-le index records (omega arith) in
+    let longer : take (index + 1) records ≡ take index records ++ r ∷ [] =
+    ap (λ n. take n records) (one_more index) ∙ take-suc records index r below ∙ ap (λ q. take index records ++ q ∷ []) (sym there) in
+    let all = subst (λ (rs : List Record). IsNumbered other 0 rs) longer numbered in
+    let same : other ≡ guest = one_guest guest other (take index records) r (recording_of guest (take index records) base row s h) h.numbered all in
+    let at_end = numbered_end other 0 (take index records) r all in
+    (at_end.0 ∙ same, omega (arith, at_end.1, len))
+
+stops_at : (guest : ℕ) (records : List Record) (index : ℕ) (r : Record) (base : State) (row : List Part) (s : State) → index < length records → r ≡ get_or records index r →
+    Stands guest (take index records) base row s → (r.guest ≡ guest → r.index ≡ index → Fails r.item base row s) → StopsAt index records
+stops_at guest records index r base row s below there h fails = record {
+  within = below;
+  before = recording_of guest (take index records) base row s h;
+  stops = λ more.
+      let longer : take (index + 1) records ≡ take index records ++ r ∷ [] =
+      ap (λ n. take n records) (one_more index) ∙ take-suc records index r below ∙ ap (λ q. take index records ++ q ∷ []) (sym there) in
+      let fits = fits_there guest more.guest records index r base row s below there h more.numbered in
+      let starts : Starts (items_of (take index records ++ r ∷ [])) = subst (λ (rs : List Record). Starts (items_of rs)) longer more.starts in
+      let all : Starts (items_of (take index records) ++ r.item ∷ []) = subst Starts (items-append (take index records) r) starts in
+      fails fits.0 fits.1 ((h.behind (r.item ∷ [])).0 all);
+}
+
+pub refused_at : (e : VerifyFault) (guest : ℕ) (records : List Record) (index : ℕ) (r : Record) (base : State) (row : List Part) (s : State) → index < length records → r ≡ get_or records index r →
+    Stands guest (take index records) base row s → IsSomeAnd (slice_get records 0) TakesMemory → RefusesNext e guest index r base row s → RefusesVerify e records
+refused_at (faults.Mismatch place) guest records index r base row s below there h opened refuses =
+    subst (λ n. StopsAt n records × (EndsCheckpointAt n records → ⊥)) (sym refuses.0) (
+      stops_at guest records index r base row s below there h (λ g i. (refuses.1 g i).1),
+      λ ends.
+          let fits = fits_there guest ends.guest records index r base row s below there h ends.numbered in
+          (refuses.1 fits.0 fits.1).0 (lost (λ q. IsLastPart q.item) records index r below there ends.there),
+    )
+refused_at (faults.BadCheckpoint place) guest records index r base row s below there h opened refuses =
+    let len : length (take index records) ≡ index = length-take-le index records (omega arith) in
+    let longer : take (index + 1) records ≡ take index records ++ r ∷ [] =
+    ap (λ n. take n records) (one_more index) ∙ take-suc records index r below ∙ ap (λ q. take index records ++ q ∷ []) (sym there) in
+    subst (λ n. StopsAt n records × EndsCheckpointAt n records) (sym refuses.0) (
+      stops_at guest records index r base row s below there h (λ g i. refuses.4),
+      record {
+        guest = guest;
+        numbered = subst (λ (rs : List Record). IsNumbered guest 0 rs) (sym longer) (numbered-append guest 0 (take index records) r h.numbered refuses.1 (omega (arith, refuses.2, len)));
+        there = found (λ q. IsLastPart q.item) records index r below there refuses.3;
+      },
+    )
+refused_at faults.Memory guest records index r base row s below there h opened refuses = opened
+refused_at faults.BadOpening guest records index r base row s below there h opened refuses = absurd refuses
+
+-- the first record
+pub first_there : (P : Record → Type 0) (records : List Record) (first : Record) (rest : List Record) → records ≡ first ∷ rest → P first → IsSomeAnd (slice_get records 0) P
+first_there P records first rest is h = subst (λ (rs : List Record). IsSomeAnd (slice_get rs 0) P) (sym is) h
+
+pub refused_first : (e : VerifyFault) (records : List Record) (first : Record) (rest : List Record) → records ≡ first ∷ rest → RefusesFirst e first → RefusesVerify e records
+refused_first faults.BadOpening records first rest is refuses = λ h. refuses (subst (λ (rs : List Record). IsRecording (take 1 rs)) is h)
+refused_first faults.Memory records first rest is refuses = first_there TakesMemory records first rest is refuses
+refused_first (faults.Mismatch index) records first rest is refuses = absurd refuses
+refused_first (faults.BadCheckpoint index) records first rest is refuses = absurd refuses
+
+pub refused_opening : (e : VerifyFault) (r : Record) (o : Opening) → r.index ≡ 0 → r.item ≡ items.Opening o → RefusesOpening e o → RefusesFirst e r
+refused_opening faults.BadOpening r o zero_is is refuses = λ h. let starts : Starts (items.Opening o ∷ []) = subst (λ (it : Item). Starts (it ∷ [])) is h.starts in refuses starts.0 starts.1
+refused_opening faults.Memory r o zero_is is refuses = (zero_is, (o, is, refuses))
+refused_opening (faults.Mismatch index) r o zero_is is refuses = absurd refuses
+refused_opening (faults.BadCheckpoint index) r o zero_is is refuses = absurd refuses
+
+-- what opened took memory
+pub opened : (r : Record) (o : Opening) (s : State) → r.index ≡ 0 → r.item ≡ items.Opening o → Opens o.elf o.name o.random s → TakesMemory r
+opened r o s zero_is is opens = (zero_is, (o, is, (opens.is_name, λ n low some. let bad : None ≡ Some n = sym opens.accepted ∙ some in cc)))

@@ -1,0 +1,55 @@
+-- Places of a recording, from which a guest goes on.
+use Rattle.std.specs.Prelude.{◌≡◌, ℕ, ◌+◌, ◌-◌, ◌≤◌, List, [], ◌∷◌, length, take, drop}
+use Rattle.rrv_model.specs.declared.record.Frame.{Frame}
+use Rattle.rrv_model.specs.declared.record.Opening.{Opening}
+use Rattle.rrv_model.specs.State.{State}
+use Rattle.rrv_model.specs.Opening.{Opens}
+use Rattle.rrv_model.specs.StateAt.{StateAt, StateAtFrom, total}
+use Rattle.guest_calls.specs.Guest.{state_of}
+use Rattle.replayer.specs.declared.place.Place.{Place}
+use Rattle.replayer.specs.declared.recording.Verified.{Verified}
+use Rattle.replayer.specs.declared.recording.Mark.{Mark}
+use Rattle.replayer.specs.Kept.{AreMarks}
+
+-- the state behind the first frames, which take so many steps
+pub record IsPlace (o : Opening) (frames : List Frame) (done steps : ℕ) (s : State) : Type 0 where
+  pub first : State
+  pub opens : Opens o.elf o.name o.random first
+  pub reached : StateAtFrom first (take done frames) steps s
+  pub steps_are : steps ≡ total (take done frames)
+  pub within : done ≤ length frames
+
+-- the marks that are left go on from a base
+pub record MarksLeft (o : Opening) (frames : List Frame) (base : State) (marks : List Mark) : Type 0 where
+  pub first : State
+  pub opens : Opens o.elf o.name o.random first
+  pub are_marks : AreMarks first frames base marks
+
+-- frames, of the first of which so many steps are done
+abbrev pub begun : ℕ → List Frame → List Frame
+begun steps [] = []
+begun steps (f ∷ frames) = record f { count = f.count - steps } ∷ frames
+
+-- its last instruction, as a frame
+abbrev pub last_instruction : Frame → Frame
+last_instruction f = record f { count = 1 }
+
+-- no frame of no instruction is next
+abbrev pub Begins : List Frame → Type 0
+Begins [] = Unit {0}
+Begins (f ∷ frames) = 1 ≤ f.count
+
+-- from a state at t on, the frames that are left lead to each later state, and on to the end
+pub record GoesOn (o : Opening) (frames : List Frame) (t : ℕ) (s : State) (left : List Frame) : Type 0 where
+  pub goes : (n : ℕ) (at : State) → StateAtFrom s left n at → StateAt o frames (t + n) at
+  pub last : State
+  pub ends : StateAtFrom s left (total left) last
+  pub sum : t + total left ≡ total frames
+
+-- a guest stands at a place of a recording
+pub record StandsAt (verified : Verified) (place : Place) : Type 0 where
+  pub state : StateAt verified.opening verified.frames place.at (state_of place.guest)
+  pub inside : place.frames ≤ length verified.frames
+  pub on : GoesOn verified.opening verified.frames place.at (state_of place.guest)
+      (begun place.steps (drop place.frames verified.frames))
+  pub begins : Begins (begun place.steps (drop place.frames verified.frames))

@@ -1,0 +1,58 @@
+//! A guest that goes forward along frames that are known to be its own.
+
+ghost use Rattle.std.specs.Prelude.{◌≡◌, ◌<◌, ◌^◌, IfOk, OnOk};
+ghost use Rattle.rrv_model.specs.FrameStep.{FrameStep, Steps};
+ghost use Rattle.rrv_model.specs.State.{State};
+ghost use Rattle.guest_calls.specs.Guest.{counted, state_of};
+ghost use Rattle.replayer.specs.Places.{last_instruction};
+
+use guest_calls::Guest;
+use rrv_model::record::Frame;
+use rrv_model::refusal::Memory;
+use serial_sched::{FollowFault, follow, steps};
+use std::alloc::Global;
+
+/// Runs so many plain steps, which the thread can take.
+pub(crate) fn run_plain(guest: &mut Guest, tid: u32, count: u32) -> Result<(), Memory>
+    requires { (new : State) × Steps count tid (state_of guest.old) new }
+    ensures steps { OnOk result (Steps count tid (state_of guest.old) (state_of guest.new)) }
+    ensures ran { OnOk result (guest.new.ran ≡ counted guest.old.ran count) }
+{
+    match steps(guest, tid, count) {
+        Ok(()) => Ok(()),
+        Err(FollowFault::Memory) => Err(Memory),
+        Err(FollowFault::GoesNowhere) => unreachable!(),
+    }
+}
+
+/// Follows a frame, which leads on.
+pub(crate) fn follow_whole(alloc: Global, guest: &mut Guest, frame: &Frame) -> Result<(), Memory>
+    requires { (new : State) × FrameStep (state_of guest.old) frame.now new }
+    ensures follows { OnOk result (FrameStep (state_of guest.old) frame.now (state_of guest.new)) }
+    ensures ran { OnOk result (guest.new.ran ≡ counted guest.old.ran frame.now.count) }
+{
+    match follow(alloc, guest, frame) {
+        Ok(()) => Ok(()),
+        Err(FollowFault::Memory) => Err(Memory),
+        Err(FollowFault::GoesNowhere) => unreachable!(),
+    }
+}
+
+/// The count of a frame, a word.
+pub(crate) fn count_of(frame: &Frame) -> u32
+    ensures value { result ≡ frame.now.count }
+    ensures low { result < 2 ^ 32 }
+{
+    frame.count
+}
+
+/// The frame of the last instruction of a frame.
+pub(crate) fn last_of(frame: &Frame) -> Result<Frame, Memory>
+    ensures { IfOk result (λ last. last ≡ last_instruction frame.now) }
+{
+    Ok(Frame {
+        tid: frame.tid,
+        count: 1,
+        end: frame.end.clone()?,
+    })
+}

@@ -1,0 +1,189 @@
+//! A replay, record by record.
+
+ghost use Rattle.std.specs.Prelude.{◌≡◌, ◌≤◌, ◌^◌, ◌*◌, ◌+◌, ◌++◌, ◌∷◌, [], IfErr, IfOk, OnOk, length};
+ghost use Rattle.rrv_model.specs.declared.record.Item.TheVariants as items;
+ghost use Rattle.rrv_model.specs.Checkpoint.{Describes};
+ghost use Rattle.guest_calls.specs.Guest.{state_of};
+ghost use Rattle.replayer.specs.Kept.{KeepsOn, RowIs};
+ghost use Rattle.replayer.specs.Refusals.{CheckpointRefused, FrameRefused, PartRefused, RefusesFirst, RefusesNext, TakesMemory};
+ghost use Rattle.replayer.specs.Walks.{Leads, LeadsOn, Stands};
+
+use crate::fault::VerifyFault;
+use crate::opened::{open_guest, put_parts};
+use crate::recording::Mark;
+use checkpoint::ApplyFault;
+use guest_calls::Guest;
+use rrv_model::record::{Frame, Item, Opening, Part, Record};
+use rrv_model::sequence::Sequence;
+use serial_sched::{FollowFault, follow};
+use std::alloc::Global;
+use std::mem::replace;
+
+/// What stands behind some records: a guest in the state there, one in the state of the last complete checkpoint, the parts
+/// since, and what is kept.
+#[derive(Drop)]
+pub(crate) struct Walk {
+    pub(crate) guest: Guest,
+    pub(crate) base: Guest,
+    pub(crate) row: Vec<Part>,
+    pub(crate) frames: Vec<Frame>,
+    pub(crate) marks: Vec<Mark>,
+    pub(crate) total: u64,
+}
+
+/// The walk behind a first record, which is an opening of index 0.
+pub(crate) fn open_first(alloc: Global, first: &Record) -> Result<Walk, VerifyFault>
+    ensures stands { IfOk result (λ w.
+        Stands first.now.guest (first.now ∷ []) (state_of w.base) w.row.items (state_of w.guest)) }
+    ensures row { IfOk result (λ w. w.row.items ≡ []) }
+    ensures frames { IfOk result (λ w. w.frames.items ≡ []) }
+    ensures marks { IfOk result (λ w. w.marks.items ≡ []) }
+    ensures total { IfOk result (λ w. w.total ≡ 0) }
+    ensures opened { OnOk result (TakesMemory first.now) }
+    ensures refused { IfErr result (λ e. RefusesFirst e first.now) }
+{
+    if first.index != 0 {
+        return Err(VerifyFault::BadOpening);
+    }
+    let Item::Opening(opening) = &first.item else {
+        return Err(VerifyFault::BadOpening);
+    };
+    let guest = open_guest(alloc, opening)?;
+    let base = open_guest(alloc, opening)?;
+    Ok(Walk {
+        guest,
+        base,
+        row: Vec::new(alloc),
+        frames: Vec::new(alloc),
+        marks: Vec::new(alloc),
+        total: 0,
+    })
+}
+
+/// A copy of the opening that a first record is.
+pub(crate) fn opening_of(first: &Record) -> Result<Opening, VerifyFault>
+    requires { TakesMemory first.now }
+    ensures copy { IfOk result (λ o. first.now.item ≡ items.Opening o) }
+    ensures memory { IfErr result (λ e. e ≡ VerifyFault.Memory) }
+{
+    match &first.item {
+        Item::Opening(opening) => Ok(opening.clone()?),
+        _ => unreachable!(),
+    }
+}
+
+fn follow_frame(
+    alloc: Global,
+    walk: &mut Walk,
+    index: usize,
+    frame: &Frame,
+) -> Result<(), VerifyFault>
+    requires { walk.old.total ≤ 2 ^ 60 }
+    ensures keeps { OnOk result (KeepsOn (items.Frame frame.now)
+        walk.old.row.items walk.old.frames.items walk.old.marks.items walk.old.total
+        walk.new.frames.items walk.new.marks.items walk.new.total) }
+    ensures grown { OnOk result (walk.new.total ≤ walk.old.total + 2 ^ 20) }
+    ensures leads { OnOk result (Leads (items.Frame frame.now)
+        (state_of walk.old.base) walk.old.row.items (state_of walk.old.guest)
+        (state_of walk.new.base) walk.new.row.items (state_of walk.new.guest)) }
+    ensures refused { IfErr result (λ e. FrameRefused e index frame.now (state_of walk.old.guest)) }
+{
+    match follow(alloc, &mut walk.guest, frame) {
+        Ok(()) => {}
+        Err(FollowFault::GoesNowhere) => return Err(VerifyFault::Mismatch { index }),
+        Err(FollowFault::Memory) => return Err(VerifyFault::Memory),
+    }
+    walk.frames.push(frame.clone()?)?;
+    walk.total += u64::from(frame.count);
+    walk.row.clear();
+    Ok(())
+}
+
+/// Tests the complete checkpoint that the row is, and makes the base of it.
+fn complete(alloc: Global, walk: &mut Walk, index: usize) -> Result<(), VerifyFault>
+    ensures base { OnOk result (Describes (state_of walk.old.base) walk.old.row.items (state_of walk.old.guest)) }
+    ensures new_base { OnOk result (state_of walk.new.base ≡ state_of walk.old.guest) }
+    ensures guest { OnOk result (state_of walk.new.guest ≡ state_of walk.old.guest) }
+    ensures row { OnOk result (walk.new.row.items ≡ []) }
+    ensures frames { walk.new.frames.items ≡ walk.old.frames.items }
+    ensures total { walk.new.total ≡ walk.old.total }
+    ensures marks { OnOk result (walk.new.marks.items ≡ walk.old.marks.items ++ (record {
+      frames = length walk.old.frames.items;
+      at = walk.old.total;
+      parts = walk.old.row.items;
+    }) ∷ []) }
+    ensures refused { IfErr result (λ e.
+        CheckpointRefused e index (state_of walk.old.base) walk.old.row.items (state_of walk.old.guest)) }
+{
+    match put_parts(alloc, &mut walk.base, walk.row.as_slice()) {
+        Ok(()) => {}
+        Err(ApplyFault::Memory) => return Err(VerifyFault::Memory),
+        Err(ApplyFault::BadPart) => return Err(VerifyFault::BadCheckpoint { index }),
+        Err(ApplyFault::TooManyPages) => return Err(VerifyFault::BadCheckpoint { index }),
+    }
+    if !walk.base.same(&walk.guest) {
+        return Err(VerifyFault::BadCheckpoint { index });
+    }
+    let parts = replace(&mut walk.row, Vec::new(alloc));
+    walk.marks.push(Mark {
+        frames: walk.frames.len(),
+        at: walk.total,
+        parts: Sequence::from_vec(parts),
+    })?;
+    Ok(())
+}
+
+fn copied_part(part: &Part) -> Result<Part, VerifyFault>
+    ensures copy { IfOk result (λ copy. copy ≡ part.now) }
+    ensures memory { IfErr result (λ e. e ≡ VerifyFault.Memory) }
+{
+    Ok(part.clone()?)
+}
+
+fn follow_part(alloc: Global, walk: &mut Walk, index: usize, part: &Part) -> Result<(), VerifyFault>
+    ensures keeps { OnOk result (KeepsOn (items.Part part.now)
+        walk.old.row.items walk.old.frames.items walk.old.marks.items walk.old.total
+        walk.new.frames.items walk.new.marks.items walk.new.total) }
+    ensures leads { OnOk result (Leads (items.Part part.now)
+        (state_of walk.old.base) walk.old.row.items (state_of walk.old.guest)
+        (state_of walk.new.base) walk.new.row.items (state_of walk.new.guest)) }
+    ensures refused { IfErr result (λ e.
+        PartRefused e index part.now (state_of walk.old.base) walk.old.row.items (state_of walk.old.guest)) }
+{
+    let copy = copied_part(part)?;
+    walk.row.push(copy)?;
+    if part.rest.is_some() {
+        complete(alloc, walk, index)?;
+    }
+    Ok(())
+}
+
+/// Follows a record that should be this guest's of this index, behind its opening.
+pub(crate) fn follow_record(
+    alloc: Global,
+    walk: &mut Walk,
+    number: u32,
+    index: usize,
+    entry: &Record,
+) -> Result<(), VerifyFault>
+    requires { walk.old.total ≤ index * 2 ^ 20 }
+    ensures keeps { OnOk result (KeepsOn entry.now.item
+        walk.old.row.items walk.old.frames.items walk.old.marks.items walk.old.total
+        walk.new.frames.items walk.new.marks.items walk.new.total) }
+    ensures row { OnOk result (RowIs entry.now.item walk.old.row.items walk.new.row.items) }
+    ensures grown { OnOk result (walk.new.total ≤ walk.old.total + 2 ^ 20) }
+    ensures leads { OnOk result (LeadsOn number index entry.now
+        (state_of walk.old.base) walk.old.row.items (state_of walk.old.guest)
+        (state_of walk.new.base) walk.new.row.items (state_of walk.new.guest)) }
+    ensures refused { IfErr result (λ e. RefusesNext e number index entry.now
+        (state_of walk.old.base) walk.old.row.items (state_of walk.old.guest)) }
+{
+    if entry.guest != number || entry.index as usize != index {
+        return Err(VerifyFault::Mismatch { index });
+    }
+    match &entry.item {
+        Item::Opening(_) => Err(VerifyFault::Mismatch { index }),
+        Item::Frame(frame) => follow_frame(alloc, walk, index, frame),
+        Item::Part(part) => follow_part(alloc, walk, index, part),
+    }
+}
