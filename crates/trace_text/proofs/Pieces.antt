@@ -58,15 +58,9 @@ unfolding pieces_below
 pieces_next m least n v next full is =
     let more : n + 1 ≡ suc n = omega arith in
     ap (λ (k : ℕ). pieces_below k m) more
-    ∙ ap (λ (p : List ℕ). p ++ page_piece m n (m (n * page_bytes))) (pieces_skip m least (n - least) n (omega (arith, next.0)) next.2)
+    ∙ ap (λ (p : List ℕ). p ++ page_piece m n (m (n * page_bytes))) (pieces_skip m least (n - least) n (omega (arith, next.0)) next.3)
     ∙ ap (λ (p : List ℕ). pieces_below least m ++ p) (piece_of_view m n v full is)
 
 -- no page comes from one number on
 pub pieces_end : (m : Memory) (least top : ℕ) → IsNextPage m least None → least ≤ top → pieces_below top m ≡ pieces_below least m
 pieces_end m least top next low = pieces_skip m least (top - least) top (omega (arith, low)) (λ q from _. next q from)
-
--- mapped pages lie below 0x80000000
-pub mapped_below : (m : Memory) (n : ℕ) → IsMemory m → is_mapped m n ≡ true → n < 0x80000
-mapped_below m n is mapped = omega (arith, no) where
-  no : 0x80000 ≤ n → ⊥
-  no high = false≢true (sym (ap is_some (is.pages.high (n * page_bytes) (omega (arith, high)))) ∙ mapped)

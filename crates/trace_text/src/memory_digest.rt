@@ -16,8 +16,6 @@ use sha2::{Digest, Sha256};
 pub fn digest_of(space: &Space) -> [u8; 32]
     ensures { result ≡ sha256 (pages_bytes (memory_of space.now)) }
 {
-    // the proof opens the space here, for what holds of its pages
-    let _ = space.page_count();
     let mut hasher = Sha256::new();
     let mut least = 0;
     while let Some(number) = space.next_page(least) {

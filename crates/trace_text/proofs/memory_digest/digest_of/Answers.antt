@@ -3,7 +3,7 @@ use Rattle.sha2.specs.Hashers.{Holds256}
 use Rattle.sha2.specs.Sha256.{sha256}
 use Rattle.guest_pages.specs.Space.{memory_of}
 use Rattle.trace_text.specs.Digest.{pieces_below}
-use Rattle.trace_text.proofs.Pieces.{mapped_below, pieces_end, pieces_next, pieces_none}
+use Rattle.trace_text.proofs.Pieces.{pieces_end, pieces_next, pieces_none}
 use Rattle.trace_text.proofs.memory_digest.digest_of.Goals as goal
 
 pub loop-number-init : goal.loop-number-init
@@ -16,7 +16,7 @@ pub loop-number-preserved : goal.loop-number-preserved
 loop-number-preserved c =
     let m = memory_of c.args.space.now in
     let n = c.in-Some.number in
-    let low = mapped_below m n c.page_count.ensures.is_memory c.in-Some.ensures.1 in record {
+    let low = c.in-Some.ensures.1 in record {
       low = omega (arith, low);
       held = subst (λ (p : List ℕ). Holds256 c.add_page.new.hasher p)
           (sym (pieces_next m c.loop-number.least n c.in-Some-page.page c.in-Some.ensures c.add_page.ensures.full c.in-Some-page.ensures))
