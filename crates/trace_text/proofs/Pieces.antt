@@ -1,7 +1,7 @@
 -- What the digest of a memory takes in, page by page.
-use Rattle.std.proofs.Common.{◌≡◌, ◌∙◌, ℕ, zero, suc, ◌+◌, ◌-◌, ◌*◌, ◌<◌, ◌≤◌, List, [], ◌∷◌, ◌++◌, length, get_or, Option, Some, None, is_some, true, false, ap, refl, sym, append-nil, arith}
+use Rattle.std.proofs.Common.{◌≡◌, ◌∙◌, ℕ, zero, suc, ◌+◌, ◌-◌, ◌*◌, ◌<◌, ◌≤◌, List, [], ◌∷◌, ◌++◌, length, get_or, Option, Some, None, is_some, false, ap, refl, sym, append-nil, arith}
 use Rattle.std.proofs.lemmas.Bool.{false≢true}
-use Rattle.rrv_model.specs.Memory.{Memory, Cell, IsMemory, byte_or_zero, bytes_at, is_mapped, page_bytes}
+use Rattle.rrv_model.specs.Memory.{Memory, Cell, byte_or_zero, bytes_at, is_mapped, page_bytes}
 use Rattle.guest_pages.specs.declared.page.PageView.{PageView}
 use Rattle.guest_pages.specs.Snapshots.{IsNextPage, IsPageOf}
 use Rattle.trace_text.specs.Digest.{page_piece, piece, pieces_below}
