@@ -6,3 +6,4 @@ pub mod Described
 pub mod Onward
 pub mod Placed
 pub mod Last
+pub mod Putting

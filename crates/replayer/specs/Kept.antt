@@ -24,7 +24,8 @@ marks_of row frames steps [] = []
 marks_of row frames steps (items.Opening o ∷ rest) = marks_of row frames steps rest
 marks_of row frames steps (items.Frame f ∷ rest) = marks_of [] (frames + 1) (steps + f.count) rest
 marks_of row frames steps (items.Part p ∷ rest) =
-    new_marks p.rest (record { frames = frames; at = steps; parts = row ++ p ∷ [] }) ++ marks_of (row_after p.rest (row ++ p ∷ [])) frames steps rest
+    new_marks p.rest (record { frames = frames; at = steps; parts = row ++ p ∷ [] })
+    ++ marks_of (row_after p.rest (row ++ p ∷ [])) frames steps rest
 
 -- the place of the last complete checkpoint at or before t, else the one given; the places rise
 abbrev pub last_place : ℕ → List Mark → ℕ → ℕ
@@ -34,7 +35,8 @@ last_place place (m ∷ marks) t = if nat_le m.at t then last_place m.at marks t
 -- the marks, from a base on: each describes, against the state of the one before it, the state behind its frames
 abbrev pub AreMarks : State → List Frame → State → List Mark → Type 0
 AreMarks s frames base [] = Unit {0}
-AreMarks s frames base (m ∷ marks) = (at : State) × StateAtFrom s (take m.frames frames) m.at at × (m.at ≡ total (take m.frames frames))
+AreMarks s frames base (m ∷ marks) =
+    (at : State) × StateAtFrom s (take m.frames frames) m.at at × (m.at ≡ total (take m.frames frames))
     × (m.frames ≤ length frames) × Describes base m.parts at × AreMarks s frames at marks
 
 -- the frames and marks of a guest that opens so
@@ -48,14 +50,19 @@ pub record AreKept (o : Opening) (frames : List Frame) (marks : List Mark) : Typ
 -- what is kept of an item, behind a row of parts
 abbrev pub KeepsOn : Item → List Part → List Frame → List Mark → ℕ → List Frame → List Mark → ℕ → Type 0
 KeepsOn (items.Opening o) row frames marks steps frames' marks' steps' = ⊥
-KeepsOn (items.Frame f) row frames marks steps frames' marks' steps' = (frames' ≡ frames ++ f ∷ []) × (marks' ≡ marks) × (steps' ≡ steps + f.count)
+KeepsOn (items.Frame f) row frames marks steps frames' marks' steps' =
+    (frames' ≡ frames ++ f ∷ []) × (marks' ≡ marks) × (steps' ≡ steps + f.count)
 KeepsOn (items.Part p) row frames marks steps frames' marks' steps' =
-    (frames' ≡ frames) × (marks' ≡ marks ++ new_marks p.rest (record { frames = length frames; at = steps; parts = row ++ p ∷ [] })) × (steps' ≡ steps)
+    (frames' ≡ frames)
+    × (marks' ≡ marks ++ new_marks p.rest (record { frames = length frames; at = steps; parts = row ++ p ∷ [] }))
+    × (steps' ≡ steps)
 
 -- what is kept of items behind an opening, and what goes on behind them
-pub record KeepsAll (items : List Item) (row : List Part) (frames : List Frame) (marks : List Mark) (steps : ℕ) : Type 0 where
+pub record KeepsAll (items : List Item) (row : List Part) (frames : List Frame) (marks : List Mark) (steps : ℕ)
+    : Type 0 where
   pub frames_are : (rest : List Item) → frames_of (items ++ rest) ≡ frames ++ frames_of rest
-  pub marks_are : (rest : List Item) → marks_of [] 0 0 (items ++ rest) ≡ marks ++ marks_of row (length frames) steps rest
+  pub marks_are : (rest : List Item) →
+      marks_of [] 0 0 (items ++ rest) ≡ marks ++ marks_of row (length frames) steps rest
   pub steps_are : steps ≡ total frames
 
 -- a value keeps just these items, of which the first is an opening

@@ -6,3 +6,4 @@ pub mod Walks
 pub mod Kept
 pub mod Places
 pub mod Verified
+pub mod Puts

@@ -15,8 +15,8 @@ use Rattle.elf_load.specs.Refusals.{IsPastRefusal}
 use Rattle.replayer.specs.declared.fault.VerifyFault.{VerifyFault}
 use Rattle.replayer.specs.declared.fault.VerifyFault.TheVariants as faults
 
--- An opening is refused where no state is its opening state. Memory is taken for it only where its name is one, and its file
--- is refused by none of the first twelve tests.
+-- An opening is refused where no state is its opening state. Memory is taken for it only where its name is one, and its
+-- file is refused by none of the first twelve tests.
 abbrev pub RefusesOpening : VerifyFault → Opening → Type 0
 RefusesOpening faults.BadOpening o = (s : State) → Opens o.elf o.name o.random s → ⊥
 RefusesOpening faults.Memory o = IsName o.name × IsPastRefusal 12 o.elf
@@ -25,7 +25,8 @@ RefusesOpening (faults.BadCheckpoint index) o = ⊥
 
 -- memory is taken for a first record only
 abbrev pub TakesMemory : Record → Type 0
-TakesMemory first = (first.index ≡ 0) × ((o : Opening) × (first.item ≡ items.Opening o) × RefusesOpening faults.Memory o)
+TakesMemory first =
+    (first.index ≡ 0) × ((o : Opening) × (first.item ≡ items.Opening o) × RefusesOpening faults.Memory o)
 
 abbrev pub RefusesFirst : VerifyFault → Record → Type 0
 RefusesFirst faults.BadOpening first = IsRecording (first ∷ []) → ⊥
@@ -58,7 +59,8 @@ CheckpointRefused faults.Memory index base parts s = Unit {0}
 
 abbrev pub PartRefused : VerifyFault → ℕ → Part → State → List Part → State → Type 0
 PartRefused (faults.Mismatch place) index p base row s = ⊥
-PartRefused (faults.BadCheckpoint place) index p base row s = (place ≡ index) × IsSome p.rest × (PartFits p.rest base (row ++ p ∷ []) s → ⊥)
+PartRefused (faults.BadCheckpoint place) index p base row s =
+    (place ≡ index) × IsSome p.rest × (PartFits p.rest base (row ++ p ∷ []) s → ⊥)
 PartRefused faults.BadOpening index p base row s = ⊥
 PartRefused faults.Memory index p base row s = Unit {0}
 
@@ -83,7 +85,7 @@ pub record EndsCheckpointAt (index : ℕ) (records : List Record) : Type 0 where
   pub numbered : IsNumbered guest 0 (take (index + 1) records)
   pub there : IsSomeAnd (slice_get records index) (λ r. IsLastPart r.item)
 
--- The first bad item is named. Memory is answered only where the first record opens a guest, name and size of its file at least.
+-- The first bad item is named. Memory is answered only where the first record is an opening that takes memory.
 abbrev pub RefusesVerify : VerifyFault → List Record → Type 0
 RefusesVerify faults.BadOpening records = IsRecording (take 1 records) → ⊥
 RefusesVerify (faults.Mismatch index) records = StopsAt index records × (EndsCheckpointAt index records → ⊥)

@@ -32,7 +32,8 @@ pub record HasCheckpointAt (its : List Item) (place : ℕ) : Type 0 where
 
 -- so among those that it keeps
 abbrev pub HasCheckpoint : Verified → ℕ → Type 0
-HasCheckpoint verified place = (records : List Record) × Keeps verified records × HasCheckpointAt (items_of records) place
+HasCheckpoint verified place =
+    (records : List Record) × Keeps verified records × HasCheckpointAt (items_of records) place
 
 -- what ran for a guest at t is no more than from the last checkpoint at or before t, or from the start
 pub record RanFromLast (verified : Verified) (t ran : ℕ) : Type 0 where

@@ -22,10 +22,12 @@ abbrev pub Leads : Item → State → List Part → State → State → List Par
 Leads (items.Opening o) base row s base' row' s' = ⊥
 Leads (items.Frame f) base row s base' row' s' = FrameStep s f s' × (base' ≡ base) × (row' ≡ [])
 Leads (items.Part p) base row s base' row' s' =
-    PartFits p.rest base (row ++ p ∷ []) s × (base' ≡ base_after p.rest base s) × (row' ≡ row_after p.rest (row ++ p ∷ [])) × (s' ≡ s)
+    PartFits p.rest base (row ++ p ∷ []) s × (base' ≡ base_after p.rest base s)
+    × (row' ≡ row_after p.rest (row ++ p ∷ [])) × (s' ≡ s)
 
 -- a record leads on: it is this guest's of this index, and its item leads on
-pub record LeadsOn (guest index : ℕ) (r : Record) (base : State) (row : List Part) (s base' : State) (row' : List Part) (s' : State) : Type 0 where
+pub record LeadsOn (guest index : ℕ) (r : Record) (base : State) (row : List Part) (s base' : State)
+    (row' : List Part) (s' : State) : Type 0 where
   pub guest_is : r.guest ≡ guest
   pub index_is : r.index ≡ index
   pub leads : Leads r.item base row s base' row' s'

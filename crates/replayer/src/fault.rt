@@ -1,12 +1,14 @@
-//! Why records were not read, not replayed, or not verified.
+//! Why records were not read, not replayed or verified, or their output was not put out.
 
 ghost use Rattle.std.specs.Prelude.{◌≡◌};
 ghost use Rattle.replayer.specs.Told.{read_told};
 ghost use Rattle.replayer.specs.declared.fault.ReplayFault.TheVariants as refusals;
+ghost use Rattle.replayer.specs.declared.fault.OutputFault.TheVariants as output_faults;
 ghost use Rattle.replayer.specs.declared.fault.VerifyFault.TheVariants as verify_faults;
 
 use recover::ReadFault;
 use rrv_model::refusal;
+use rrv_model::sink::SinkError;
 use std::alloc::{AllocError, AllocFailed};
 use thiserror::Error;
 
@@ -105,5 +107,32 @@ impl From<refusal::Memory> for VerifyFault {
 
     fn from(_: refusal::Memory) -> Self {
         VerifyFault::Memory
+    }
+}
+
+/// Why not all output was put out.
+#[derive(Clone, Copy, Debug, PartialEq, Eq, Error)]
+pub enum OutputFault {
+    /// The sink took no byte.
+    #[error("output failed")]
+    SinkFailed,
+    /// A growth was refused.
+    #[error("out of memory")]
+    Memory,
+}
+
+impl From<SinkError> for OutputFault {
+    ghost from_gives = { λ _ e. e ≡ output_faults.SinkFailed };
+
+    fn from(_: SinkError) -> Self {
+        OutputFault::SinkFailed
+    }
+}
+
+impl From<refusal::Memory> for OutputFault {
+    ghost from_gives = { λ _ e. e ≡ output_faults.Memory };
+
+    fn from(_: refusal::Memory) -> Self {
+        OutputFault::Memory
     }
 }

@@ -3,7 +3,8 @@
 ghost use Rattle.std.specs.Prelude.{◌≡◌, ◌<◌, ◌^◌, IfOk, OnOk};
 ghost use Rattle.rrv_model.specs.FrameStep.{FrameStep, Steps};
 ghost use Rattle.rrv_model.specs.State.{State};
-ghost use Rattle.guest_calls.specs.Guest.{counted, state_of};
+ghost use Rattle.guest_calls.specs.Guest.{chunks_of, counted, state_of};
+ghost use Rattle.serial_sched.specs.Slices.{CallPuts};
 ghost use Rattle.replayer.specs.Places.{last_instruction};
 
 use guest_calls::Guest;
@@ -29,6 +30,7 @@ pub(crate) fn run_plain(guest: &mut Guest, tid: u32, count: u32) -> Result<(), M
 pub(crate) fn follow_whole(alloc: Global, guest: &mut Guest, frame: &Frame) -> Result<(), Memory>
     requires { (new : State) × FrameStep (state_of guest.old) frame.now new }
     ensures follows { OnOk result (FrameStep (state_of guest.old) frame.now (state_of guest.new)) }
+    ensures puts { OnOk result (CallPuts frame.now.end (state_of guest.old) frame.now (chunks_of guest.new.put)) }
     ensures ran { OnOk result (guest.new.ran ≡ counted guest.old.ran frame.now.count) }
 {
     match follow(alloc, guest, frame) {

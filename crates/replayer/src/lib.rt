@@ -1,10 +1,11 @@
-//! Replays guests: reads the records of one, verifies each against what the guest's state makes of it, and goes to any place
-//! of a verified recording.
+//! Replays guests: reads the records of one, verifies each against what the guest's state makes of it, and goes to any
+//! place of a verified recording.
 #![tactic(auto)]
 
 mod fault;
 mod forward;
 mod opened;
+mod outputs;
 mod place;
 mod recording;
 mod replaying;
@@ -12,7 +13,7 @@ mod verified;
 mod verifying;
 mod walk;
 
-pub use fault::{ReplayFault, VerifyFault};
+pub use fault::{OutputFault, ReplayFault, VerifyFault};
 pub use place::Place;
 pub use recording::Verified;
 pub use replaying::{Replayed, read_guest, replay};

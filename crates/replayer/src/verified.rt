@@ -34,7 +34,7 @@ impl Verified {
     }
 
     /// The guest at its start.
-    fn start(&self, alloc: Global) -> Result<Place, Memory>
+    pub(crate) fn start(&self, alloc: Global) -> Result<Place, Memory>
         requires { AreKept self.now.opening self.now.frames self.now.marks }
         ensures place { IfOk result (λ p. IsPlace self.now.opening self.now.frames p.frames p.at (state_of p.guest)) }
         ensures at { IfOk result (λ p. p.at ≡ 0) }

@@ -11,10 +11,10 @@ use rrv_model::record::Record;
 use rrv_model::sequence::Sequence;
 use std::alloc::Global;
 
-/// Verifies a guest's records: replays each against what the guest's state makes of it, and tests each complete checkpoint
-/// against the state there. `BadOpening` is a list that begins with no opening from which a guest starts. `Mismatch` names
-/// the first record that doesn't follow from those before it, and `BadCheckpoint` says so of one that ends a checkpoint.
-/// `Memory` is a growth that was refused, which comes only where a guest starts.
+/// Verifies a guest's records: replays each against what the guest's state makes of it, and tests each complete
+/// checkpoint against the state there. `BadOpening` is a list that begins with no opening from which a guest starts.
+/// `Mismatch` names the first record that doesn't follow from those before it, and `BadCheckpoint` says so of one that
+/// ends a checkpoint. `Memory` is a growth that was refused, which comes only where a guest starts.
 pub fn verify(alloc: Global, records: &[Record]) -> Result<Verified, VerifyFault>
     ensures keeps { IfOk result (λ verified. Keeps verified records.now) }
     ensures refused { IfErr result (λ e. RefusesVerify e records.now) }

@@ -19,8 +19,8 @@ use serial_sched::{FollowFault, follow};
 use std::alloc::Global;
 use std::mem::replace;
 
-/// What stands behind some records: a guest in the state there, one in the state of the last complete checkpoint, the parts
-/// since, and what is kept.
+/// What stands behind some records: a guest in the state there, one in the state of the last complete checkpoint, the
+/// parts since, and what is kept.
 #[derive(Drop)]
 pub(crate) struct Walk {
     pub(crate) guest: Guest,

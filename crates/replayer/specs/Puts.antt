@@ -1,0 +1,35 @@
+-- What is put out of a verified recording.
+use Rattle.std.specs.Prelude.{◌≡◌, ℕ, List, [], ◌++◌, take}
+use Rattle.rrv_model.specs.declared.record.End.{End}
+use Rattle.rrv_model.specs.declared.record.End.TheVariants.{Preempt, Call, Fault, Stuck}
+use Rattle.rrv_model.specs.declared.record.Frame.{Frame}
+use Rattle.rrv_model.specs.declared.record.Opening.{Opening}
+use Rattle.rrv_model.specs.State.{State}
+use Rattle.rrv_model.specs.Output.{Chunk, Output, PutFrom, spread}
+
+-- all that the frames put out was taken
+pub record PutsAll (o : Opening) (frames : List Frame) (before after : List (ℕ × ℕ)) : Type 0 where
+  pub chunks : List Chunk
+  pub is_output : Output o frames chunks
+  pub took : after ≡ before ++ spread chunks
+
+-- a beginning of it was
+pub record PutsBeginning (o : Opening) (frames : List Frame) (before after : List (ℕ × ℕ)) : Type 0 where
+  pub chunks : List Chunk
+  pub is_output : Output o frames chunks
+  pub count : ℕ
+  pub took : after ≡ before ++ take count (spread chunks)
+
+-- just what was put out before these frames was taken
+pub record PutsSoFar (o : Opening) (frames : List Frame) (s : State) (left : List Frame)
+    (before after : List (ℕ × ℕ)) : Type 0 where
+  pub done : List Chunk
+  pub on : (rest : List Chunk) → PutFrom s left rest → Output o frames (done ++ rest)
+  pub took : after ≡ before ++ spread done
+
+-- of a frame that ends in a call, what is kept as put out
+abbrev pub chunks_by : End → List Chunk → List Chunk
+chunks_by (Call r) kept = kept
+chunks_by Preempt kept = []
+chunks_by (Fault kind) kept = []
+chunks_by Stuck kept = []
