@@ -158,7 +158,8 @@ fn add_part(
 pub fn make(alloc: Global, guest: &Guest, base: &Snapshot) -> Result<Vec<Part>, Memory>
     requires { IsSome (guest_snapshots guest.now base.now) }
     ensures texts { IfOk result (λ parts. AllByRecursion HasPartText parts.items) }
-    ensures describes { IfOk result (λ parts. (old : State) → IsBaseOf (kept_memory guest.now base.now) old (state_of guest.now)
+    ensures describes { IfOk result (λ parts. (old : State)
+        → IsBaseOf (kept_memory guest.now base.now) old (state_of guest.now)
         → Describes old parts.items (state_of guest.now)) }
 {
     let rest = rest_of(alloc, guest)?;
