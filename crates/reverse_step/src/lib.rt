@@ -1,0 +1,9 @@
+//! A cursor over a verified recording, which goes back and forward, and to the last change of a byte.
+#![tactic(auto)]
+
+mod cursor;
+mod fault;
+mod searching;
+
+pub use cursor::Cursor;
+pub use fault::SeekFault;
