@@ -1,6 +1,6 @@
 //! A cursor over a verified recording.
 
-ghost use Rattle.std.specs.Prelude.{◌≡◌, ◌≤◌, ◌<◌, ◌-◌, ◌+◌, ◌↔◌, IfOk, IfSome, IsErrOf, OnErr, OnOk};
+ghost use Rattle.std.specs.Prelude.{◌≡◌, ◌≤◌, ◌<◌, ◌-◌, ◌+◌, ◌↔◌, IfNone, IfOk, IfSome, IsErrOf, OnErr, OnOk};
 ghost use Rattle.rrv_model.specs.StateAt.{StateAt, total};
 ghost use Rattle.guest_calls.specs.Guest.{state_of};
 ghost use Rattle.replayer.specs.Verified.{IsVerified, RanFromLast};
@@ -124,6 +124,7 @@ impl<'a> Cursor<'a> {
         ensures change { IfOk result (IsLastChange self.old.verified.now.opening self.old.verified.now.frames address
             self.old.place.at) }
         ensures at { IfOk result (λ found. IfSome found (λ t. self.new.place.at ≡ t)) }
+        ensures stays { IfOk result (λ found. IfNone found (self.new ≡ self.old)) }
         ensures refused { OnErr result (self.new ≡ self.old) }
     {
         let mut end = self.place.at();
