@@ -17,7 +17,9 @@ use Rattle.rrv_model.proofs.FrameLaws.{one_state_after_frame}
 use Rattle.rrv_model.proofs.RunLaws.{items-append, numbered-append}
 use Rattle.replayer.specs.declared.fault.VerifyFault.{VerifyFault}
 use Rattle.replayer.specs.declared.fault.VerifyFault.TheVariants as faults
-use Rattle.replayer.specs.Walks.{Leads, LeadsOn, Stands, StandsBehind}
+use Rattle.rrv_model.specs.Standing.{StandsBehind}
+use Rattle.rrv_model.proofs.Standing.{next_behind, opening_behind, starts_behind}
+use Rattle.replayer.specs.Walks.{LeadsOn, Stands}
 use Rattle.replayer.specs.Refusals.{EndsCheckpointAt, Fails, IsLastPart, RefusesFirst, RefusesNext, RefusesOpening, RefusesVerify, StopsAt, TakesMemory}
 
 one_more : (n : ℕ) → n + 1 ≡ suc n
@@ -40,51 +42,18 @@ all_of P xs n long all = subst (All P) (take_all n xs long) all
 pub stands_first : (r : Record) (o : Opening) (base s : State) → r.index ≡ 0 → r.item ≡ items.Opening o → Opens o.elf o.name o.random base → Opens o.elf o.name o.random s →
     Stands r.guest (r ∷ []) base [] s
 stands_first r o base s index_is item_is opens_base opens =
-    let e : base ≡ s = opens_base.state_is ∙ sym opens.state_is in
-    let behind : StandsBehind (items.Opening o ∷ []) base [] s = λ rest. (
-      λ h.
-          let same : h.0 ≡ s = h.1.state_is ∙ sym opens.state_is in
-          subst (λ (b : State). ItemsFollow b [] s rest) (sym e) (subst (λ (m : State). ItemsFollow m [] m rest) same h.2),
-      λ h. (s, opens, subst (λ (b : State). ItemsFollow b [] s rest) e h),
-    ) in
+    let e : s ≡ base = opens.state_is ∙ sym opens_base.state_is in
+    let behind : StandsBehind (items.Opening o ∷ []) base [] s = subst (λ (b : State). StandsBehind (items.Opening o ∷ []) b [] s) e (opening_behind o s opens) in
     record {
       numbered = (refl, index_is, tt);
       behind = subst (λ (it : Item). StandsBehind (it ∷ []) base [] s) (sym item_is) behind;
     }
 
--- what leads on is what follows
-leads_back : (it : Item) (base : State) (row : List Part) (s base' : State) (row' : List Part) (s' : State) → Leads it base row s base' row' s' →
-    (rest : List Item) → ItemsFollow base' row' s' rest → ItemsFollow base row s (it ∷ rest)
-leads_back (items.Opening o) base row s base' row' s' leads rest h = absurd leads
-leads_back (items.Frame f) base row s base' row' s' leads rest h =
-    (s', leads.0, subst (λ (b : State). ItemsFollow b [] s' rest) leads.1 (subst (λ (ps : List Part). ItemsFollow base' ps s' rest) leads.2 h))
-leads_back (items.Part p) base row s base' row' s' leads rest h =
-    let one = subst (λ (b : State). ItemsFollow b row' s' rest) leads.1 h in
-    let two = subst (λ (ps : List Part). ItemsFollow (base_after p.rest base s) ps s' rest) leads.2 one in
-    (leads.0, subst (λ (m : State). ItemsFollow (base_after p.rest base s) (row_after p.rest (row ++ p ∷ [])) m rest) leads.3 two)
-
-leads_on : (it : Item) (base : State) (row : List Part) (s base' : State) (row' : List Part) (s' : State) → Leads it base row s base' row' s' →
-    (rest : List Item) → ItemsFollow base row s (it ∷ rest) → ItemsFollow base' row' s' rest
-leads_on (items.Opening o) base row s base' row' s' leads rest h = absurd leads
-leads_on (items.Frame f) base row s base' row' s' leads rest h =
-    let same : h.0 ≡ s' = one_state_after_frame s f h.0 s' h.1 leads.0 in
-    subst (λ (ps : List Part). ItemsFollow base' ps s' rest) (sym leads.2)
-    (subst (λ (b : State). ItemsFollow b [] s' rest) (sym leads.1) (subst (λ (m : State). ItemsFollow base [] m rest) same h.2))
-leads_on (items.Part p) base row s base' row' s' leads rest h =
-    let three = subst (λ (m : State). ItemsFollow (base_after p.rest base s) (row_after p.rest (row ++ p ∷ [])) m rest) (sym leads.3) h.1 in
-    let two = subst (λ (ps : List Part). ItemsFollow (base_after p.rest base s) ps s' rest) (sym leads.2) three in
-    subst (λ (b : State). ItemsFollow b row' s' rest) (sym leads.1) two
-
 pub stands_next : (guest : ℕ) (records : List Record) (r : Record) (base : State) (row : List Part) (s base' : State) (row' : List Part) (s' : State) →
     Stands guest records base row s → LeadsOn guest (length records) r base row s base' row' s' → Stands guest (records ++ r ∷ []) base' row' s'
 stands_next guest records r base row s base' row' s' h next = record {
   numbered = numbered-append guest 0 records r h.numbered next.guest_is (omega (arith, next.index_is));
-  behind = λ rest.
-      let same : items_of (records ++ r ∷ []) ++ rest ≡ items_of records ++ r.item ∷ rest =
-      ap (λ (is : List Item). is ++ rest) (items-append records r) ∙ append_assoc (items_of records) (r.item ∷ []) rest in (
-        λ starts. leads_on r.item base row s base' row' s' next.leads rest ((h.behind (r.item ∷ rest)).0 (subst Starts same starts)),
-        λ follows. subst Starts (sym same) ((h.behind (r.item ∷ rest)).1 (leads_back r.item base row s base' row' s' next.leads rest follows)),
-      );
+  behind = subst (λ (is : List Item). StandsBehind is base' row' s') (sym (items-append records r)) (next_behind (items_of records) r.item base row s base' row' s' h.behind next.leads);
 }
 
 pub stands_at : (guest : ℕ) (records : List Record) (index : ℕ) (r : Record) (base : State) (row : List Part) (s base' : State) (row' : List Part) (s' : State) →
@@ -102,7 +71,7 @@ pub recording_of : (guest : ℕ) (records : List Record) (base : State) (row : L
 recording_of guest records base row s h = record {
   guest = guest;
   numbered = h.numbered;
-  starts = subst Starts (append-nil (items_of records)) ((h.behind []).1 tt);
+  starts = starts_behind (items_of records) base row s h.behind;
 }
 
 pub recording_of_all : (guest : ℕ) (records : List Record) (index : ℕ) (base : State) (row : List Part) (s : State) → length records ≤ index →

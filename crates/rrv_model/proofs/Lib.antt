@@ -10,6 +10,7 @@ pub mod Decoding
 pub mod CallExamples
 pub mod RunExample
 pub mod RunLaws
+pub mod Standing
 pub mod CrashLaws
 pub mod SettledLaws
 pub mod StoreCallLaws

@@ -14,6 +14,7 @@ pub mod StateAt
 pub mod Output
 pub mod Checkpoint
 pub mod Recording
+pub mod Standing
 pub mod RecordText
 pub mod CrashModel
 pub mod StoreText
