@@ -4,6 +4,7 @@ use guest_calls::Put;
 use recover::{Lists, open};
 use replayer::{read_guest, replay};
 use rrv_model::machine::GuestEnd;
+use rrv_model::record::Record;
 use std::alloc::Global;
 use std::test::Fail;
 use trace_disk::{Disk, MemDisk};
@@ -31,6 +32,11 @@ impl Store {
             lists,
             disk: log.close(),
         })
+    }
+
+    /// The records of a guest.
+    pub(super) fn records(&mut self, alloc: Global, guest: u32) -> Result<Vec<Record>, Fail> {
+        Ok(read_guest(alloc, &self.lists, &mut self.disk, guest)?)
     }
 
     /// How many guests it has.
