@@ -89,13 +89,13 @@ head_is [] p low e = absurd (omega arith)
 head_is (q ∷ qs) p low e = λ i. sym e i ∷ qs
 
 -- all that was left of the first record's output has left
-pub first_whole : (released offset at : ℕ) (ps now : List Put) (p : Put) (room room' : Bool) → 1 ≤ length ps → p ≡ get_or ps 0 p → at ≡ length p.bytes → now ≡ drop 1 ps
-    → LeavesFirst (record { released = released; owed = owed_of offset ps; has_room = room }) (record { released = released + 1; owed = owed_of 0 now; has_room = room' }) (to_descriptor p.descriptor (take (at - offset) (drop offset p.bytes))) true
+pub first_whole : (released offset at : ℕ) (ps now : List Put) (p : Put) (room room' : ℕ) → 1 ≤ length ps → p ≡ get_or ps 0 p → at ≡ length p.bytes → now ≡ drop 1 ps
+    → LeavesFirst (record { released = released; owed = owed_of offset ps; room = room }) (record { released = released + 1; owed = owed_of 0 now; room = room' }) (to_descriptor p.descriptor (take (at - offset) (drop offset p.bytes))) true
 first_whole released offset at ps now p room room' low e all rest =
     (refl, ap (owed_of offset) (head_is ps p low e) ∙ (λ i. sym (all_put p offset at all) i ∷ map bytes_of (sym rest i)) ∙ ap (λ (l : List (List (ℕ × ℕ))). to_descriptor p.descriptor (take (at - offset) (drop offset p.bytes)) ∷ l) (sym (owed_from_start now)))
 
-pub first_part : (released offset at : ℕ) (ps : List Put) (p : Put) (room room' : Bool) → 1 ≤ length ps → p ≡ get_or ps 0 p → offset ≤ at
-    → LeavesFirst (record { released = released; owed = owed_of offset ps; has_room = room }) (record { released = released; owed = owed_of at ps; has_room = room' }) (to_descriptor p.descriptor (take (at - offset) (drop offset p.bytes))) false
+pub first_part : (released offset at : ℕ) (ps : List Put) (p : Put) (room room' : ℕ) → 1 ≤ length ps → p ≡ get_or ps 0 p → offset ≤ at
+    → LeavesFirst (record { released = released; owed = owed_of offset ps; room = room }) (record { released = released; owed = owed_of at ps; room = room' }) (to_descriptor p.descriptor (take (at - offset) (drop offset p.bytes))) false
 first_part released offset at ps p room room' low e le = (
   refl,
   (

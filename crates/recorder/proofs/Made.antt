@@ -10,7 +10,7 @@ use Rattle.commit_group.specs.Seats.{RecorderValue}
 use Rattle.commit_group.specs.Submits.{after_look}
 use Rattle.recorder.specs.declared.fault.RecorderFault.{RecorderFault}
 use Rattle.recorder.specs.Owed.{Owed, left_of, Leaves}
-use Rattle.recorder.specs.RecorderCalls.{KeepsMade, PutsCounted, PutsMore, SendsSome, TellsTaken}
+use Rattle.recorder.specs.RecorderCalls.{KeepsCheckpoints, KeepsMade, PutsCounted, PutsMore, SendsSome, TellsTaken}
 use Rattle.recorder.specs.Recorders.{GuestRecorder, HasPut, backlog_of, made, records_from}
 use Rattle.recorder.proofs.Puts.{counted_both}
 
@@ -37,7 +37,7 @@ released_more old new put seen same seen_is rises low leaves out has = record {
 -- ---- calls one behind the other
 
 pub keeps_none : (r : GuestRecorder) → KeepsMade r r
-keeps_none r = record { made_is = refl; guest = refl; group = refl; place = refl; here = refl }
+keeps_none r = record { made_is = refl; guest = refl; group = refl; place = refl; here = refl; checkpoints = (refl, refl) }
 
 pub keeps_both : (a b c : GuestRecorder) → KeepsMade a b → KeepsMade b c → KeepsMade a c
 keeps_both a b c h k = record {
@@ -46,6 +46,7 @@ keeps_both a b c h k = record {
   group = k.group ∙ h.group;
   place = k.place ∙ h.place;
   here = k.here ∙ h.here;
+  checkpoints = (k.checkpoints.0 ∙ h.checkpoints.0, k.checkpoints.1 ∙ h.checkpoints.1);
 }
 
 pub keeps_sent : (a b : GuestRecorder) → SendsSome a b → KeepsMade a b
@@ -55,15 +56,17 @@ keeps_sent a b h = record {
   group = ap (λ (q : RecorderValue). q.group) h.seat;
   place = ap (λ (q : RecorderValue). q.guest) h.seat;
   here = ap (λ (q : RecorderValue). q.has_left) h.seat;
+  checkpoints = h.checkpoints;
 }
 
-pub keeps_released : (a b : GuestRecorder) (word : ℕ) → b.seat ≡ after_look a.seat word → (b.backlog ≡ a.backlog) × (b.guest ≡ a.guest) → KeepsMade a b
-keeps_released a b word looks same = record {
+pub keeps_released : (a b : GuestRecorder) (word : ℕ) → b.seat ≡ after_look a.seat word → (b.backlog ≡ a.backlog) × (b.guest ≡ a.guest) → KeepsCheckpoints a b → KeepsMade a b
+keeps_released a b word looks same checkpoints = record {
   made_is = (λ i. (looks i).sent ++ same.0 i);
   guest = same.1;
   group = ap (λ (q : RecorderValue). q.group) looks;
   place = ap (λ (q : RecorderValue). q.guest) looks;
   here = ap (λ (q : RecorderValue). q.has_left) looks;
+  checkpoints = checkpoints;
 }
 
 pub looks_once : (a b c : GuestRecorder) (word : ℕ) → SendsSome a b → c.seat ≡ after_look b.seat word → c.seat.looks ≡ a.seat.looks + 1

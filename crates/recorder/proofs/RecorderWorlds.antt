@@ -1,9 +1,11 @@
 -- A recorder's calls are events.
-use Rattle.std.proofs.Common.{◌≡◌, ℕ, zero, suc, ◌+◌, ◌<◌, ◌≤◌, List, [], ◌∷◌, ◌++◌, length, min, take, refl, sym, ap, ◌∙◌, subst, arith, append_assoc}
-use Rattle.std.proofs.lemmas.List.{append_cancel_left, length-map, map-append, map_push}
+use Rattle.std.proofs.Common.{◌≡◌, ℕ, zero, suc, ◌+◌, ◌<◌, ◌≤◌, List, [], ◌∷◌, ◌++◌, length, map, min, take, refl, sym, ap, ◌∙◌, subst, arith, append_assoc}
+use Rattle.std.proofs.lemmas.List.{append-nil, append_cancel_left, length-map, map-append, map_push}
 use Rattle.rrv_model.specs.declared.limits.TheConstants.{MAX_NUMBER}
 use Rattle.rrv_model.specs.declared.record.Choice.{Choice}
 use Rattle.rrv_model.specs.declared.record.Item.{Item}
+use Rattle.rrv_model.specs.declared.record.Item.TheVariants as items
+use Rattle.rrv_model.specs.declared.record.Part.{Part}
 use Rattle.rrv_model.specs.declared.record.Record.{Record}
 use Rattle.rrv_model.specs.Output.{spread}
 use Rattle.rrv_model.specs.RecordText.{HasText}
@@ -22,9 +24,11 @@ use Rattle.commit_group.specs.Seats.{RecorderValue}
 use Rattle.commit_group.specs.Steps.{StandsForRecorder}
 use Rattle.commit_group.specs.Submits.{after_look}
 use Rattle.recorder.specs.Recorded.{IsRecorded}
-use Rattle.recorder.specs.RecorderCalls.{HasStepped}
-use Rattle.recorder.specs.Recorders.{GuestRecorder, HasRecorded, made}
-use Rattle.recorder.specs.RecorderWorlds.{ReleasesAreEvents, StandsForGuest, StepsAreEvents}
+use Rattle.recorder.specs.declared.checkpoints.Parts.{Parts}
+use Rattle.recorder.specs.RecorderCalls.{HasStepped, part_records}
+use Rattle.recorder.specs.Recorders.{GuestRecorder, HasRecorded, made, records_from}
+use Rattle.recorder.specs.RecorderWorlds.{ReleasesAreEvents, SlicesHappen, StandsForGuest, StepsAreEvents, next_in_store}
+use Rattle.recorder.proofs.Parted.{some_pushed, without_parts}
 use Rattle.recorder.proofs.Released.{output_is_durable}
 
 -- ---- records under their numbers
@@ -63,6 +67,10 @@ renumbered_is b place rs s h =
       ends = subst (λ (l : List Item). EndsIn l s) (sym (renumbered_items b rs)) h.ends;
     }
 
+last_guest : (guest index : ℕ) (rs : List Record) (r : Record) → IsNumbered guest index (rs ++ r ∷ []) → r.guest ≡ guest
+last_guest guest index [] r h = h.0
+last_guest guest index (q ∷ rs) r h = last_guest guest (index + 1) rs r h.2
+
 -- lists with equal fronts
 same_front : (a b x y : List Record) → a ≡ b → a ++ x ≡ b ++ y → x ≡ y
 same_front a b x y front both = append_cancel_left b x y (ap (λ (l : List Record). l ++ x) (sym front) ∙ both)
@@ -87,21 +95,23 @@ stands_by w r one there at sent seen knows_halt left = record {
   left = ap (λ (x : Recorder). x.left) at ∙ left;
 }
 
--- ---- the laws
+-- ---- slices
 
-module _ {O : Type 0} (gives : Gives O) (old new : GuestRecorder) (choice : Choice) (before after' : O) (out : List (ℕ × ℕ)) (w : World)
-    (step : HasStepped gives old choice new before after') (recorded : HasRecorded new) (room : w.first_guest + w.guests ≤ MAX_NUMBER + 1) (h : StandsForGuest old out w) where
+-- what the world's recorder keeps at a seat's place, where these records wait to be sent and this is the guest's state
+record Waits (seat : RecorderValue) (backlog : List Record) (s : State) (out : List (ℕ × ℕ)) (w : World) : Type 0 where
+  stands : StandsForRecorder seat w
+  backlog_is : (w.recorders seat.guest).backlog ≡ renumbered w.first_guest backlog
+  earlier : List State
+  states_are : (w.recorders seat.guest).states ≡ earlier ++ s ∷ []
+  out_is : (w.recorders seat.guest).out ≡ out
+
+module _ (seat : RecorderValue) (backlog : List Record) (last : State) (out : List (ℕ × ℕ)) (w : World) (h : Waits seat backlog last out w) (room : w.first_guest + w.guests ≤ MAX_NUMBER + 1)
+    (r : Record) (s : State) (all : IsRecorded seat.guest ((seat.sent ++ backlog) ++ r ∷ []) s) where
   abbrev g : ℕ
-  g = old.seat.guest
+  g = seat.guest
 
   abbrev b : ℕ
   b = w.first_guest
-
-  abbrev r : Record
-  r = frame_record g (length (made old)) step.frame
-
-  abbrev s : State
-  s = state_of new.guest
 
   abbrev entry : Record
   entry = numbered b r
@@ -109,51 +119,138 @@ module _ {O : Type 0} (gives : Gives O) (old new : GuestRecorder) (choice : Choi
   abbrev one : Recorder
   one = sliced entry s (w.recorders g)
 
-  longer : made_there (w.recorders g) ++ entry ∷ [] ≡ renumbered b (made old ++ r ∷ [])
-  longer = ap (λ (l : List Record). l ++ entry ∷ []) (made_in_world old out w h) ∙ sym (map_push (numbered b) (made old) r)
-
-  all : IsRecorded g (made old ++ r ∷ []) s
-  all =
-      let place : new.seat.guest ≡ g = ap (λ (q : RecorderValue). q.guest) step.seat in
-      subst (λ (x : ℕ × List Record). IsRecorded x.0 x.1 s) (λ i. (place i, step.made_is i)) recorded
+  longer : made_there (w.recorders g) ++ entry ∷ [] ≡ renumbered b ((seat.sent ++ backlog) ++ r ∷ [])
+  longer =
+      (λ i. (h.stands.sent i ++ h.backlog_is i) ++ entry ∷ []) ∙ ap (λ (l : List Record). l ++ entry ∷ []) (sym (map-append (numbered b) seat.sent backlog))
+      ∙ sym (map_push (numbered b) (seat.sent ++ backlog) r)
 
   can_slice : CanSlice w g entry s
   can_slice =
-      let there = renumbered_is b g (made old ++ r ∷ []) s all in
-      let low = h.seat.there in
+      let there = renumbered_is b g ((seat.sent ++ backlog) ++ r ∷ []) s all in
+      let low = h.stands.there in
+      let last_text = last_has_text (seat.sent ++ backlog) r all.has_text in
+      let place : r.guest ≡ g = last_guest g 0 (seat.sent ++ backlog) r all.numbered in
       record {
         guest = low;
-        has_text = renumbered_text b r (omega arith) (last_has_text (made old) r all.has_text);
+        has_text = renumbered_text b r (omega arith) last_text;
         recording = subst IsRecording (sym longer) there.recording;
         numbered = subst (IsNumbered (b + g) 0) (sym longer) there.numbered;
         ends = subst (λ (l : List Record). EndsIn (items_of l) s) (sym longer) there.ends;
       }
 
-  -- the backlog has one record more
-  backlog_is : new.backlog ≡ old.backlog ++ r ∷ []
-  backlog_is =
-      let sent : new.seat.sent ≡ old.seat.sent = ap (λ (q : RecorderValue). q.sent) step.seat in
-      same_front new.seat.sent old.seat.sent new.backlog (old.backlog ++ r ∷ []) sent (step.made_is ∙ append_assoc old.seat.sent old.backlog (r ∷ []))
-
-  stands_behind : StandsForGuest new out (after w (Slice g entry s))
-  stands_behind =
+  waits_behind : Waits seat (backlog ++ r ∷ []) s out (after w (Slice g entry s))
+  waits_behind =
       let w' = after w (Slice g entry s) in
       let at : w'.recorders g ≡ one = put_same w.recorders g one in
-      let seat : StandsForRecorder old.seat w' = stands_by w' old.seat one h.seat.there at h.seat.sent h.seat.seen h.seat.knows_halt h.seat.left in
-      let old_place : (q : RecorderValue) → q ≡ old.seat → w'.recorders q.guest ≡ one = λ q e. ap (λ (x : RecorderValue). w'.recorders x.guest) e ∙ at in
-      let here = old_place new.seat step.seat in
       record {
-        seat = subst (λ (q : RecorderValue). StandsForRecorder q w') (sym step.seat) seat;
-        backlog = ap (λ (x : Recorder). x.backlog) here ∙ ap (λ (l : List Record). l ++ entry ∷ []) h.backlog ∙ sym (map_push (numbered b) old.backlog r) ∙ ap (renumbered b) (sym backlog_is);
+        stands = stands_by w' seat one h.stands.there at h.stands.sent h.stands.seen h.stands.knows_halt h.stands.left;
+        backlog_is = ap (λ (x : Recorder). x.backlog) at ∙ ap (λ (l : List Record). l ++ entry ∷ []) h.backlog_is ∙ sym (map_push (numbered b) backlog r);
         earlier = (w.recorders g).states;
-        states = ap (λ (x : Recorder). x.states) here;
-        out_is = ap (λ (x : Recorder). x.out) here ∙ h.out_is;
-        has_put = step.has_put out h.has_put;
+        states_are = ap (λ (x : Recorder). x.states) at;
+        out_is = ap (λ (x : Recorder). x.out) at ∙ h.out_is;
       }
 
+-- slices that make parts, in a row
+rows : (parts : List Part) (index : ℕ) (seat : RecorderValue) (backlog : List Record) (s : State) (out : List (ℕ × ℕ)) (w : World) → Waits seat backlog s out w → w.first_guest + w.guests ≤ MAX_NUMBER + 1
+    → IsRecorded seat.guest ((seat.sent ++ backlog) ++ records_from seat.guest index (map items.Part parts)) s
+    → SlicesHappen w seat.guest (renumbered w.first_guest (records_from seat.guest index (map items.Part parts))) s
+    (Waits seat (backlog ++ records_from seat.guest index (map items.Part parts)) s out)
+rows [] index seat backlog s out w h room all = subst (λ (l : List Record). Waits seat l s out w) (sym (append-nil backlog)) h
+rows (p ∷ parts) index seat backlog s out w h room all =
+    let r : Record = record { guest = seat.guest; index = index; item = items.Part p } in
+    let more = records_from seat.guest (index + 1) (map items.Part parts) in
+    let made_here = seat.sent ++ backlog in
+    let both : IsRecorded seat.guest ((made_here ++ r ∷ []) ++ more) s = subst (λ (l : List Record). IsRecorded seat.guest l s) (sym (append_assoc made_here (r ∷ []) more)) all in
+    let first : IsRecorded seat.guest (made_here ++ r ∷ []) s = without_parts seat.guest (made_here ++ r ∷ []) seat.guest (index + 1) parts s (some_pushed made_here r) both in
+    let w' = after w (Slice seat.guest (numbered w.first_guest r) s) in
+    let waits = waits_behind seat backlog s out w h room r s first in
+    let again : IsRecorded seat.guest ((seat.sent ++ (backlog ++ r ∷ [])) ++ more) s =
+    subst (λ (l : List Record). IsRecorded seat.guest (l ++ more) s) (append_assoc seat.sent backlog (r ∷ [])) both in
+    let rest = rows parts (index + 1) seat (backlog ++ r ∷ []) s out w' waits room again in (
+      can_slice seat backlog s out w h room r s first,
+      subst (λ (l : List Record). SlicesHappen w' seat.guest (renumbered w.first_guest more) s (Waits seat l s out)) (append_assoc backlog (r ∷ []) more) rest,
+    )
+
+-- what holds behind them may be weakened
+slices_weaker : (records : List Record) (w : World) (g : ℕ) (s : State) (P Q : World → Type 0) → ((w : World) → P w → Q w) → SlicesHappen w g records s P → SlicesHappen w g records s Q
+slices_weaker [] w g s P Q weaker h = weaker w h
+slices_weaker (r ∷ records) w g s P Q weaker h = (h.0, slices_weaker records (after w (Slice g r s)) g s P Q weaker h.1)
+
+-- ---- the laws
+
+module _ {O : Type 0} (gives : Gives O) (old new : GuestRecorder) (choice : Choice) (outcome : Parts) (before after' : O) (out : List (ℕ × ℕ)) (w : World)
+    (step : HasStepped gives old choice outcome new before after') (recorded : HasRecorded new) (room : w.first_guest + w.guests ≤ MAX_NUMBER + 1) (h : StandsForGuest old out w) where
+  abbrev at : ℕ
+  at = old.seat.guest
+
+  abbrev f : Record
+  f = frame_record at (length (made old)) step.makes.frame
+
+  abbrev prs : List Record
+  prs = part_records step.between step.keeps.parts
+
+  abbrev end : State
+  end = state_of new.guest
+
+  seats : new.seat ≡ old.seat
+  seats = step.keeps.seat ∙ step.makes.seat
+
+  between_at : step.between.seat.guest ≡ at
+  between_at = ap (λ (q : RecorderValue). q.guest) step.makes.seat
+
+  prs_are : prs ≡ records_from at (length (made step.between)) (map items.Part step.keeps.parts)
+  prs_are = ap (λ (n : ℕ). records_from n (length (made step.between)) (map items.Part step.keeps.parts)) between_at
+
+  made_all : made new ≡ (made old ++ f ∷ []) ++ prs
+  made_all = step.keeps.made_is ∙ ap (λ (l : List Record). l ++ prs) step.makes.made_is
+
+  all_recorded : IsRecorded at ((made old ++ f ∷ []) ++ records_from at (length (made step.between)) (map items.Part step.keeps.parts)) end
+  all_recorded =
+      subst (λ (x : ℕ × List Record). IsRecorded x.0 x.1 end)
+      (λ i. ((ap (λ (q : RecorderValue). q.guest) seats) i, (made_all ∙ ap (λ (l : List Record). (made old ++ f ∷ []) ++ l) prs_are) i)) recorded
+
+  frame_recorded : IsRecorded at (made old ++ f ∷ []) end
+  frame_recorded = without_parts at (made old ++ f ∷ []) at (length (made step.between)) step.keeps.parts end (some_pushed (made old) f) all_recorded
+
+  waits : Waits old.seat old.backlog (state_of old.guest) out w
+  waits = record { stands = h.seat; backlog_is = h.backlog; earlier = h.earlier; states_are = h.states; out_is = h.out_is }
+
+  -- the backlog has as many records more
+  backlog_is : new.backlog ≡ (old.backlog ++ f ∷ []) ++ records_from at (length (made step.between)) (map items.Part step.keeps.parts)
+  backlog_is =
+      let sent : new.seat.sent ≡ old.seat.sent = ap (λ (q : RecorderValue). q.sent) seats in
+      let more = records_from at (length (made step.between)) (map items.Part step.keeps.parts) in
+      same_front new.seat.sent old.seat.sent new.backlog ((old.backlog ++ f ∷ []) ++ more) sent
+      (made_all ∙ ap (λ (l : List Record). (made old ++ f ∷ []) ++ l) prs_are
+      ∙ ap (λ (l : List Record). l ++ more) (append_assoc old.seat.sent old.backlog (f ∷ [])) ∙ append_assoc old.seat.sent (old.backlog ++ f ∷ []) more)
+
+  stands_then : (w' : World) → Waits old.seat ((old.backlog ++ f ∷ []) ++ records_from at (length (made step.between)) (map items.Part step.keeps.parts)) end out w' → StandsForGuest new out w'
+  stands_then w' k =
+      let place : (w'.recorders new.seat.guest) ≡ (w'.recorders at) = ap (λ (q : RecorderValue). w'.recorders q.guest) seats in
+      record {
+        seat = subst (λ (q : RecorderValue). StandsForRecorder q w') (sym seats) k.stands;
+        backlog = ap (λ (x : Recorder). x.backlog) place ∙ k.backlog_is ∙ ap (renumbered w'.first_guest) (sym backlog_is);
+        earlier = k.earlier;
+        states = ap (λ (x : Recorder). x.states) place ∙ k.states_are;
+        out_is = ap (λ (x : Recorder). x.out) place ∙ k.out_is;
+        has_put = step.keeps.has_put out (step.makes.has_put out h.has_put);
+      }
+
+  pub step_happens : SlicesHappen w at (next_in_store w step) end (StandsForGuest new out)
+  step_happens =
+      let more = records_from at (length (made step.between)) (map items.Part step.keeps.parts) in
+      let w' = after w (Slice at (numbered w.first_guest f) end) in
+      let first = waits_behind old.seat old.backlog (state_of old.guest) out w waits room f end frame_recorded in
+      let again : IsRecorded at ((old.seat.sent ++ (old.backlog ++ f ∷ [])) ++ more) end =
+      subst (λ (l : List Record). IsRecorded at (l ++ more) end) (append_assoc old.seat.sent old.backlog (f ∷ [])) all_recorded in
+      let rest = rows step.keeps.parts (length (made step.between)) old.seat (old.backlog ++ f ∷ []) end out w' first room again in
+      let then = slices_weaker (renumbered w.first_guest more) w' at end (Waits old.seat ((old.backlog ++ f ∷ []) ++ more) end out) (StandsForGuest new out) stands_then rest in (
+        can_slice old.seat old.backlog (state_of old.guest) out w waits room f end frame_recorded,
+        subst (λ (l : List Record). SlicesHappen w' at (renumbered w.first_guest l) end (StandsForGuest new out)) (sym prs_are) then,
+      )
+
 pub steps_are_events : {O : Type 0} (gives : Gives O) → StepsAreEvents gives
-steps_are_events gives old new choice before after' out w step recorded room h =
-    (can_slice gives old new choice before after' out w step recorded room h, stands_behind gives old new choice before after' out w step recorded room h)
+steps_are_events gives old new choice outcome before after' out w step recorded room h = step_happens gives old new choice outcome before after' out w step recorded room h
 
 pub releases_are_events : {S : Type 0} (tells : S → Type 0) (taken : S → List (ℕ × ℕ)) → ReleasesAreEvents tells taken
 releases_are_events tells taken old new sink sink' result out w puts looks same h =

@@ -1,6 +1,7 @@
 pub mod Recorded
 pub mod Told
 pub mod Owed
+pub mod Checkpoints
 pub mod Recorders
 pub mod RecorderCalls
 pub mod RecorderWorlds

@@ -4,12 +4,12 @@ use Rattle.guest_calls.specs.declared.put.Put.{Put}
 use Rattle.rrv_model.specs.Failures.{HasFailed}
 use Rattle.rrv_model.specs.Output.{to_descriptor}
 
--- how many records' output has left whole, what is left of the output of each record behind them, and whether there is
--- room for that of one more
+-- how many records' output has left whole, what is left of the output of each record behind them, and for how many more
+-- there is room
 pub record Owed : Type 0 where
   pub released : ℕ
   pub owed : List (List (ℕ × ℕ))
-  pub has_room : Bool
+  pub room : ℕ
 
 -- the bytes of a put, each with its descriptor
 abbrev pub bytes_of : Put → List (ℕ × ℕ)

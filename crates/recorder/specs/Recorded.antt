@@ -1,7 +1,6 @@
 -- What it means that a guest has been recorded: its records, and the state that they end in.
 use Rattle.std.specs.Prelude.{◌≡◌, ℕ, List, ◌∷◌}
 use Rattle.std.specs.List.{AllByRecursion}
-use Rattle.rrv_model.specs.declared.record.Item.{Item}
 use Rattle.rrv_model.specs.declared.record.Item.TheVariants as items
 use Rattle.rrv_model.specs.declared.record.Record.{Record}
 use Rattle.rrv_model.specs.State.{State}
@@ -13,19 +12,12 @@ abbrev pub opening_of : ℕ → List ℕ → List ℕ → List ℕ → Record
 opening_of guest elf name random =
     record { guest = guest; index = 0; item = items.Opening (record { elf = elf; name = name; random = random }) }
 
--- the item is no part of a checkpoint
-abbrev pub IsNoPart : Item → Type 0
-IsNoPart (items.Opening o) = Unit {0}
-IsNoPart (items.Frame f) = Unit {0}
-IsNoPart (items.Part p) = ⊥
-
--- the records of this guest are a recording with no part of a checkpoint that ends in this state, and each has a text
+-- the records of this guest are a recording that ends in this state, and each has a text
 pub record IsRecorded (guest : ℕ) (records : List Record) (s : State) : Type 0 where
   pub recording : IsRecording records
   pub numbered : IsNumbered guest 0 records
   pub ends : EndsIn (items_of records) s
   pub has_text : AllByRecursion HasText records
-  pub no_part : AllByRecursion (λ r. IsNoPart r.item) records
 
 -- this is the first of the records
 abbrev pub IsFirst : Record → List Record → Type 0

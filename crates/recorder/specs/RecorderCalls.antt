@@ -1,10 +1,18 @@
 -- What the calls of a guest's recorder do.
-use Rattle.std.specs.Prelude.{◌≡◌, ◌≢◌, ℕ, ◌+◌, ◌<◌, ◌≤◌, true, IsSome, IfErr, Result, List, [], ◌∷◌, ◌++◌, length, Option, None}
+use Rattle.std.specs.Prelude.{◌≡◌, ◌≢◌, ℕ, ◌+◌, ◌<◌, ◌≤◌, true, IsSome, IfErr, Result, List, [], ◌∷◌, ◌++◌, length, map, Option, None}
 use Rattle.rrv_model.specs.declared.limits.TheConstants.{MAX_NUMBER}
 use Rattle.rrv_model.specs.declared.record.Choice.{Choice}
 use Rattle.rrv_model.specs.declared.record.End.{End}
 use Rattle.rrv_model.specs.declared.record.Frame.{Frame}
+use Rattle.rrv_model.specs.declared.record.CheckpointRest.{CheckpointRest}
 use Rattle.rrv_model.specs.declared.record.Item.{Item}
+use Rattle.rrv_model.specs.declared.record.Item.TheVariants as items
+use Rattle.rrv_model.specs.declared.record.Part.{Part}
+use Rattle.rrv_model.specs.declared.record.Record.{Record}
+use Rattle.rrv_model.specs.Checkpoint.{EndsWithRest}
+use Rattle.recorder.specs.declared.checkpoints.Parts.{Parts}
+use Rattle.recorder.specs.declared.checkpoints.Parts.TheVariants as outcomes
+use Rattle.recorder.specs.Checkpoints.{IsDue}
 use Rattle.rrv_model.specs.declared.record.Opening.{Opening}
 use Rattle.rrv_model.specs.Failures.{HasFailed}
 use Rattle.rrv_model.specs.Opening.{Opens}
@@ -22,7 +30,7 @@ use Rattle.commit_group.specs.Seats.{RecorderValue, next_record}
 use Rattle.recorder.specs.declared.fault.RecorderFault.{RecorderFault}
 use Rattle.recorder.specs.declared.fault.RecorderFault.TheVariants as faults
 use Rattle.recorder.specs.Owed.{bytes_of, count_of}
-use Rattle.recorder.specs.Recorders.{GuestRecorder, HasPut, made}
+use Rattle.recorder.specs.Recorders.{GuestRecorder, HasPut, made, records_from}
 
 -- ---- new
 
@@ -59,15 +67,49 @@ pub record Slices {O : Type 0} (gives : Gives O) (old : GuestValue) (choice : Ch
   pub kept : Option Put
   pub slice : IsSliceOf gives old choice f (record new { put = kept }) before after
 
+-- checkpoints are as far apart, and the last is the same
+abbrev pub KeepsCheckpoints : GuestRecorder → GuestRecorder → Type 0
+KeepsCheckpoints old new = (new.every ≡ old.every) × (new.last ≡ old.last)
+
 -- One frame more was made, which is the slice of this choice. What had left is all the same.
-pub record HasStepped {O : Type 0} (gives : Gives O) (old : GuestRecorder) (choice : Choice) (new : GuestRecorder)
+pub record MakesFrame {O : Type 0} (gives : Gives O) (old : GuestRecorder) (choice : Choice) (new : GuestRecorder)
     (before after : O) : Type 0 where
   pub frame : Frame
   pub slice : Slices gives old.guest choice frame new.guest before after
   pub made_is : made new ≡ made old ++ frame_record old.seat.guest (length (made old)) frame ∷ []
   pub seat : new.seat ≡ old.seat
   pub released : new.owed.released ≡ old.owed.released
+  pub checkpoints : KeepsCheckpoints old new
   pub has_put : (out : List (ℕ × ℕ)) → HasPut old out → HasPut new out
+
+-- the records of parts behind what was made
+abbrev pub part_records : GuestRecorder → List Part → List Record
+part_records r parts = records_from r.seat.guest (length (made r)) (map items.Part parts)
+
+-- what became of the parts of a checkpoint: these were kept, all of one, where one was due, or none
+abbrev pub TellsParts : Parts → GuestRecorder → List Part → ℕ → Type 0
+TellsParts outcomes.NotDue old parts last = ¬ IsDue old.every old.last old.guest × (parts ≡ []) × (last ≡ old.last)
+TellsParts outcomes.Kept old parts last = IsDue old.every old.last old.guest
+    × ((rest : CheckpointRest) × EndsWithRest parts rest) × (last ≡ old.guest.ran)
+TellsParts outcomes.LeftOut old parts last = IsDue old.every old.last old.guest × (parts ≡ []) × (last ≡ old.last)
+
+-- Parts were made as this tells. The guest stays, and what had left.
+pub record KeepsParts (old : GuestRecorder) (outcome : Parts) (new : GuestRecorder) : Type 0 where
+  pub parts : List Part
+  pub told : TellsParts outcome old parts new.last
+  pub made_is : made new ≡ made old ++ part_records old parts
+  pub seat : new.seat ≡ old.seat
+  pub released : new.owed.released ≡ old.owed.released
+  pub every : new.every ≡ old.every
+  pub guest : (state_of new.guest ≡ state_of old.guest) × (new.guest.ran ≡ old.guest.ran)
+  pub has_put : (out : List (ℕ × ℕ)) → HasPut old out → HasPut new out
+
+-- One frame more was made, and behind it the parts of a checkpoint as this tells.
+pub record HasStepped {O : Type 0} (gives : Gives O) (old : GuestRecorder) (choice : Choice) (outcome : Parts)
+    (new : GuestRecorder) (before after : O) : Type 0 where
+  pub between : GuestRecorder
+  pub makes : MakesFrame gives old choice between before after
+  pub keeps : KeepsParts between outcome new
 
 -- all is sent, and there may be a record more
 pub record HasPlace (r : GuestRecorder) : Type 0 where
@@ -94,6 +136,7 @@ pub record IsUnmoved {O : Type 0} (old new : GuestRecorder) (before after : O) :
   pub backlog : new.backlog ≡ old.backlog
   pub owed : (new.owed.released ≡ old.owed.released) × (new.owed.owed ≡ old.owed.owed)
   pub state : state_of new.guest ≡ state_of old.guest
+  pub checkpoints : KeepsCheckpoints old new
   pub environment : after ≡ before
 
 -- ---- send
@@ -116,6 +159,7 @@ pub record SendsSome (old new : GuestRecorder) : Type 0 where
   pub seat : SeatLooksAndSends old.seat new.seat
   pub owed : new.owed ≡ old.owed
   pub guest : new.guest ≡ old.guest
+  pub checkpoints : KeepsCheckpoints old new
   pub fewer : length new.backlog ≤ length old.backlog
 
 -- ---- release and settle
@@ -159,3 +203,4 @@ pub record KeepsMade (old new : GuestRecorder) : Type 0 where
   pub group : new.seat.group ≡ old.seat.group
   pub place : new.seat.guest ≡ old.seat.guest
   pub here : new.seat.has_left ≡ old.seat.has_left
+  pub checkpoints : KeepsCheckpoints old new

@@ -1,5 +1,5 @@
 -- What contracts see of a guest's recorder.
-use Rattle.std.specs.Prelude.{◌≡◌, ℕ, ◌+◌, ◌≤◌, false, List, [], ◌∷◌, ◌++◌, length, take}
+use Rattle.std.specs.Prelude.{◌≡◌, ℕ, ◌+◌, ◌≤◌, false, List, [], ◌∷◌, ◌++◌, length, take, Option}
 use Rattle.std.specs.List.{AllByRecursion}
 use Rattle.rrv_model.specs.declared.limits.TheConstants.{MAX_NUMBER}
 use Rattle.rrv_model.specs.declared.record.Item.{Item}
@@ -10,16 +10,21 @@ use Rattle.rrv_model.specs.Recovered.{OpensAtZero}
 use Rattle.guest_calls.specs.Guest.{GuestValue, state_of}
 use Rattle.commit_core.specs.Runs.{IsOutput, ItemsPut}
 use Rattle.commit_group.specs.Seats.{RecorderValue}
+use Rattle.recorder.specs.declared.checkpoints.Checkpoints.{Checkpoints}
+use Rattle.recorder.specs.Checkpoints.{KeepsBase, every_of, last_of}
 use Rattle.recorder.specs.Owed.{Owed, left_of}
 use Rattle.recorder.specs.Recorded.{IsRecorded}
 
 -- A guest's recorder: its seat, the records that it made and didn't send, the output that waits, and the guest. The guest
--- of each record is the place in the group.
+-- of each record is the place in the group. Then how many instructions lie between two checkpoints at the least, or 0 where
+-- there are none, and how many had run at the last one, or at the start.
 pub record GuestRecorder : Type 0 where
   pub seat : RecorderValue
   pub backlog : List Record
   pub owed : Owed
   pub guest : GuestValue
+  pub every : ℕ
+  pub last : ℕ
 
 -- all records that it made, of which the first are sent
 abbrev pub made : GuestRecorder → List Record
@@ -52,14 +57,22 @@ records_from place index (item ∷ items) =
 abbrev pub backlog_of : RecorderValue → List Item → List Record
 backlog_of seat items = records_from seat.guest (length seat.sent) items
 
-abbrev pub recorder_of : RecorderValue → List Item → Owed → GuestValue → GuestRecorder
-recorder_of seat items owed guest =
-    record { seat = seat; backlog = backlog_of seat items; owed = owed; guest = guest }
+abbrev pub recorder_of : RecorderValue → List Item → Owed → GuestValue → Option Checkpoints → GuestRecorder
+recorder_of seat items owed guest checkpoints = record {
+  seat = seat;
+  backlog = backlog_of seat items;
+  owed = owed;
+  guest = guest;
+  every = every_of checkpoints;
+  last = last_of checkpoints;
+}
 
-pub record KeepsGuest (seat : RecorderValue) (items : List Item) (owed : Owed) (guest : GuestValue) : Type 0 where
+pub record KeepsGuest (seat : RecorderValue) (items : List Item) (owed : Owed) (guest : GuestValue)
+    (checkpoints : Option Checkpoints) : Type 0 where
   pub here : seat.has_left ≡ false
   pub place : seat.guest ≤ MAX_NUMBER
-  pub recorded : HasRecorded (recorder_of seat items owed guest)
+  pub recorded : IsRecorded seat.guest (seat.sent ++ backlog_of seat items) (state_of guest)
+  pub base : KeepsBase checkpoints (items_of (seat.sent ++ backlog_of seat items)) guest
   pub opens : AllByRecursion OpensAtZero (backlog_of seat items)
   pub few : length seat.sent + length items ≤ MAX_NUMBER + 1
   pub all : owed.released + length owed.owed ≡ length seat.sent + length items

@@ -1,12 +1,14 @@
 //! A guest's recorder: runs it slice by slice, sends its records to be committed, and puts out what durable records put out.
 #![tactic(auto)]
 
+mod checkpoints;
 mod fault;
 mod mem_sink;
 mod outputs;
 mod recorder;
 mod world;
 
+pub use checkpoints::Parts;
 pub use fault::RecorderFault;
 pub use mem_sink::MemSink;
 pub use outputs::Outputs;

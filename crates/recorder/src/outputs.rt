@@ -1,10 +1,11 @@
 //! The output of records that aren't known to be durable.
 
-ghost use Rattle.std.specs.Prelude.{◌≡◌, ◌↔◌, ℕ, ◌+◌, ◌-◌, ◌<◌, ◌≤◌, List, [], ◌∷◌, ◌++◌, length, take, drop, true, OnOk};
+ghost use Rattle.std.specs.Prelude.{◌≡◌, ◌↔◌, ℕ, ◌+◌, ◌-◌, ◌<◌, ◌≤◌, List, [], ◌∷◌, ◌++◌, length, replicate, take, drop, true, OnOk};
 ghost use Rattle.rrv_model.specs.Output.{to_descriptor};
 ghost use Rattle.recorder.specs.Owed.{Counts, Releases, ReleasesFirst, bytes_of};
 
 use guest_calls::Put;
+use rrv_model::sequence::Sequence;
 use rrv_model::sink::Sink;
 use std::alloc::{AllocError, Global};
 use std::collections::VecDeque;
@@ -21,7 +22,7 @@ pub struct Outputs {
 }
 
 impl Model for Outputs {
-    ghost use Rattle.std.specs.Prelude.{◌≤◌, ◌+◌, length, nat_lt};
+    ghost use Rattle.std.specs.Prelude.{◌≤◌, ◌+◌, ◌-◌, length};
     ghost use Rattle.std.specs.VecDeque.{deque_len, deque_capacity};
     ghost use Rattle.recorder.specs.Owed.{Owed, owed_of, IsWithinFirst};
 
@@ -30,11 +31,21 @@ impl Model for Outputs {
     ghost view = { λ o. record {
       released = o.released;
       owed = owed_of o.offset o.waiting.items;
-      has_room = nat_lt (deque_len o.waiting) (deque_capacity o.waiting);
+      room = deque_capacity o.waiting - deque_len o.waiting;
     } };
 
     ghost invariant = { λ o. IsWithinFirst o.offset o.waiting.items
         × (o.released + length o.waiting.items ≤ 4294967295) };
+}
+
+/// No bytes.
+pub(crate) fn nothing(alloc: Global) -> Put
+    ensures { result ≡ record { descriptor = 0; bytes = [] } }
+{
+    Put {
+        descriptor: 0,
+        bytes: Sequence::from_vec(Vec::new(alloc)),
+    }
 }
 
 /// Puts bytes out from a place on. It answers the place that it came to, and whether the sink took all.
@@ -82,21 +93,33 @@ impl Outputs {
         self.released
     }
 
-    /// Makes room for the output of one record more.
-    pub fn reserve(&mut self) -> Result<(), AllocError>
+    /// Makes room for the output of so many records more.
+    pub fn reserve(&mut self, count: usize) -> Result<(), AllocError>
         ensures same { (self.new.released ≡ self.old.released) × (self.new.owed ≡ self.old.owed) }
-        ensures room { OnOk result (self.new.has_room ≡ true) }
+        ensures room { OnOk result (count ≤ self.new.room) }
     {
-        self.waiting.reserve(1)
+        self.waiting.reserve(count)
     }
 
     /// Adds the output of the next record. It takes no memory.
     pub fn push(&mut self, put: Put)
-        requires room { self.old.has_room ≡ true }
+        requires room { 1 ≤ self.old.room }
         requires few { self.old.released + length self.old.owed < 4294967295 }
-        ensures { (self.new.released ≡ self.old.released) × (self.new.owed ≡ self.old.owed ++ bytes_of put ∷ []) }
+        ensures pushed { (self.new.released ≡ self.old.released) × (self.new.owed ≡ self.old.owed ++ bytes_of put ∷ []) }
+        ensures room { self.new.room + 1 ≡ self.old.room }
     {
         self.waiting.push_back_reserved(put);
+    }
+
+    /// Adds so many records that put nothing out. It takes no memory.
+    pub fn push_silent(&mut self, alloc: Global, count: usize)
+        requires room { count ≤ self.old.room }
+        requires few { self.old.released + length self.old.owed + count ≤ 4294967295 }
+        ensures { (self.new.released ≡ self.old.released) × (self.new.owed ≡ self.old.owed ++ replicate count []) }
+    {
+        for _ in 0..count {
+            self.push(nothing(alloc));
+        }
     }
 
     /// Puts out what is left of the first so many records' output, in order. It answers how many bytes left, up to 2^64 - 1,

@@ -12,7 +12,7 @@ pub fn output_is_of_durable_records()
     ensures settled { SettledHasPutAll }
 {}
 
-/// A step is a slice of the world's.
+/// A step is as many slices of the world's as it makes records.
 pub fn steps_are_events<O: Outside>()
     ensures { StepsAreEvents O.gives }
 {}

@@ -1,6 +1,5 @@
-use Rattle.std.proofs.Common.{◌≤◌, ◌+◌, ◌-◌, ◌++◌, ℕ, Bool, true, false, List, length, take, drop, ap, ◌∙◌, sym, subst}
+use Rattle.std.proofs.Common.{◌≤◌, ◌+◌, ◌-◌, ◌++◌, ℕ, true, false, List, length, take, drop, ap, ◌∙◌, sym, subst}
 use Rattle.rrv_model.specs.Output.{to_descriptor}
-use Rattle.std.specs.Prelude.{nat_lt}
 use Rattle.std.specs.VecDeque.{deque_len, deque_capacity}
 use Rattle.recorder.specs.Owed.{Owed, owed_of}
 use Rattle.recorder.proofs.Leaving.{some_waiting, first_whole, first_part, left_by}
@@ -18,8 +17,8 @@ returns-then-all-clause-released g c =
     record {
       put = to_descriptor p.descriptor (take (at - s.offset) (drop s.offset p.bytes));
       takes = λ tells. c.put_from-at.ensures.put tells ∙ ap (λ (l : List ℕ). g.S.Sink.taken c.args.sink.now ++ to_descriptor p.descriptor (take (at - s.offset) (drop s.offset l))) text;
-      leaves = left_by c.args.self.now _ (record { released = s.released + 1; owed = owed_of 0 c.pop_front.new.self.items; has_room = nat_lt (deque_len c.pop_front.new.self) (deque_capacity c.pop_front.new.self) }) _ true _ c.self.view_is c.if-all.true
-          (first_whole s.released s.offset at s.waiting.items c.pop_front.new.self.items p (nat_lt (deque_len s.waiting) (deque_capacity s.waiting)) (nat_lt (deque_len c.pop_front.new.self) (deque_capacity c.pop_front.new.self)) some c.in-Some.ensures.lookup whole c.pop_front.ensures.rest);
+      leaves = left_by c.args.self.now _ (record { released = s.released + 1; owed = owed_of 0 c.pop_front.new.self.items; room = deque_capacity c.pop_front.new.self - deque_len c.pop_front.new.self }) _ true _ c.self.view_is c.if-all.true
+          (first_whole s.released s.offset at s.waiting.items c.pop_front.new.self.items p (deque_capacity s.waiting - deque_len s.waiting) (deque_capacity c.pop_front.new.self - deque_len c.pop_front.new.self) some c.in-Some.ensures.lookup whole c.pop_front.ensures.rest);
       counted = counts_put p.descriptor s.offset at p.bytes _ c.put_from-at.ensures.reached text;
     }
 
@@ -28,12 +27,12 @@ returns-else-all-clause-released g c =
     let at = c.put_from-at.result.0 in
     let p = c.in-Some.first.now in
     let s = c.self.inside in
-    let room : Bool = nat_lt (deque_len s.waiting) (deque_capacity s.waiting) in
+    let room : ℕ = deque_capacity s.waiting - deque_len s.waiting in
     let some : 1 ≤ length s.waiting.items = some_waiting s.offset s.waiting.items (subst (λ (o : Owed). 1 ≤ length o.owed) (sym c.self.view_is) c.requires) in
     record {
       put = to_descriptor p.descriptor (take (at - s.offset) (drop s.offset p.bytes));
       takes = λ tells. c.put_from-at.ensures.put tells
           ∙ ap (λ (l : List ℕ). g.S.Sink.taken c.args.sink.now ++ to_descriptor p.descriptor (take (at - s.offset) (drop s.offset l))) c.as_slice-bytes.ensures;
-      leaves = left_by c.args.self.now _ (record { released = s.released; owed = owed_of at s.waiting.items; has_room = room }) _ false _ c.self.view_is c.if-all.false (first_part s.released s.offset at s.waiting.items p room room some c.in-Some.ensures.lookup c.put_from-at.ensures.reached.0);
+      leaves = left_by c.args.self.now _ (record { released = s.released; owed = owed_of at s.waiting.items; room = room }) _ false _ c.self.view_is c.if-all.false (first_part s.released s.offset at s.waiting.items p room room some c.in-Some.ensures.lookup c.put_from-at.ensures.reached.0);
       counted = counts_put p.descriptor s.offset at p.bytes _ c.put_from-at.ensures.reached c.as_slice-bytes.ensures;
     }

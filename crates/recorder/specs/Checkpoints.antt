@@ -1,0 +1,72 @@
+-- When a recorder makes checkpoints, and against what.
+use Rattle.std.specs.Prelude.{◌≡◌, ℕ, ◌-◌, ◌≤◌, List, [], ◌++◌, length, map, replicate, Option, Some, None}
+use Rattle.std.specs.List.{AllByRecursion}
+use Rattle.rrv_model.specs.declared.record.Item.{Item}
+use Rattle.rrv_model.specs.declared.record.Item.TheVariants as items
+use Rattle.rrv_model.specs.declared.record.Part.{Part}
+use Rattle.rrv_model.specs.Checkpoint.{Describes}
+use Rattle.rrv_model.specs.RecordText.{HasPartText}
+use Rattle.rrv_model.specs.Standing.{StandsBehind}
+use Rattle.rrv_model.specs.State.{State, IsState}
+use Rattle.guest_calls.specs.Guest.{GuestValue, state_of}
+use Rattle.guest_calls.specs.Snapshots.{guest_snapshots}
+use Rattle.checkpoint.specs.Made.{IsBaseOf, kept_memory}
+use Rattle.recorder.specs.declared.checkpoints.Checkpoints.{Checkpoints}
+use Rattle.recorder.specs.Owed.{Owed}
+
+-- ---- when
+
+-- how many instructions lie between two at the least, or 0 where there are none
+abbrev pub every_of : Option Checkpoints → ℕ
+every_of None = 0
+every_of (Some c) = c.every
+
+-- how many had run at the last one, or at the start
+abbrev pub last_of : Option Checkpoints → ℕ
+last_of None = 0
+last_of (Some c) = c.last
+
+-- a checkpoint is due: the guest hasn't ended, and has run far enough since the last one
+pub record IsDue (every last : ℕ) (guest : GuestValue) : Type 0 where
+  pub some : 1 ≤ every
+  pub runs : (state_of guest).ended ≡ None
+  pub far : every ≤ guest.ran - last
+
+-- ---- against what
+
+-- the guest keeps its memory as it is, and has run as many instructions as are noted
+pub record StartsWith (guest : GuestValue) (c : Checkpoints) : Type 0 where
+  pub some : 1 ≤ c.every
+  pub kept : guest_snapshots guest c.base ≡ Some (state_of guest).memory
+  pub last : c.last ≡ guest.ran
+
+-- the memory that the guest keeps is that of a state which is the base behind these items
+pub record HasBase (its : List Item) (guest : GuestValue) (c : Checkpoints) : Type 0 where
+  pub some : 1 ≤ c.every
+  pub base : State
+  pub is_state : IsState base
+  pub behind : StandsBehind its base [] (state_of guest)
+  pub kept : guest_snapshots guest c.base ≡ Some base.memory
+  pub opening_break : base.opening_break ≡ (state_of guest).opening_break
+
+abbrev pub KeepsBase : Option Checkpoints → List Item → GuestValue → Type 0
+KeepsBase None its guest = Unit {0}
+KeepsBase (Some c) its guest = HasBase its guest c
+
+-- ---- how
+
+-- A checkpoint was made of the guest, against the memory kept before. Its parts, of which there may be so many, are
+-- behind the items and put nothing out, and the guest's memory is kept instead.
+pub record MakesCheckpoint (old new : Checkpoints) (guest guest' : GuestValue) (its its' : List Item)
+    (owed owed' : Owed) (most : ℕ) : Type 0 where
+  pub parts : List Part
+  pub few : length parts ≤ most
+  pub texts : AllByRecursion HasPartText parts
+  pub describes : (base : State) → IsBaseOf (kept_memory guest old.base) base (state_of guest)
+      → Describes base parts (state_of guest)
+  pub items_are : its' ≡ its ++ map items.Part parts
+  pub released : owed'.released ≡ owed.released
+  pub owed_is : owed'.owed ≡ owed.owed ++ replicate (length parts) []
+  pub every : new.every ≡ old.every
+  pub kept : guest_snapshots guest' new.base ≡ Some (state_of guest).memory
+  pub last : new.last ≡ guest.ran
