@@ -15,7 +15,8 @@ use Rattle.commit_core.specs.Runs.{ItemsPut}
 use Rattle.rrv_model.specs.Recording.{items_of}
 use Rattle.recorder.specs.Owed.{joined}
 use Rattle.recorder.specs.Recorded.{IsFirst}
-use Rattle.recorder.specs.RecorderCalls.{HasStepped, IsUnmoved, KeepsMade, PutsMore, SendsSome}
+use Rattle.recorder.specs.declared.checkpoints.Parts.{Parts}
+use Rattle.recorder.specs.RecorderCalls.{HasStepped, IsUnmoved, KeepsMade, PutsMore, SendsSome, part_records}
 use Rattle.recorder.specs.Recorders.{GuestRecorder, HasPut, HasRecorded, made}
 use Rattle.recorder.proofs.Made.{keeps_sent, put_stays}
 use Rattle.session.specs.Drives.{Drives, GoesOn, IsDriven}
@@ -55,18 +56,24 @@ goes_sent a b h = goes_kept a b [] (keeps_sent a b h) (λ out p. subst (HasPut b
 
 -- ---- a step
 
-still_first : (opening : Record) (records : List Record) (r : Record) → IsFirst opening records → IsFirst opening (records ++ r ∷ [])
-still_first opening records r h = (h.0 ++ r ∷ [], ap (λ (l : List Record). l ++ r ∷ []) h.1)
+still_first : (opening : Record) (records more : List Record) → IsFirst opening records → IsFirst opening (records ++ more)
+still_first opening records more h = (h.0 ++ more, ap (λ (l : List Record). l ++ more) h.1)
 
-pub goes_stepped : {O : Type 0} (gives : Gives O) (a b : GuestRecorder) (choice : Choice) (before after : O) → HasStepped gives a choice b before after → HasRecorded b → GoesOn a b []
-goes_stepped gives a b choice before after h recorded =
-    let r = frame_record a.seat.guest (length (made a)) h.frame in
+pub goes_stepped : {O : Type 0} (gives : Gives O) (a b : GuestRecorder) (choice : Choice) (outcome : Parts) (before after : O) → HasStepped gives a choice outcome b before after → HasRecorded b → GoesOn a b []
+goes_stepped gives a b choice outcome before after h recorded =
+    let seat : b.seat ≡ a.seat = h.keeps.seat ∙ h.makes.seat in
+    let r = frame_record a.seat.guest (length (made a)) h.makes.frame in
+    let more = part_records h.between h.keeps.parts in
+    let made_is : made b ≡ (made a ++ r ∷ []) ++ more = h.keeps.made_is ∙ ap (λ (l : List Record). l ++ more) h.makes.made_is in
     record {
-      group = ap (λ (q : RecorderValue). q.group) h.seat;
-      guest = ap (λ (q : RecorderValue). q.guest) h.seat;
+      group = ap (λ (q : RecorderValue). q.group) seat;
+      guest = ap (λ (q : RecorderValue). q.guest) seat;
       driven = λ opening out d. record {
-        recorded = record { opens = subst (IsFirst opening) (sym h.made_is) (still_first opening (made a) r d.recorded.opens); recorded = recorded };
-        has_put = subst (HasPut b) (sym (append-nil out)) (h.has_put out d.has_put);
+        recorded = record {
+          opens = subst (IsFirst opening) (sym made_is) (still_first opening (made a ++ r ∷ []) more (still_first opening (made a) (r ∷ []) d.recorded.opens));
+          recorded = recorded;
+        };
+        has_put = subst (HasPut b) (sym (append-nil out)) (h.keeps.has_put out (h.makes.has_put out d.has_put));
       };
     }
 

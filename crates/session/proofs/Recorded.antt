@@ -14,7 +14,7 @@ use Rattle.commit_group.specs.Numbers.{base, numbered, renumbered}
 use Rattle.commit_group.specs.Seats.{FlusherValue, RecorderValue, committed_of}
 use Rattle.commit_group.specs.Turns.{AllCommitted}
 use Rattle.commit_group.specs.Reports.{HasEnded}
-use Rattle.recorder.specs.Recorded.{IsFirst, IsNoPart, opening_of}
+use Rattle.recorder.specs.Recorded.{IsFirst, opening_of}
 use Rattle.session.specs.declared.fault.SessionFault.{SessionFault}
 use Rattle.session.specs.declared.job.Job.{Job}
 use Rattle.session.specs.declared.task.Task.{Task}
@@ -44,10 +44,6 @@ texts_again : (b guest index : ℕ) (rs : List Record) → b + guest ≤ 4294967
 texts_again b guest index [] room low h = tt
 texts_again b guest index (r ∷ rs) room low h =
     (record { guest = (let z = low.0 in omega arith); index = h.0.index; item = h.0.item }, texts_again b guest (index + 1) rs room low.2 h.1)
-
-no_part_again : (b : ℕ) (rs : List Record) → AllByRecursion (λ r. IsNoPart r.item) rs → AllByRecursion (λ r. IsNoPart r.item) (renumbered b rs)
-no_part_again b [] h = tt
-no_part_again b (r ∷ rs) h = (h.0, no_part_again b rs h.1)
 
 recording_again : (b : ℕ) (rs : List Record) → IsRecording rs → IsRecording (renumbered b rs)
 recording_again b rs h = record {
@@ -128,7 +124,6 @@ module _ {C O S : Type 0} where
             numbered = numbered_again first guest 0 sent r.numbered;
             ends = subst (λ (l : List Item). EndsIn l w.state) (sym (items_again first sent)) r.ends;
             has_text = texts_again first guest 0 sent room r.numbered r.has_text;
-            no_part = no_part_again first sent r.no_part;
           };
         };
         end_is = w.end_is;

@@ -18,7 +18,7 @@ use Rattle.rrv_model.specs.declared.machine.GuestEnd.{GuestEnd}
 use Rattle.guest_calls.specs.Guest.{state_of}
 use Rattle.commit_core.specs.Runs.{IsOutput, ItemsPut}
 use Rattle.commit_group.specs.Seats.{RecorderValue}
-use Rattle.recorder.specs.Recorded.{IsNoPart, IsRecorded, opening_of}
+use Rattle.recorder.specs.Recorded.{IsRecorded, opening_of}
 use Rattle.recorder.specs.Owed.{Owed, joined, left_of}
 use Rattle.recorder.specs.Recorders.{GuestRecorder, IsSettled, made}
 use Rattle.recorder.proofs.Released.{output_is_durable, settled_has_put_all}
@@ -66,7 +66,6 @@ recorded_front place x xs ys s h =
         numbered = numbered_front place 0 (x ∷ xs) ys h.numbered;
         ends = e.1;
         has_text = AllByRecursion-front HasText (x ∷ xs) ys h.has_text;
-        no_part = AllByRecursion-front (λ r. IsNoPart r.item) (x ∷ xs) ys h.no_part;
       },
     )
 

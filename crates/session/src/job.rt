@@ -4,12 +4,14 @@ use guest_calls::Outside;
 use rrv_model::sink::Sink;
 use serial_sched::Chooser;
 
-/// A guest that is to be recorded: from what it starts, who chooses its threads, its environment, and where its output goes.
+/// A guest that is to be recorded: from what it starts, how many instructions lie between two checkpoints at the least (none
+/// are made where that is 0), who chooses its threads, its environment, and where its output goes.
 #[derive(Drop)]
 pub struct Job<C: Chooser + Drop, O: Outside + Drop, S: Sink + Drop> {
     pub elf: Vec<u8>,
     pub name: Vec<u8>,
     pub random: [u8; 16],
+    pub every: u32,
     pub chooser: C,
     pub outside: O,
     pub sink: S,

@@ -34,7 +34,7 @@ fn open<C: Chooser + Drop, O: Outside + Drop, S: Sink + Drop>(
     let Ok(opening) = copy_opening(alloc, &job.elf, &job.name, &job.random) else {
         return Err(seat);
     };
-    match Recorder::new(alloc, seat, opening) {
+    match Recorder::new(alloc, seat, opening, job.every) {
         Ok(recorder) => Ok(recorder),
         Err((seat, _)) => Err(seat),
     }

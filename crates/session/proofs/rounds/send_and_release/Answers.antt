@@ -10,13 +10,13 @@ pub returns-in_err-release-clause-drives : goal.returns-in_err-release-clause-dr
 returns-in_err-release-clause-drives g c =
     let r = c.release.ensures in
     drives_both g.S.Sink _ _ _ _ _ _ (drives_still g.S.Sink _ _ _ c.send-sent.ensures.goes)
-    (drives_more g.S.Sink _ _ _ _ _ (keeps_released _ _ _ r.looks r.same) r.put r.tells)
+    (drives_more g.S.Sink _ _ _ _ _ (keeps_released _ _ _ r.looks r.same r.checkpoints) r.put r.tells)
 
 pub returns-clause-drives : goal.returns-clause-drives
 returns-clause-drives g c =
     let r = c.release.ensures in
     drives_both g.S.Sink _ _ _ _ _ _ (drives_still g.S.Sink _ _ _ c.send-sent.ensures.goes)
-    (drives_more g.S.Sink _ _ _ _ _ (keeps_released _ _ _ r.looks r.same) r.put r.tells)
+    (drives_more g.S.Sink _ _ _ _ _ (keeps_released _ _ _ r.looks r.same r.checkpoints) r.put r.tells)
 
 pub returns-in_err-release-clause-halted : goal.returns-in_err-release-clause-halted
 returns-in_err-release-clause-halted g c e =
