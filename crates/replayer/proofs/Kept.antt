@@ -16,13 +16,14 @@ use Rattle.rrv_model.specs.StateAt.{StateAtFrom, total}
 use Rattle.rrv_model.specs.Recording.{ItemsFollow, Starts, PartFits, frames_of, row_after, base_after}
 use Rattle.rrv_model.proofs.RunLaws.{at_total_first, at_total_of_first, at_total_append}
 use Rattle.replayer.specs.declared.recording.Mark.{Mark}
-use Rattle.replayer.specs.declared.recording.Verified.{Verified}
-use Rattle.replayer.specs.Verified.{IsVerified}
+use Rattle.replayer.specs.declared.recording.Track.{Track}
 use Rattle.std.proofs.Common.{get_or}
 use Rattle.std.proofs.Math.Seq.{take-suc}
 use Rattle.rrv_model.specs.declared.record.Record.{Record}
-use Rattle.rrv_model.specs.Recording.{items_of}
-use Rattle.replayer.specs.Kept.{AreKept, AreMarks, IsKeptOf, KeepsAll, KeepsOn, RowIs, marks_of, new_marks}
+use Rattle.rrv_model.specs.Recording.{IsRecording, items_of}
+use Rattle.replayer.specs.Walks.{Stands}
+use Rattle.replayer.proofs.Walked.{recording_of_all}
+use Rattle.replayer.specs.Kept.{AreKept, AreMarks, IsKeptOf, IsTrack, KeepsAll, KeepsOn, RowIs, marks_of, new_marks}
 
 -- ---- one item more
 
@@ -103,7 +104,7 @@ keeps_at records index r row row' frames frames' marks marks' steps steps' some 
 pub keeps_first : KeepsAll [] [] [] [] 0
 keeps_first = record { frames_are = λ rest. refl; marks_are = λ rest. refl; steps_are = refl }
 
-pub kept_of_all : (records : List Record) (first : Record) (rest : List Record) (index : ℕ) (o : Opening) (row : List Part) (frames : List Frame) (marks : List Mark) (steps : ℕ) →
+kept_of_all : (records : List Record) (first : Record) (rest : List Record) (index : ℕ) (o : Opening) (row : List Part) (frames : List Frame) (marks : List Mark) (steps : ℕ) →
     records ≡ first ∷ rest → first.item ≡ items.Opening o → length records ≤ index → KeepsAll (drop 1 (items_of (take index records))) row frames marks steps →
     IsKeptOf (items_of records) o frames marks
 kept_of_all records first rest index o row frames marks steps is item_is long h =
@@ -116,12 +117,19 @@ kept_of_all records first rest index o row frames marks steps is item_is long h 
     let kept : IsKeptOf (items.Opening o ∷ items_of rest) o frames marks = (refl, f, m) in
     subst (λ (rs : List Record). IsKeptOf (items_of rs) o frames marks) (sym is) (subst (λ (it : Item). IsKeptOf (it ∷ items_of rest) o frames marks) (sym item_is) kept)
 
-pub kept_of_first : (records : List Record) (first : Record) (index : ℕ) (o : Opening) (row : List Part) (frames : List Frame) (marks : List Mark) (steps : ℕ) →
+kept_of_first : (records : List Record) (first : Record) (index : ℕ) (o : Opening) (row : List Part) (frames : List Frame) (marks : List Mark) (steps : ℕ) →
     IsSomeAnd (slice_get records 0) (λ q. q ≡ first) → first.item ≡ items.Opening o → length records ≤ index → KeepsAll (drop 1 (items_of (take index records))) row frames marks steps →
     IsKeptOf (items_of records) o frames marks
 kept_of_first [] first index o row frames marks steps there item_is long h = absurd there
 kept_of_first (q ∷ rest) first index o row frames marks steps there item_is long h =
     kept_of_all (q ∷ rest) first rest index o row frames marks steps (ap (λ x. x ∷ rest) there) item_is long h
+
+-- where all records stand, they are a recording, and all of it is kept
+pub all_kept : (guest : ℕ) (records : List Record) (first : Record) (index : ℕ) (o : Opening) (base : State) (row : List Part) (s : State) (frames : List Frame) (marks : List Mark) (steps : ℕ) →
+    length records ≤ index → Stands guest (take index records) base row s → IsSomeAnd (slice_get records 0) (λ q. q ≡ first) → first.item ≡ items.Opening o →
+    KeepsAll (drop 1 (items_of (take index records))) row frames marks steps → IsRecording records × IsKeptOf (items_of records) o frames marks
+all_kept guest records first index o base row s frames marks steps long stands there item_is h =
+    (recording_of_all guest records index base row s long stands, kept_of_first records first index o row frames marks steps there item_is long h)
 
 -- ---- the run
 
@@ -204,5 +212,5 @@ at_later s mid at (f ∷ done) rest t h within later =
     let behind = at_later open_.0 mid at done rest (t - f.count) open_.2 (omega arith) (subst (λ n. StateAtFrom mid rest n at) less later) in
     frame_first s f open_.0 at (done ++ rest) t (omega arith) open_.1 behind
 
-pub kept_by : (v : Verified) → IsVerified v → AreKept v.opening v.frames v.marks
-kept_by v is = are_kept (items_of is.0) v.opening v.frames v.marks is.1.recording.starts is.1.kept
+pub kept_by : (track : Track) (len : ℕ) → IsTrack track len → AreKept track.opening track.frames track.marks
+kept_by track len is = are_kept (items_of is.0) track.opening track.frames track.marks is.1.recording.starts is.1.kept

@@ -15,8 +15,8 @@ use Rattle.rrv_model.specs.StateAt.{StateAt, StateAtFrom, total}
 use Rattle.rrv_model.proofs.FrameLaws.{one_end, one_state_after_frame}
 use Rattle.rrv_model.proofs.RunLaws.{at_total_first, at_total_of_first}
 use Rattle.guest_calls.specs.Guest.{state_of}
-use Rattle.replayer.specs.declared.place.Place.{Place}
-use Rattle.replayer.specs.declared.recording.Verified.{Verified}
+use Rattle.replayer.specs.declared.position.Position.{Position}
+use Rattle.replayer.specs.declared.recording.Track.{Track}
 use Rattle.replayer.specs.declared.recording.Mark.{Mark}
 use Rattle.replayer.specs.Kept.{AreKept}
 use Rattle.replayer.specs.Places.{Begins, GoesOn, IsPlace, StandsAt, begun, last_instruction}
@@ -228,8 +228,8 @@ drop_at (y ∷ xs) (suc i) x below there =
     let one : suc i + 1 ≡ suc (i + 1) = omega arith in
     drop_at xs i x (omega arith) there ∙ ap (λ n. x ∷ drop n (y ∷ xs)) (sym one)
 
-pub stands_in : (v : Verified) (p : Place) (t n : ℕ) (s : State) (f : Frame) (rest : List Frame) → GoesOn v.opening v.frames t s (f ∷ rest) → drop p.frames v.frames ≡ f ∷ rest →
-    p.frames ≤ length v.frames → n < f.count → Steps n f.tid s (state_of p.guest) → p.steps ≡ n → p.at ≡ t + n → StandsAt v p
+pub stands_in : (v : Track) (p : Position) (t n : ℕ) (s : State) (f : Frame) (rest : List Frame) → GoesOn v.opening v.frames t s (f ∷ rest) → drop p.frames v.frames ≡ f ∷ rest →
+    p.frames ≤ length v.frames → n < f.count → Steps n f.tid s (state_of p.guest) → p.steps ≡ n → p.at ≡ t + n → StandsAt v.opening v.frames p
 stands_in v p t n s f rest on there inside below some steps_is at_is =
     let here = on_some v.opening v.frames t s (state_of p.guest) f rest n on below some in
     let same : rest_of n f ∷ rest ≡ begun p.steps (drop p.frames v.frames) = ap (λ i. begun i (f ∷ rest)) (sym steps_is) ∙ ap (begun p.steps) (sym there) in
@@ -246,8 +246,8 @@ begun_none : (left : List Frame) → left ≡ begun 0 left
 begun_none [] = refl
 begun_none (f ∷ left) = let none : f.count ≡ f.count - 0 = omega arith in ap (λ n. record f { count = n } ∷ left) none
 
-pub stands_between : (v : Verified) (p : Place) (left : List Frame) → GoesOn v.opening v.frames p.at (state_of p.guest) left → drop p.frames v.frames ≡ left →
-    p.frames ≤ length v.frames → p.steps ≡ 0 → Begins left → StandsAt v p
+pub stands_between : (v : Track) (p : Position) (left : List Frame) → GoesOn v.opening v.frames p.at (state_of p.guest) left → drop p.frames v.frames ≡ left →
+    p.frames ≤ length v.frames → p.steps ≡ 0 → Begins left → StandsAt v.opening v.frames p
 stands_between v p left on there inside none begins =
     let same : left ≡ begun p.steps (drop p.frames v.frames) = begun_none left ∙ ap (λ i. begun i left) (sym none) ∙ ap (begun p.steps) (sym there) in
     record {
@@ -258,7 +258,7 @@ stands_between v p left on there inside none begins =
     }
 
 -- inside a frame, what is left of it is next
-pub on_inside : (v : Verified) (p : Place) (f : Frame) → StandsAt v p → p.frames < length v.frames → f ≡ get_or v.frames p.frames f →
+pub on_inside : (v : Track) (p : Position) (f : Frame) → StandsAt v.opening v.frames p → p.frames < length v.frames → f ≡ get_or v.frames p.frames f →
     GoesOn v.opening v.frames p.at (state_of p.guest) (rest_of p.steps f ∷ drop (p.frames + 1) v.frames) × (1 ≤ f.count - p.steps)
 on_inside v p f stands below there =
     let next : drop p.frames v.frames ≡ f ∷ drop (p.frames + 1) v.frames = drop_at v.frames p.frames f below there in
@@ -266,7 +266,7 @@ on_inside v p f stands below there =
     (subst (λ (fs : List Frame). GoesOn v.opening v.frames p.at (state_of p.guest) fs) same stands.on, subst Begins same stands.begins)
 
 -- where instructions are left, so is a frame
-pub frame_left : (v : Verified) (p : Place) → StandsAt v p → p.at < total v.frames → p.frames < length v.frames
+pub frame_left : (v : Track) (p : Position) → StandsAt v.opening v.frames p → p.at < total v.frames → p.frames < length v.frames
 frame_left v p stands below = left_by (drop p.frames v.frames) refl where
   left_by : (left : List Frame) → drop p.frames v.frames ≡ left → p.frames < length v.frames
   left_by [] there =
@@ -288,8 +288,8 @@ drop_next (g ∷ frames) (suc n) f rest h =
     (subst (λ i. drop i (g ∷ frames) ≡ rest) (sym one) more.0, omega (arith, more.1))
 
 -- one step further inside a frame
-pub stands_further : (v : Verified) (p q : Place) (f : Frame) → StandsAt v p → p.frames < length v.frames → f ≡ get_or v.frames p.frames f → p.steps + 1 < f.count →
-    Steps 1 f.tid (state_of p.guest) (state_of q.guest) → q.frames ≡ p.frames → q.steps ≡ p.steps + 1 → q.at ≡ p.at + 1 → StandsAt v q
+pub stands_further : (v : Track) (p q : Position) (f : Frame) → StandsAt v.opening v.frames p → p.frames < length v.frames → f ≡ get_or v.frames p.frames f → p.steps + 1 < f.count →
+    Steps 1 f.tid (state_of p.guest) (state_of q.guest) → q.frames ≡ p.frames → q.steps ≡ p.steps + 1 → q.at ≡ p.at + 1 → StandsAt v.opening v.frames q
 stands_further v p q f stands below there more some frames_is steps_is at_is =
     let inside = on_inside v p f stands below there in
     let g = rest_of p.steps f in
@@ -309,9 +309,13 @@ stands_further v p q f stands below there more some frames_is steps_is at_is =
     }
 
 -- at a frame's last instruction
-pub last_ahead : (v : Verified) (p : Place) (f : Frame) → StandsAt v p → p.frames < length v.frames → f ≡ get_or v.frames p.frames f → f.count ≤ p.steps + 1 →
+pub last_ahead : (v : Track) (p : Position) (f : Frame) → StandsAt v.opening v.frames p → p.frames < length v.frames → f ≡ get_or v.frames p.frames f → f.count ≤ p.steps + 1 →
     GoesOn v.opening v.frames p.at (state_of p.guest) (last_instruction f ∷ drop (p.frames + 1) v.frames)
 last_ahead v p f stands below there last =
     let inside = on_inside v p f stands below there in
     let one : f.count - p.steps ≡ 1 = omega (arith, last, inside.1) in
     subst (λ n. GoesOn v.opening v.frames p.at (state_of p.guest) (record f { count = n } ∷ drop (p.frames + 1) v.frames)) one inside.0
+
+-- no further than the end
+pub stands_within : (o : Opening) (frames : List Frame) (p : Position) → StandsAt o frames p → p.at ≤ total frames
+stands_within o frames p stands = omega (arith, stands.on.sum)

@@ -1,6 +1,5 @@
 -- What frames put out, one after the other.
 use Rattle.std.proofs.Common.{◌≡◌, ℕ, zero, suc, ◌+◌, List, [], ◌∷◌, ◌++◌, length, take, drop, refl, sym, ◌∙◌, ap, subst, arith}
-use Rattle.std.specs.Prelude.{Result, Ok, Err, OnErr}
 use Rattle.std.proofs.lemmas.Grind.{flat_map-append}
 use Rattle.std.proofs.lemmas.List.{append-nil, append_assoc, map-append}
 use Rattle.std.proofs.Math.Seq.{take-append_seam, take-append-add}
@@ -85,14 +84,6 @@ pub call_part : (end : End) (r : CallRecord) (kept : List Chunk) (d n : ℕ) (by
 call_part end r kept d n bytes is kept_is =
     take_map d n bytes ∙ ap (take n) (sym (spread_one d bytes)) ∙ ap (λ (cs : List Chunk). take n (spread cs)) (sym kept_is)
     ∙ ap (λ (e : End). take n (spread (chunks_by e kept))) (sym is)
-
-pub on_err : {T E : Type 0} → (r : Result T E) (P : Type 0) → P → OnErr r P
-on_err (Ok x) P h = tt
-on_err (Err e) P h = h
-
-pub on_err_of : {T E : Type 0} → (r : Result T E) (P Q : Type 0) → (P → Q) → OnErr r P → OnErr r Q
-on_err_of (Ok x) P Q f h = tt
-on_err_of (Err e) P Q f h = f h
 
 -- ---- so far
 

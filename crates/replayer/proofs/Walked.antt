@@ -2,7 +2,7 @@
 use Rattle.std.proofs.Common.{◌≡◌, ℕ, suc, ◌+◌, ◌<◌, ◌≤◌, List, [], ◌∷◌, ◌++◌, length, take, get_or, refl, sym, ◌∙◌, ap, subst, arith, Some, None, zero}
 use Rattle.std.specs.Prelude.{All, slice_get}
 use Rattle.std.proofs.Math.Seq.{take-suc}
-use Rattle.std.proofs.lemmas.List.{append-nil, append_assoc, length-take-le, take_all}
+use Rattle.std.proofs.lemmas.List.{length-take-le, take_all}
 use Rattle.std.proofs.lemmas.List.Elements.{All-push}
 use Rattle.std.specs.Prelude.{IsSomeAnd}
 use Rattle.rrv_model.specs.declared.record.Item.{Item}
@@ -12,8 +12,7 @@ use Rattle.rrv_model.specs.declared.record.Part.{Part}
 use Rattle.rrv_model.specs.declared.record.Record.{Record}
 use Rattle.rrv_model.specs.State.{State}
 use Rattle.rrv_model.specs.Opening.{Opens}
-use Rattle.rrv_model.specs.Recording.{IsNumbered, IsRecording, ItemsFollow, Starts, items_of, base_after, row_after}
-use Rattle.rrv_model.proofs.FrameLaws.{one_state_after_frame}
+use Rattle.rrv_model.specs.Recording.{IsNumbered, IsRecording, Starts, items_of}
 use Rattle.rrv_model.proofs.RunLaws.{items-append, numbered-append}
 use Rattle.replayer.specs.declared.fault.VerifyFault.{VerifyFault}
 use Rattle.replayer.specs.declared.fault.VerifyFault.TheVariants as faults

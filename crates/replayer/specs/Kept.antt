@@ -1,5 +1,5 @@
--- What a verified recording keeps: its frames, and its complete checkpoints.
-use Rattle.std.specs.Prelude.{◌≡◌, ℕ, ◌+◌, ◌≤◌, nat_le, if◌then◌else◌, List, [], ◌∷◌, ◌++◌, length, take, Option, Some, None}
+-- What is kept of a recording: its frames, and its complete checkpoints.
+use Rattle.std.specs.Prelude.{◌≡◌, ℕ, ◌+◌, ◌≤◌, nat_le, if◌then◌else◌, List, [], ◌∷◌, ◌++◌, length, map, take, Option, Some, None}
 use Rattle.rrv_model.specs.declared.record.Frame.{Frame}
 use Rattle.rrv_model.specs.declared.record.CheckpointRest.{CheckpointRest}
 use Rattle.rrv_model.specs.declared.record.Part.{Part}
@@ -10,8 +10,11 @@ use Rattle.rrv_model.specs.State.{State}
 use Rattle.rrv_model.specs.Opening.{Opens}
 use Rattle.rrv_model.specs.StateAt.{StateAtFrom, total}
 use Rattle.rrv_model.specs.Checkpoint.{Describes}
-use Rattle.rrv_model.specs.Recording.{frames_of, row_after}
+use Rattle.rrv_model.specs.declared.record.Record.{Record}
+use Rattle.rrv_model.specs.Recording.{IsRecording, frames_of, items_of, row_after}
 use Rattle.replayer.specs.declared.recording.Mark.{Mark}
+use Rattle.replayer.specs.declared.recording.Track.{Track}
+use Rattle.replayer.specs.Verified.{VerifiedValue}
 
 -- the mark that a part makes behind so many frames and steps: one where it is flagged
 abbrev pub new_marks : Option CheckpointRest → Mark → List Mark
@@ -65,7 +68,7 @@ pub record KeepsAll (items : List Item) (row : List Part) (frames : List Frame) 
       marks_of [] 0 0 (items ++ rest) ≡ marks ++ marks_of row (length frames) steps rest
   pub steps_are : steps ≡ total frames
 
--- a value keeps just these items, of which the first is an opening
+-- this is kept of just these items, of which the first is an opening
 abbrev pub IsKeptOf : List Item → Opening → List Frame → List Mark → Type 0
 IsKeptOf [] o frames marks = ⊥
 IsKeptOf (items.Opening p ∷ rest) o frames marks = (o ≡ p) × (frames ≡ frames_of rest) × (marks ≡ marks_of [] 0 0 rest)
@@ -77,3 +80,23 @@ abbrev pub RowIs : Item → List Part → List Part → Type 0
 RowIs (items.Opening o) row row' = ⊥
 RowIs (items.Frame f) row row' = row' ≡ []
 RowIs (items.Part p) row row' = row' ≡ row_after p.rest (row ++ p ∷ [])
+
+-- ---- of a verified recording
+
+abbrev pub verified_of : Track → ℕ → VerifiedValue
+verified_of track len = record {
+  opening = track.opening;
+  frames = track.frames;
+  checkpoints = map (λ m. m.at) track.marks;
+  len = len;
+}
+
+-- it is kept of just these records, which are a recording
+pub record IsTrackOf (track : Track) (len : ℕ) (records : List Record) : Type 0 where
+  pub recording : IsRecording records
+  pub kept : IsKeptOf (items_of records) track.opening track.frames track.marks
+  pub len_is : len ≡ length records
+
+-- there are records that it is kept of
+abbrev pub IsTrack : Track → ℕ → Type 0
+IsTrack track len = (records : List Record) × IsTrackOf track len records

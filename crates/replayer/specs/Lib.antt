@@ -3,7 +3,7 @@ pub mod Told
 pub mod Refused
 pub mod Refusals
 pub mod Walks
+pub mod Verified
 pub mod Kept
 pub mod Places
-pub mod Verified
 pub mod Puts

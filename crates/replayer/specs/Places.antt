@@ -5,11 +5,17 @@ use Rattle.rrv_model.specs.declared.record.Opening.{Opening}
 use Rattle.rrv_model.specs.State.{State}
 use Rattle.rrv_model.specs.Opening.{Opens}
 use Rattle.rrv_model.specs.StateAt.{StateAt, StateAtFrom, total}
-use Rattle.guest_calls.specs.Guest.{state_of}
-use Rattle.replayer.specs.declared.place.Place.{Place}
-use Rattle.replayer.specs.declared.recording.Verified.{Verified}
+use Rattle.guest_calls.specs.Guest.{GuestValue, state_of}
+use Rattle.replayer.specs.declared.position.Position.{Position}
 use Rattle.replayer.specs.declared.recording.Mark.{Mark}
 use Rattle.replayer.specs.Kept.{AreMarks}
+use Rattle.replayer.specs.Verified.{VerifiedValue}
+
+-- What contracts see of a place: the recording, the instructions behind the place, and the guest there.
+pub record PlaceValue : Type 0 where
+  pub verified : VerifiedValue
+  pub at : ℕ
+  pub guest : GuestValue
 
 -- the state behind the first frames, which take so many steps
 pub record IsPlace (o : Opening) (frames : List Frame) (done steps : ℕ) (s : State) : Type 0 where
@@ -46,10 +52,9 @@ pub record GoesOn (o : Opening) (frames : List Frame) (t : ℕ) (s : State) (lef
   pub ends : StateAtFrom s left (total left) last
   pub sum : t + total left ≡ total frames
 
--- a guest stands at a place of a recording
-pub record StandsAt (verified : Verified) (place : Place) : Type 0 where
-  pub state : StateAt verified.opening verified.frames place.at (state_of place.guest)
-  pub inside : place.frames ≤ length verified.frames
-  pub on : GoesOn verified.opening verified.frames place.at (state_of place.guest)
-      (begun place.steps (drop place.frames verified.frames))
-  pub begins : Begins (begun place.steps (drop place.frames verified.frames))
+-- a guest stands where its frames and steps say, and is in the state there
+pub record StandsAt (o : Opening) (frames : List Frame) (p : Position) : Type 0 where
+  pub state : StateAt o frames p.at (state_of p.guest)
+  pub inside : p.frames ≤ length frames
+  pub on : GoesOn o frames p.at (state_of p.guest) (begun p.steps (drop p.frames frames))
+  pub begins : Begins (begun p.steps (drop p.frames frames))

@@ -7,14 +7,16 @@ mod forward;
 mod opened;
 mod outputs;
 mod place;
+mod position;
 mod recording;
 mod replaying;
+mod track;
 mod verified;
 mod verifying;
 mod walk;
 
 pub use fault::{OutputFault, ReplayFault, VerifyFault};
 pub use place::Place;
-pub use recording::Verified;
 pub use replaying::{Replayed, read_guest, replay};
+pub use verified::Verified;
 pub use verifying::verify;

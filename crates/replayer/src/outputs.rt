@@ -1,15 +1,15 @@
-//! The output of a verified recording.
+//! The output along a track.
 
 ghost use Rattle.std.specs.Prelude.{◌≡◌, ◌↔◌, ◌++◌, ℕ, IsErrOf, OnErr, OnOk, take};
 ghost use Rattle.rrv_model.specs.Failures.{HasFailed, IsCounted};
 ghost use Rattle.rrv_model.specs.Output.{spread, to_descriptor};
 ghost use Rattle.guest_calls.specs.Guest.{chunks_of};
 ghost use Rattle.replayer.specs.Puts.{PutsAll, PutsBeginning, chunks_by};
-ghost use Rattle.replayer.specs.Verified.{IsVerified};
+ghost use Rattle.replayer.specs.Kept.{AreKept};
 
 use crate::fault::OutputFault;
 use crate::forward::follow_whole;
-use crate::recording::Verified;
+use crate::recording::Track;
 use guest_calls::Guest;
 use rrv_model::record::{End, Frame};
 use rrv_model::sink::{Sink, SinkError};
@@ -60,15 +60,15 @@ fn put_frame<S: Sink, R: Wait>(
     }
 }
 
-impl Verified {
-    /// Puts out what the recorded guest put out. A refusal leaves a beginning of it.
-    pub fn output<S: Sink, R: Wait>(
+impl Track {
+    /// Puts out what its frames put out. A refusal leaves a beginning of it.
+    pub(crate) fn output<S: Sink, R: Wait>(
         &self,
         alloc: Global,
         rt: &R,
         sink: &mut S,
     ) -> Result<(), OutputFault>
-        requires { IsVerified self.now }
+        requires { AreKept self.now.opening self.now.frames self.now.marks }
         ensures all { OnOk result (S.tells sink.old
             → PutsAll self.now.opening self.now.frames (S.taken sink.old) (S.taken sink.new)) }
         ensures part { OnErr result (S.tells sink.old

@@ -1,40 +1,68 @@
 //! A guest at a place of a verified recording.
 
-ghost use Rattle.std.specs.Prelude.{◌≡◌};
+ghost use Rattle.std.specs.Prelude.{◌≡◌, ◌≤◌, ◌<◌, ◌+◌, IfOk};
+ghost use Rattle.rrv_model.specs.StateAt.{StateAt, total};
+ghost use Rattle.guest_calls.specs.Guest.{state_of};
 
+use crate::position::Position;
+use crate::verified::Verified;
 use guest_calls::Guest;
+use rrv_model::refusal::Memory;
+use std::alloc::Global;
+use std::marker::Model;
 
-/// A guest at a place of a verified recording, and how far the frames are behind it.
+/// A guest at a place of a verified recording.
 #[derive(Drop)]
-pub struct Place {
-    pub(crate) guest: Guest,
-    /// The frames that are whole behind it.
-    pub(crate) frames: usize,
-    /// The steps of the next one that are behind it.
-    pub(crate) steps: u32,
-    /// The steps of all frames that are behind it.
-    pub(crate) at: u64,
+pub struct Place<'a> {
+    pub(crate) verified: &'a Verified,
+    pub(crate) position: Position,
 }
 
-impl Place {
-    /// The guest there.
-    pub fn guest(&self) -> &Guest
-        ensures { result.now ≡ self.now.guest }
+impl<'a> Model for Place<'a> {
+    ghost use Rattle.replayer.specs.Places.{PlaceValue, StandsAt};
+
+    ghost Value = { PlaceValue };
+
+    ghost view = { λ p. record { verified = p.verified.now; at = p.position.at; guest = p.position.guest } };
+
+    ghost invariant = { λ p. StandsAt p.verified.now.opening p.verified.now.frames p.position };
+}
+
+impl<'a> Place<'a> {
+    /// The recording.
+    pub fn verified(&self) -> &'a Verified
+        ensures { result.now ≡ self.now.verified }
     {
-        &self.guest
+        self.verified
     }
 
     /// The instructions behind it.
     pub fn at(&self) -> u64
-        ensures { result ≡ self.now.at }
+        ensures at { result ≡ self.now.at }
+        ensures within { self.now.at ≤ total self.now.verified.frames }
     {
-        self.at
+        self.position.at
     }
 
-    /// The guest, without its place.
-    pub fn into_guest(self) -> Guest
-        ensures { result ≡ self.guest }
+    /// The guest there.
+    pub fn guest(&self) -> &Guest
+        ensures guest { result.now ≡ self.now.guest }
+        ensures state { StateAt self.now.verified.opening self.now.verified.frames self.now.at (state_of result.now) }
     {
-        self.guest
+        &self.position.guest
+    }
+
+    /// The place behind one instruction more.
+    pub fn advance(self, alloc: Global) -> Result<Place<'a>, Memory>
+        requires { self.at < total self.verified.frames }
+        ensures verified { IfOk result (λ place. place.verified ≡ self.entry.verified) }
+        ensures at { IfOk result (λ place. place.at ≡ self.entry.at + 1) }
+    {
+        let Place {
+            verified,
+            mut position,
+        } = self;
+        verified.track.advance(alloc, &mut position)?;
+        Ok(Place { verified, position })
     }
 }

@@ -1,4 +1,4 @@
-//! What is kept of a verified recording.
+//! What is kept of a recording.
 
 ghost use Rattle.std.specs.Prelude.{◌≡◌};
 ghost use Rattle.rrv_model.specs.StateAt.{total};
@@ -14,15 +14,13 @@ pub(crate) struct Mark {
     pub(crate) parts: Sequence<Part>,
 }
 
-/// A recording that was verified: what leads to each of its states.
+/// What leads to each state of a recording.
 #[derive(Drop)]
-pub struct Verified {
+pub(crate) struct Track {
     pub(crate) opening: Opening,
     pub(crate) frames: Sequence<Frame>,
     /// The complete checkpoints.
     pub(crate) marks: Sequence<Mark>,
-    /// The records.
-    pub(crate) len: usize,
     /// The instructions of all frames.
     pub(crate) steps: u64,
     ghost sum: { steps ≡ total frames },

@@ -5,7 +5,8 @@ ghost use Rattle.replayer.specs.Refusals.{RefusesVerify};
 ghost use Rattle.replayer.specs.Verified.{Keeps};
 
 use crate::fault::VerifyFault;
-use crate::recording::Verified;
+use crate::recording::Track;
+use crate::verified::Verified;
 use crate::walk::{Walk, follow_record, open_first, opening_of};
 use rrv_model::record::Record;
 use rrv_model::sequence::Sequence;
@@ -35,11 +36,14 @@ pub fn verify(alloc: Global, records: &[Record]) -> Result<Verified, VerifyFault
         marks,
         total,
     } = walk;
-    Ok(Verified {
+    let track = Track {
         opening,
         frames: Sequence::from_vec(frames),
         marks: Sequence::from_vec(marks),
-        len: records.len(),
         steps: total,
+    };
+    Ok(Verified {
+        track,
+        len: records.len(),
     })
 }

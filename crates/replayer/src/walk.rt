@@ -3,10 +3,11 @@
 ghost use Rattle.std.specs.Prelude.{◌≡◌, ◌≤◌, ◌^◌, ◌*◌, ◌+◌, ◌++◌, ◌∷◌, [], IfErr, IfOk, OnOk, length};
 ghost use Rattle.rrv_model.specs.declared.record.Item.TheVariants as items;
 ghost use Rattle.rrv_model.specs.Checkpoint.{Describes};
+ghost use Rattle.rrv_model.specs.Standing.{Leads};
 ghost use Rattle.guest_calls.specs.Guest.{state_of};
 ghost use Rattle.replayer.specs.Kept.{KeepsOn, RowIs};
 ghost use Rattle.replayer.specs.Refusals.{CheckpointRefused, FrameRefused, PartRefused, RefusesFirst, RefusesNext, TakesMemory};
-ghost use Rattle.replayer.specs.Walks.{Leads, LeadsOn, Stands};
+ghost use Rattle.replayer.specs.Walks.{LeadsOn, Stands};
 
 use crate::fault::VerifyFault;
 use crate::opened::{open_guest, put_parts};

@@ -1,11 +1,10 @@
--- What it means that a cursor stands at a place of a verified recording.
-use Rattle.std.specs.Prelude.{◌≤◌}
-use Rattle.rrv_model.specs.StateAt.{total}
-use Rattle.replayer.specs.Places.{StandsAt}
-use Rattle.replayer.specs.Verified.{IsVerified}
-use Rattle.reverse_step.specs.declared.cursor.Cursor.{Cursor}
+-- What contracts see of a cursor.
+use Rattle.std.specs.Prelude.{ℕ}
+use Rattle.guest_calls.specs.Guest.{GuestValue}
+use Rattle.replayer.specs.Verified.{VerifiedValue}
 
-pub record IsCursor (cursor : Cursor) : Type 0 where
-  pub verified : IsVerified cursor.verified.now
-  pub stands : StandsAt cursor.verified.now cursor.place
-  pub within : cursor.place.at ≤ total cursor.verified.now.frames
+-- the recording, the place, and the guest there
+pub record CursorValue : Type 0 where
+  pub verified : VerifiedValue
+  pub place : ℕ
+  pub guest : GuestValue

@@ -3,9 +3,8 @@
 ghost use Rattle.std.specs.Prelude.{◌≡◌, ◌≤◌, ◌<◌, ◌-◌, ◌+◌, ◌↔◌, IfNone, IfOk, IfSome, IsErrOf, OnErr, OnOk};
 ghost use Rattle.rrv_model.specs.StateAt.{StateAt, total};
 ghost use Rattle.guest_calls.specs.Guest.{state_of};
-ghost use Rattle.replayer.specs.Verified.{IsVerified, RanFromLast};
+ghost use Rattle.replayer.specs.Verified.{RanFromLast};
 ghost use Rattle.reverse_step.specs.Changes.{IsLastChange};
-ghost use Rattle.reverse_step.specs.Cursors.{IsCursor};
 
 use crate::fault::SeekFault;
 use crate::searching::last_in;
@@ -13,38 +12,45 @@ use guest_calls::Guest;
 use replayer::{Place, Verified};
 use rrv_model::refusal::Memory;
 use std::alloc::Global;
+use std::marker::Model;
 
 /// A guest at a place of a verified recording, which it can leave for any other.
 #[derive(Drop)]
 pub struct Cursor<'a> {
-    pub(crate) verified: &'a Verified,
-    pub(crate) place: Place,
+    place: Place<'a>,
+}
+
+impl<'a> Model for Cursor<'a> {
+    ghost use Rattle.reverse_step.specs.Cursors.{CursorValue};
+
+    ghost Value = { CursorValue };
+
+    ghost view = { λ c. record { verified = c.place.verified; place = c.place.at; guest = c.place.guest } };
 }
 
 impl<'a> Cursor<'a> {
     /// A cursor at the start.
     pub fn new(alloc: Global, verified: &'a Verified) -> Result<Cursor<'a>, Memory>
-        requires { IsVerified verified.now }
-        ensures cursor { IfOk result IsCursor }
-        ensures verified { IfOk result (λ cursor. cursor.verified.now ≡ verified.now) }
-        ensures at { IfOk result (λ cursor. cursor.place.at ≡ 0) }
+        ensures verified { IfOk result (λ cursor. cursor.verified ≡ verified.now) }
+        ensures at { IfOk result (λ cursor. cursor.place ≡ 0) }
+        ensures ran { IfOk result (λ cursor. cursor.guest.ran ≡ 0) }
     {
         let place = verified.place_at(alloc, 0)?;
-        Ok(Cursor { verified, place })
+        Ok(Cursor { place })
     }
 
     /// The instructions behind the place.
     pub fn place(&self) -> u64
-        ensures { result ≡ self.now.place.at }
+        ensures place { result ≡ self.now.place }
+        ensures within { self.now.place ≤ total self.now.verified.frames }
     {
         self.place.at()
     }
 
     /// The guest at the place.
     pub fn guest(&self) -> &Guest
-        requires { IsCursor self.now }
-        ensures guest { result.now ≡ self.now.place.guest }
-        ensures state { StateAt self.now.verified.now.opening self.now.verified.now.frames self.now.place.at
+        ensures guest { result.now ≡ self.now.guest }
+        ensures state { StateAt self.now.verified.opening self.now.verified.frames self.now.place
             (state_of result.now) }
     {
         self.place.guest()
@@ -52,37 +58,34 @@ impl<'a> Cursor<'a> {
 
     /// The instructions that ran for the guest at the place.
     pub fn executed(&self) -> u64
-        ensures { result ≡ self.now.place.guest.ran }
+        ensures { result ≡ self.now.guest.ran }
     {
         self.place.guest().ran()
     }
 
     /// Goes to a place.
     pub fn seek(&mut self, alloc: Global, t: u64) -> Result<(), SeekFault>
-        requires { IsCursor self.old }
-        ensures cursor { IsCursor self.new }
-        ensures verified { self.new.verified.now ≡ self.old.verified.now }
-        ensures at { OnOk result (self.new.place.at ≡ t) }
-        ensures ran { OnOk result (RanFromLast self.new.verified.now t self.new.place.guest.ran) }
+        ensures verified { self.new.verified ≡ self.old.verified }
+        ensures at { OnOk result (self.new.place ≡ t) }
+        ensures ran { OnOk result (RanFromLast self.new.verified t self.new.guest.ran) }
         ensures before { IsErrOf result SeekFault.BeforeStart → ⊥ }
-        ensures past { IsErrOf result SeekFault.PastEnd ↔ (total self.old.verified.now.frames < t) }
+        ensures past { IsErrOf result SeekFault.PastEnd ↔ (total self.old.verified.frames < t) }
         ensures refused { OnErr result (self.new ≡ self.old) }
     {
-        if self.verified.total() < t {
+        let verified = self.place.verified();
+        if verified.total() < t {
             return Err(SeekFault::PastEnd);
         }
-        self.place = self.verified.place_at(alloc, t)?;
+        self.place = verified.place_at(alloc, t)?;
         Ok(())
     }
 
     /// Goes so many instructions back.
     pub fn back(&mut self, alloc: Global, n: u64) -> Result<(), SeekFault>
-        requires { IsCursor self.old }
-        ensures cursor { IsCursor self.new }
-        ensures verified { self.new.verified.now ≡ self.old.verified.now }
-        ensures at { OnOk result (self.new.place.at + n ≡ self.old.place.at) }
-        ensures ran { OnOk result (RanFromLast self.new.verified.now self.new.place.at self.new.place.guest.ran) }
-        ensures before { IsErrOf result SeekFault.BeforeStart ↔ (self.old.place.at < n) }
+        ensures verified { self.new.verified ≡ self.old.verified }
+        ensures at { OnOk result (self.new.place + n ≡ self.old.place) }
+        ensures ran { OnOk result (RanFromLast self.new.verified self.new.place self.new.guest.ran) }
+        ensures before { IsErrOf result SeekFault.BeforeStart ↔ (self.old.place < n) }
         ensures past { IsErrOf result SeekFault.PastEnd → ⊥ }
         ensures refused { OnErr result (self.new ≡ self.old) }
     {
@@ -90,50 +93,46 @@ impl<'a> Cursor<'a> {
         if at < n {
             return Err(SeekFault::BeforeStart);
         }
-        self.place = self.verified.place_at(alloc, at - n)?;
+        self.place = self.place.verified().place_at(alloc, at - n)?;
         Ok(())
     }
 
     /// Goes so many instructions forward.
     pub fn forward(&mut self, alloc: Global, n: u64) -> Result<(), SeekFault>
-        requires { IsCursor self.old }
-        ensures cursor { IsCursor self.new }
-        ensures verified { self.new.verified.now ≡ self.old.verified.now }
-        ensures at { OnOk result (self.new.place.at ≡ self.old.place.at + n) }
-        ensures ran { OnOk result (RanFromLast self.new.verified.now self.new.place.at self.new.place.guest.ran) }
+        ensures verified { self.new.verified ≡ self.old.verified }
+        ensures at { OnOk result (self.new.place ≡ self.old.place + n) }
+        ensures ran { OnOk result (RanFromLast self.new.verified self.new.place self.new.guest.ran) }
         ensures before { IsErrOf result SeekFault.BeforeStart → ⊥ }
-        ensures past { IsErrOf result SeekFault.PastEnd
-            ↔ (total self.old.verified.now.frames < self.old.place.at + n) }
+        ensures past { IsErrOf result SeekFault.PastEnd ↔ (total self.old.verified.frames < self.old.place + n) }
         ensures refused { OnErr result (self.new ≡ self.old) }
     {
+        let verified = self.place.verified();
         let at = self.place.at();
-        let total = self.verified.total();
-        if total < at || total - at < n {
+        if verified.total() - at < n {
             return Err(SeekFault::PastEnd);
         }
-        self.place = self.verified.place_at(alloc, at + n)?;
+        self.place = verified.place_at(alloc, at + n)?;
         Ok(())
     }
 
     /// Goes to the last place below this one whose instruction changes the byte at an address, or whether there is one,
     /// and answers it; stays where none does.
     pub fn last_change(&mut self, alloc: Global, address: u32) -> Result<Option<u64>, Memory>
-        requires { IsCursor self.old }
-        ensures cursor { IsCursor self.new }
-        ensures verified { self.new.verified.now ≡ self.old.verified.now }
-        ensures change { IfOk result (IsLastChange self.old.verified.now.opening self.old.verified.now.frames address
-            self.old.place.at) }
-        ensures at { IfOk result (λ found. IfSome found (λ t. self.new.place.at ≡ t)) }
+        ensures verified { self.new.verified ≡ self.old.verified }
+        ensures change { IfOk result (IsLastChange self.old.verified.opening self.old.verified.frames address
+            self.old.place) }
+        ensures at { IfOk result (λ found. IfSome found (λ t. self.new.place ≡ t)) }
         ensures stays { IfOk result (λ found. IfNone found (self.new ≡ self.old)) }
         ensures refused { OnErr result (self.new ≡ self.old) }
     {
+        let verified = self.place.verified();
         let mut end = self.place.at();
         while 0 < end {
-            let start = self.verified.checkpoint_before(end - 1);
-            let found = last_in(alloc, self.verified, start, end, address)?;
+            let start = verified.checkpoint_before(end - 1);
+            let found = last_in(alloc, verified, start, end, address)?;
             match found {
                 Some(t) => {
-                    self.place = self.verified.place_at(alloc, t)?;
+                    self.place = verified.place_at(alloc, t)?;
                     return Ok(Some(t));
                 }
                 None => end = start,

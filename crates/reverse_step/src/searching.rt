@@ -3,7 +3,6 @@
 ghost use Rattle.std.specs.Prelude.{◌≡◌, ◌≤◌, ◌↔◌, IfOk, IsTrue};
 ghost use Rattle.rrv_model.specs.StateAt.{total};
 ghost use Rattle.guest_calls.specs.Guest.{state_of};
-ghost use Rattle.replayer.specs.Verified.{IsVerified};
 ghost use Rattle.reverse_step.specs.Changes.{IsLastIn, byte_at};
 
 use guest_calls::Guest;
@@ -35,7 +34,6 @@ pub(crate) fn last_in(
     end: u64,
     address: u32,
 ) -> Result<Option<u64>, Memory>
-    requires verified { IsVerified verified.now }
     requires low { start ≤ end }
     requires high { end ≤ total verified.now.frames }
     ensures { IfOk result (IsLastIn verified.now.opening verified.now.frames address start end) }
@@ -45,7 +43,7 @@ pub(crate) fn last_in(
     let mut before = byte_of(place.guest(), address);
     while place.at() < end {
         let t = place.at();
-        verified.advance(alloc, &mut place)?;
+        place = place.advance(alloc)?;
         let after = byte_of(place.guest(), address);
         if !is_same(before, after) {
             found = Some(t);

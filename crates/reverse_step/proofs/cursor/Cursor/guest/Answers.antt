@@ -1,9 +1,9 @@
-use Rattle.std.proofs.Common.{subst, sym}
+use Rattle.std.proofs.Common.{subst}
 use Rattle.rrv_model.specs.StateAt.{StateAt}
-use Rattle.guest_calls.specs.Guest.{GuestValue, state_of}
+use Rattle.guest_calls.specs.Guest.{state_of}
+use Rattle.reverse_step.specs.Cursors.{CursorValue}
 use Rattle.reverse_step.proofs.cursor.Cursor.guest.Goals as goal
 
 pub returns-clause-state : goal.returns-clause-state
 returns-clause-state c =
-    let cursor = c.args.self.now in
-    subst (λ (g : GuestValue). StateAt cursor.verified.now.opening cursor.verified.now.frames cursor.place.at (state_of g)) (sym c.guest.ensures) c.requires.stands.state
+    subst (λ (v : CursorValue). StateAt v.verified.opening v.verified.frames v.place (state_of c.guest.result.now)) c.self.view_is c.guest.ensures.state

@@ -1,8 +1,23 @@
-use Rattle.std.proofs.Common.{arith, Option, ℕ, subst}
-use Rattle.reverse_step.specs.declared.cursor.Cursor.{Cursor}
+use Rattle.std.proofs.Common.{arith, ◌≡◌, ◌∙◌, Option, ℕ, ap, subst}
+use Rattle.rrv_model.proofs.Results.{OnErr-from}
+use Rattle.replayer.specs.Verified.{VerifiedValue}
 use Rattle.reverse_step.specs.Changes.{IsLastIn}
+use Rattle.reverse_step.specs.Cursors.{CursorValue}
 use Rattle.reverse_step.proofs.Changed.{none_join, some_join}
 use Rattle.reverse_step.proofs.cursor.Cursor.last_change.Goals as goal
+
+pub returns-in_err-found-clause-verified : goal.returns-in_err-found-clause-verified
+returns-in_err-found-clause-verified c = ap (λ (v : CursorValue). v.verified) c.loop-end.invariant.same
+
+pub returns-in_err-found-clause-refused : goal.returns-in_err-found-clause-refused
+returns-in_err-found-clause-refused c = OnErr-from c.from_residual.result c.loop-end.invariant.same
+
+pub returns-in_err-self-inside-in-Some-clause-verified : goal.returns-in_err-self-inside-in-Some-clause-verified
+returns-in_err-self-inside-in-Some-clause-verified c = ap (λ (v : CursorValue). v.verified) c.loop-end.invariant.same
+
+pub returns-in_err-self-inside-in-Some-clause-refused : goal.returns-in_err-self-inside-in-Some-clause-refused
+returns-in_err-self-inside-in-Some-clause-refused c =
+    OnErr-from c.from_residual-in_err-self-inside-in-Some.result c.loop-end.invariant.same
 
 pub returns-in-Some-clause-change : goal.returns-in-Some-clause-change
 returns-in-Some-clause-change c =
@@ -10,9 +25,10 @@ returns-in-Some-clause-change c =
     let i = c.loop-end.invariant in
     let a = c.args.address in
     let start = c.checkpoint_before-start.result in
-    let found = subst (λ (cursor : Cursor). IsLastIn cursor.verified.now.opening cursor.verified.now.frames a start c.loop-end.end c.in_ok-found.found) i.same c.in_ok-found.ensures in
-    let some = subst (λ (f : Option ℕ). IsLastIn old.verified.now.opening old.verified.now.frames a start c.loop-end.end f) c.in-Some.is found in
-    some_join old.verified.now.opening old.verified.now.frames a start c.loop-end.end old.place.at c.in-Some.t some i.low i.none
+    let same : c.verified-verified.result.now ≡ old.verified = c.verified-verified.ensures ∙ ap (λ (v : CursorValue). v.verified) c.self.view_is in
+    let found = subst (λ (v : VerifiedValue). IsLastIn v.opening v.frames a start c.loop-end.end c.in_ok-found.found) same c.in_ok-found.ensures in
+    let some = subst (λ (f : Option ℕ). IsLastIn old.verified.opening old.verified.frames a start c.loop-end.end f) c.in-Some.is found in
+    some_join old.verified.opening old.verified.frames a start c.loop-end.end old.place c.in-Some.t some i.low i.none
 
 pub loop-end-preserved : goal.loop-end-preserved
 loop-end-preserved c =
@@ -21,13 +37,20 @@ loop-end-preserved c =
     let a = c.args.address in
     let start = c.checkpoint_before-start.result in
     let low = c.checkpoint_before-start.ensures.low in
-    let found = subst (λ (cursor : Cursor). IsLastIn cursor.verified.now.opening cursor.verified.now.frames a start c.loop-end.end c.in_ok-found.found) i.same c.in_ok-found.ensures in
-    let none = subst (λ (f : Option ℕ). IsLastIn old.verified.now.opening old.verified.now.frames a start c.loop-end.end f) c.in-None.is found in
+    let same : c.verified-verified.result.now ≡ old.verified = c.verified-verified.ensures ∙ ap (λ (v : CursorValue). v.verified) c.self.view_is in
+    let found = subst (λ (v : VerifiedValue). IsLastIn v.opening v.frames a start c.loop-end.end c.in_ok-found.found) same c.in_ok-found.ensures in
+    let none = subst (λ (f : Option ℕ). IsLastIn old.verified.opening old.verified.frames a start c.loop-end.end f) c.in-None.is found in
     record {
-      none = none_join old.verified.now.opening old.verified.now.frames a start c.loop-end.end old.place.at none i.none;
+      none = none_join old.verified.opening old.verified.frames a start c.loop-end.end old.place none i.none;
       low = omega (arith, low, i.low);
       same = i.same;
     }
 
+pub returns-clause-verified : goal.returns-clause-verified
+returns-clause-verified c = ap (λ (v : CursorValue). v.verified) c.loop-end.invariant.same
+
 pub returns-clause-change : goal.returns-clause-change
 returns-clause-change c = λ t low high. c.loop-end.invariant.none t (omega (arith, c.loop-end-test.false)) high
+
+pub returns-clause-stays : goal.returns-clause-stays
+returns-clause-stays c = c.loop-end.invariant.same

@@ -3,19 +3,16 @@ use Rattle.rrv_model.specs.declared.record.Frame.{Frame}
 use Rattle.rrv_model.specs.Opening.{Opens}
 use Rattle.rrv_model.specs.StateAt.{StateAtFrom, total}
 use Rattle.guest_calls.specs.Guest.{GuestValue, chunks_of, state_of}
+use Rattle.rrv_model.proofs.Results.{OnErr-from}
 use Rattle.rrv_model.proofs.RunLaws.{at_total_first}
 use Rattle.replayer.specs.Puts.{PutsSoFar, chunks_by}
-use Rattle.replayer.proofs.Kept.{kept_by}
 use Rattle.replayer.proofs.Onward.{none_left, split_first}
-use Rattle.replayer.proofs.Putting.{ends_behind, frame_puts, inside_part, none_put, on_err, so_far_all, so_far_first, so_far_next, so_far_part, start_ends, start_opens}
-use Rattle.replayer.proofs.recording.Verified.output.Goals as goal
-
-pub start-requires : goal.start-requires
-start-requires g c = kept_by c.args.self.now c.requires
+use Rattle.replayer.proofs.Putting.{ends_behind, frame_puts, inside_part, none_put, so_far_all, so_far_first, so_far_next, so_far_part, start_ends, start_opens}
+use Rattle.replayer.proofs.recording.Track.output.Goals as goal
 
 pub returns-in_err-start-clause-part : goal.returns-in_err-start-clause-part
-returns-in_err-start-clause-part g c = on_err c.from_residual.result _
-    (λ tells. none_put c.args.self.now.opening c.args.self.now.frames c.args.self.now.marks (g.S.Sink.taken c.args.sink.now) (kept_by c.args.self.now c.requires))
+returns-in_err-start-clause-part g c = OnErr-from c.from_residual.result
+    (λ tells. none_put c.args.self.now.opening c.args.self.now.frames c.args.self.now.marks (g.S.Sink.taken c.args.sink.now) c.requires)
 
 pub loop-left-init : goal.loop-left-init
 loop-left-init g c =
@@ -25,7 +22,7 @@ loop-left-init g c =
     let guest = c.into_guest-guest.result in
     let there = start_opens o frames place.frames place.at (state_of place.guest) c.in_ok-start.ensures.place c.in_ok-start.ensures.frames in
     let opens = subst (λ (g' : GuestValue). Opens o.elf o.name o.random (state_of g')) (sym c.into_guest-guest.ensures) there in
-    let ends = start_ends o frames c.args.self.now.marks (state_of guest) (kept_by c.args.self.now c.requires) opens in
+    let ends = start_ends o frames c.args.self.now.marks (state_of guest) c.requires opens in
     record {
       put = λ tells. subst (λ (fs : List Frame). PutsSoFar o frames (state_of guest) fs (g.S.Sink.taken c.args.sink.now) (g.S.Sink.taken c.args.sink.now)) (sym c.as_slice-left.ensures)
           (so_far_first o frames (state_of guest) (g.S.Sink.taken c.args.sink.now) opens);
@@ -48,7 +45,7 @@ follow_whole-requires g c =
 pub returns-in_err-follow_whole-clause-part : goal.returns-in_err-follow_whole-clause-part
 returns-in_err-follow_whole-clause-part g c =
     let i = c.loop-left.invariant in
-    on_err c.from_residual-in_err-follow_whole.result _
+    OnErr-from c.from_residual-in_err-follow_whole.result
     (λ tells. so_far_part c.args.self.now.opening c.args.self.now.frames (state_of c.loop-left.guest) i.ends.0 c.loop-left.left.now
     (g.S.Sink.taken c.args.sink.now) (g.S.Sink.taken c.loop-left.sink) (i.put tells) i.ends.1)
 
@@ -68,7 +65,7 @@ returns-in_err-put_frame-clause-part g c =
     let middle = g.S.Sink.taken c.loop-left.sink in
     let ends = subst (λ (fs : List Frame). StateAtFrom s fs (total fs) i.ends.0) next i.ends.1 in
     let step = c.in_ok-follow_whole.ensures.follows in
-    on_err c.from_residual-in_err-put_frame.result _
+    OnErr-from c.from_residual-in_err-put_frame.result
     (λ tells. let some = c.in_err-put_frame.ensures.part (i.tells.1 tells) in
     inside_part o frames s new i.ends.0 f rest (chunks_by f.end kept) some.0 before middle (g.S.Sink.taken c.put_frame.new.sink)
     (subst (λ (fs : List Frame). PutsSoFar o frames s fs before middle) next (i.put tells)) step (frame_puts f.end s f kept c.in_ok-follow_whole.ensures.puts)

@@ -3,7 +3,7 @@ use Rattle.rrv_model.specs.State.{State}
 use Rattle.rrv_model.specs.StateAt.{StateAtFrom, total}
 use Rattle.guest_calls.specs.Guest.{state_of}
 use Rattle.replayer.specs.Puts.{PutsSoFar}
-use Rattle.replayer.proofs.recording.Verified.output.Given as goal
+use Rattle.replayer.proofs.recording.Track.output.Given as goal
 
 abbrev pub invariant-loop-left : goal.invariant-loop-left
 invariant-loop-left g l = record {

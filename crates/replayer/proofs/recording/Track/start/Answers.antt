@@ -1,6 +1,6 @@
 use Rattle.std.proofs.Common.{subst}
 use Rattle.replayer.specs.Refusals.{RefusesOpening}
-use Rattle.replayer.proofs.recording.Verified.start.Goals as goal
+use Rattle.replayer.proofs.recording.Track.start.Goals as goal
 
 pub unreachable-requires : goal.unreachable-requires
 unreachable-requires c =

@@ -7,24 +7,24 @@ use Rattle.replayer.specs.Kept.{last_place}
 use Rattle.replayer.specs.Places.{IsPlace, MarksLeft}
 use Rattle.replayer.proofs.Onward.{split_first}
 use Rattle.replayer.proofs.Placed.{last_on, mark_left, mark_place, start_marks}
-use Rattle.replayer.proofs.recording.Verified.nearest.Goals as goal
+use Rattle.replayer.proofs.recording.Track.nearest.Goals as goal
 
 pub loop-left-init : goal.loop-left-init
 loop-left-init c =
     let o = c.args.self.now.opening in
     let frames = c.args.self.now.frames in
-    let place = c.in_ok-place.place in
-    let start : IsPlace o frames 0 0 (state_of place.guest) =
-    subst (λ n. IsPlace o frames n 0 (state_of place.guest)) c.in_ok-place.ensures.frames
-    (subst (λ n. IsPlace o frames place.frames n (state_of place.guest)) c.in_ok-place.ensures.at c.in_ok-place.ensures.place) in
+    let position = c.in_ok-position.position in
+    let start : IsPlace o frames 0 0 (state_of position.guest) =
+    subst (λ n. IsPlace o frames n 0 (state_of position.guest)) c.in_ok-position.ensures.frames
+    (subst (λ n. IsPlace o frames position.frames n (state_of position.guest)) c.in_ok-position.ensures.at c.in_ok-position.ensures.place) in
     record {
-      place = c.in_ok-place.ensures.place;
-      left = subst (λ (ms : List Mark). MarksLeft o frames (state_of place.guest) ms) (sym c.as_slice-left.ensures)
-          (start_marks o frames c.args.self.now.marks (state_of place.guest) c.requires start);
-      last = ap (λ n. last_place n c.as_slice-left.result.now c.args.t) c.in_ok-place.ensures.at ∙ ap (λ (ms : List Mark). last_place 0 ms c.args.t) c.as_slice-left.ensures;
-      low = omega (arith, c.in_ok-place.ensures.at);
-      steps = c.in_ok-place.ensures.steps;
-      ran = c.in_ok-place.ensures.ran;
+      position = c.in_ok-position.ensures.place;
+      left = subst (λ (ms : List Mark). MarksLeft o frames (state_of position.guest) ms) (sym c.as_slice-left.ensures)
+          (start_marks o frames c.args.self.now.marks (state_of position.guest) c.requires start);
+      last = ap (λ n. last_place n c.as_slice-left.result.now c.args.t) c.in_ok-position.ensures.at ∙ ap (λ (ms : List Mark). last_place 0 ms c.args.t) c.as_slice-left.ensures;
+      low = omega (arith, c.in_ok-position.ensures.at);
+      steps = c.in_ok-position.ensures.steps;
+      ran = c.in_ok-position.ensures.ran;
     }
 
 pub loop-left-preserved : goal.loop-left-preserved
@@ -34,15 +34,15 @@ loop-left-preserved c =
     let m = c.mark-item.result in
     let all = c.loop-left.left.now in
     let rest = take (length all - 1) (drop 1 all) in
-    let base = state_of c.loop-left.place.guest in
+    let base = state_of c.loop-left.position.guest in
     let new = state_of c.put_parts.new.guest in
     let next : all ≡ m ∷ rest = split_first all m c.in-len1-up.len_at_least c.mark-item.is in
     let left = subst (λ (ms : List Mark). MarksLeft o frames base ms) next c.loop-left.invariant.left in
     let described = subst (λ (ps : List Part). Describes base ps new) c.as_slice.ensures c.in-Ok.ensures.put in
     record {
-      place = mark_place o frames base new m rest left described;
+      position = mark_place o frames base new m rest left described;
       left = mark_left o frames base new m rest left described;
-      last = sym (last_on c.loop-left.place.at m rest c.args.t (search rules)) ∙ ap (λ (ms : List Mark). last_place c.loop-left.place.at ms c.args.t) (sym next) ∙ c.loop-left.invariant.last;
+      last = sym (last_on c.loop-left.position.at m rest c.args.t (search rules)) ∙ ap (λ (ms : List Mark). last_place c.loop-left.position.at ms c.args.t) (sym next) ∙ c.loop-left.invariant.last;
       low = search rules;
       steps = c.loop-left.invariant.steps;
       ran = c.in-Ok.ensures.ran ∙ c.loop-left.invariant.ran;

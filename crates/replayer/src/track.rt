@@ -1,0 +1,155 @@
+//! The way along a track, to its state at each count of instructions.
+
+ghost use Rattle.std.specs.Prelude.{◌≡◌, ◌≤◌, ◌<◌, ◌+◌, IfOk, OnOk, drop, length};
+ghost use Rattle.rrv_model.specs.StateAt.{total};
+ghost use Rattle.guest_calls.specs.Guest.{counted, state_of};
+ghost use Rattle.replayer.specs.Kept.{AreKept, last_place};
+ghost use Rattle.replayer.specs.Places.{GoesOn, IsPlace, StandsAt};
+
+use crate::fault::VerifyFault;
+use crate::forward::{count_of, follow_whole, last_of, run_plain};
+use crate::opened::{open_guest, put_parts};
+use crate::position::Position;
+use crate::recording::Track;
+use checkpoint::ApplyFault;
+use guest_calls::Guest;
+use rrv_model::refusal::Memory;
+use std::alloc::Global;
+
+impl Track {
+    /// The guest at its start.
+    pub(crate) fn start(&self, alloc: Global) -> Result<Position, Memory>
+        requires { AreKept self.now.opening self.now.frames self.now.marks }
+        ensures place { IfOk result (λ p. IsPlace self.now.opening self.now.frames p.frames p.at (state_of p.guest)) }
+        ensures at { IfOk result (λ p. p.at ≡ 0) }
+        ensures frames { IfOk result (λ p. p.frames ≡ 0) }
+        ensures steps { IfOk result (λ p. p.steps ≡ 0) }
+        ensures ran { IfOk result (λ p. p.guest.ran ≡ 0) }
+    {
+        let guest = match open_guest(alloc, &self.opening) {
+            Ok(guest) => guest,
+            Err(VerifyFault::Memory) => return Err(Memory),
+            Err(VerifyFault::BadOpening) => unreachable!(),
+            Err(VerifyFault::Mismatch { .. }) => unreachable!(),
+            Err(VerifyFault::BadCheckpoint { .. }) => unreachable!(),
+        };
+        Ok(Position {
+            guest,
+            frames: 0,
+            steps: 0,
+            at: 0,
+        })
+    }
+
+    /// The guest at the last complete checkpoint at or before t, else at its start.
+    fn nearest(&self, alloc: Global, t: u64) -> Result<Position, Memory>
+        requires { AreKept self.now.opening self.now.frames self.now.marks }
+        ensures place { IfOk result (λ p. IsPlace self.now.opening self.now.frames p.frames p.at (state_of p.guest)) }
+        ensures last { IfOk result (λ p. p.at ≡ last_place 0 self.now.marks t) }
+        ensures low { IfOk result (λ p. p.at ≤ t) }
+        ensures steps { IfOk result (λ p. p.steps ≡ 0) }
+        ensures ran { IfOk result (λ p. p.guest.ran ≡ 0) }
+    {
+        let mut position = self.start(alloc)?;
+        let mut left = self.marks.as_slice();
+        while let [mark, after @ ..] = left {
+            if mark.at > t {
+                return Ok(position);
+            }
+            match put_parts(alloc, &mut position.guest, mark.parts.as_slice()) {
+                Ok(()) => {}
+                Err(ApplyFault::Memory) => return Err(Memory),
+                Err(ApplyFault::BadPart) => unreachable!(),
+                Err(ApplyFault::TooManyPages) => unreachable!(),
+            }
+            position.frames = mark.frames;
+            position.at = mark.at;
+            left = after;
+        }
+        Ok(position)
+    }
+
+    /// Goes on from between two frames to t. After a refusal the position is fit only to be dropped.
+    fn run_to(&self, alloc: Global, position: &mut Position, t: u64) -> Result<(), Memory>
+        requires on { GoesOn self.now.opening self.now.frames
+            position.old.at (state_of position.old.guest) (drop position.old.frames self.now.frames) }
+        requires between { position.old.steps ≡ 0 }
+        requires inside { position.old.frames ≤ length self.now.frames }
+        requires low { position.old.at ≤ t }
+        requires high { t ≤ total self.now.frames }
+        ensures stands { OnOk result (StandsAt self.now.opening self.now.frames position.new) }
+        ensures at { OnOk result (position.new.at ≡ t) }
+        ensures ran { OnOk result (position.new.guest.ran + position.old.at ≤ position.old.guest.ran + t) }
+    {
+        let mut left = &self.frames.as_slice()[position.frames..];
+        while let [frame, after @ ..] = left {
+            let count = u64::from(frame.count);
+            if t - position.at < count {
+                let some = (t - position.at) as u32;
+                run_plain(&mut position.guest, frame.tid, some)?;
+                position.steps = some;
+                position.at = t;
+                return Ok(());
+            }
+            follow_whole(alloc, &mut position.guest, frame)?;
+            position.frames += 1;
+            position.at += count;
+            left = after;
+        }
+        Ok(())
+    }
+
+    /// Goes on by one instruction. After a refusal the position is fit only to be dropped.
+    pub(crate) fn advance(&self, alloc: Global, position: &mut Position) -> Result<(), Memory>
+        requires stands { StandsAt self.now.opening self.now.frames position.old }
+        requires before { position.old.at < total self.now.frames }
+        ensures stands { OnOk result (StandsAt self.now.opening self.now.frames position.new) }
+        ensures at { OnOk result (position.new.at ≡ position.old.at + 1) }
+    {
+        let frame = &self.frames.as_slice()[position.frames];
+        let count = count_of(frame);
+        if position.steps + 1 < count {
+            run_plain(&mut position.guest, frame.tid, 1)?;
+            position.steps += 1;
+            position.at += 1;
+            return Ok(());
+        }
+        let last = last_of(frame)?;
+        follow_whole(alloc, &mut position.guest, &last)?;
+        position.frames += 1;
+        position.steps = 0;
+        position.at += 1;
+        // A frame of no instruction may follow.
+        let at = position.at;
+        self.run_to(alloc, position, at)
+    }
+
+    /// The guest at t, run from the last complete checkpoint at or before it, else from its start.
+    pub(crate) fn position_at(&self, alloc: Global, t: u64) -> Result<Position, Memory>
+        requires kept { AreKept self.now.opening self.now.frames self.now.marks }
+        requires within { t ≤ total self.now.frames }
+        ensures stands { IfOk result (StandsAt self.now.opening self.now.frames) }
+        ensures at { IfOk result (λ position. position.at ≡ t) }
+        ensures ran { IfOk result (λ position. position.guest.ran + last_place 0 self.now.marks t ≤ t) }
+    {
+        let mut position = self.nearest(alloc, t)?;
+        self.run_to(alloc, &mut position, t)?;
+        Ok(position)
+    }
+
+    /// The place of the last complete checkpoint at or before t, else 0.
+    pub(crate) fn checkpoint_before(&self, t: u64) -> u64
+        ensures { result ≡ last_place 0 self.now.marks t }
+    {
+        let mut last = 0;
+        let mut left = self.marks.as_slice();
+        while let [mark, after @ ..] = left {
+            if mark.at > t {
+                return last;
+            }
+            last = mark.at;
+            left = after;
+        }
+        last
+    }
+}
