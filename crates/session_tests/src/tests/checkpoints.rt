@@ -21,15 +21,15 @@ use trace_log::Log;
 const JUMP: [u32; 1] = [0x0000_006F];
 
 /// What a record is: its kind, and how many instructions or pages it has.
-fn kind_of(record: &Record) -> (&'static str, u32) {
+fn kind_of(record: &Record) -> (&'static str, usize) {
     match &record.item {
         Item::Opening(_) => ("opening", 0),
         Item::Frame(frame) => match frame.end {
-            End::Preempt => ("preempt", frame.count),
-            _ => ("end", frame.count),
+            End::Preempt => ("preempt", frame.count as usize),
+            _ => ("end", frame.count as usize),
         },
         Item::Part(part) => {
-            let pages = part.pages.as_slice().len() as u32;
+            let pages = part.pages.as_slice().len();
             let kind = if part.rest.is_some() {
                 "last part"
             } else {
@@ -47,7 +47,7 @@ fn recorded<R: Abort + AllocGlobal + Threads + Wait + Sync>(
     program: &[u32],
     choices: usize,
     every: u32,
-) -> Result<Vec<(&'static str, u32)>, Fail> {
+) -> Result<Vec<(&'static str, usize)>, Fail> {
     let alloc = rt.alloc();
     let choice = Choice {
         tid: 1,
@@ -83,7 +83,7 @@ fn recorded<R: Abort + AllocGlobal + Threads + Wait + Sync>(
 #[test]
 fn a_checkpoint_follows_each_second_frame(rt: HostRuntime) -> Result<(), Fail> {
     let kinds = recorded(&rt, &JUMP, 4, 128)?;
-    let want: &[(&str, u32)] = &[
+    let want: &[(&str, usize)] = &[
         ("opening", 0),
         ("preempt", 64),
         ("preempt", 64),
@@ -99,7 +99,7 @@ fn a_checkpoint_follows_each_second_frame(rt: HostRuntime) -> Result<(), Fail> {
 #[test]
 fn no_checkpoint_follows_the_end(rt: HostRuntime) -> Result<(), Fail> {
     let kinds = recorded(&rt, &EXIT_FIVE, 1, 1)?;
-    let want: &[(&str, u32)] = &[("opening", 0), ("end", 3)];
+    let want: &[(&str, usize)] = &[("opening", 0), ("end", 3)];
     same(&rt, &"kinds", kinds.as_slice(), want);
     Ok(())
 }
