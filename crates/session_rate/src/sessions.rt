@@ -34,6 +34,7 @@ fn jobs_of(
             elf: Vec::from_slice(alloc, elf).ok()?,
             name: Vec::from_slice(alloc, b"g").ok()?,
             random: [0; 16],
+            every: 0,
             chooser: RoundRobin::new(QUANTUM),
             outside: Nothing,
             sink: MemSink::new(alloc),

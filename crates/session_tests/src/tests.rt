@@ -4,6 +4,7 @@ use std::fmt::Debug;
 use std::process::Abort;
 
 mod at_once;
+mod checkpoints;
 mod failing;
 mod gates;
 mod jobs;

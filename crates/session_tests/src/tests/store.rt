@@ -4,6 +4,7 @@ use recorder::MemSink;
 use recover::{Lists, open};
 use replayer::{read_guest, verify};
 use rrv_model::machine::GuestEnd;
+use rrv_model::record::Record;
 use std::alloc::Global;
 use std::sync::Wait;
 use std::test::Fail;
@@ -32,6 +33,11 @@ impl Store {
             lists,
             disk: log.close(),
         })
+    }
+
+    /// The records of a guest.
+    pub(super) fn records(&mut self, alloc: Global, guest: u32) -> Result<Vec<Record>, Fail> {
+        Ok(read_guest(alloc, &self.lists, &mut self.disk, guest)?)
     }
 
     /// How many guests it has.
