@@ -1,3 +1,2 @@
-pub mod NoPart
 pub mod Tried
 pub mod Words

@@ -18,9 +18,9 @@ use Rattle.trace_disk.specs.contracts.mem_disk.MemDiskDisk.TheImpl.{ghosts}
 use Rattle.trace_log.specs.Kept.{Keeps, LogValue}
 use Rattle.recover.specs.declared.fault.OpenFault.{OpenFault}
 use Rattle.recover.specs.declared.fault.OpenFault.TheVariants as open_faults
-use Rattle.replayer.specs.declared.fault.ReplayFault.{ReplayFault}
-use Rattle.replayer.specs.Refused.{RefusesReplay}
-use Rattle.replayer.proofs.ReplayRefusals.{refuses_recording}
+use Rattle.replayer.specs.declared.fault.VerifyFault.{VerifyFault}
+use Rattle.replayer.specs.Refusals.{RefusesVerify}
+use Rattle.replayer.proofs.Walked.{refuses_recording}
 use Rattle.session.specs.declared.fault.SessionFault.{SessionFault}
 use Rattle.session.specs.declared.fault.SessionFault.TheVariants as faults
 use Rattle.session.specs.declared.job.Job.{Job}
@@ -30,9 +30,8 @@ use Rattle.session.specs.Sessions.{AreRecorded, AreReported, HasRun, IsRecording
 use Rattle.session.specs.Works.{Choosers, Sinks, IsRecordedFrom, opening_for}
 use Rattle.commands.specs.declared.refusal.Refusal.{Refusal}
 use Rattle.commands.specs.declared.refusal.Refusal.TheVariants as refusals
-use Rattle.commands.specs.Told.{open_told, replay_told, session_told}
+use Rattle.commands.specs.Told.{open_told, session_told, verify_told}
 use Rattle.commands.specs.Tried.{IsOneJob, IsStored, IsTooLong, RefusesTrial, report_of}
-use Rattle.commands.proofs.NoPart.{no_part}
 
 settled_store : (state : DiskState) (bodies : List (List ℕ)) → IsSettled state bodies → IsStore state.content bodies
 settled_store state bodies h = record { gate = 0; behind = []; text = h.content; not_open = λ e. cc; each = h.each; count = h.count }
@@ -208,7 +207,7 @@ open_refused e fault first is which = elim which [
   | inr memory ↦ refused_for_memory e first (is ∙ ap open_told memory)
 ]
 
--- what was recorded replays, unless memory is lacking
-pub replay_refused : (e : ReplayFault) (first : Record) (records : List Record) (s : State) → IsRecordedFrom first 0 records s → RefusesReplay e records → RefusesTrial (replay_told e) first
-replay_refused e first records s h refuses =
-    refused_for_memory (replay_told e) first (ap replay_told (refuses_recording e records h.recorded.recording (λ index part. no_part records index h.recorded.no_part part) refuses))
+-- what was recorded verifies, unless memory is lacking
+pub verify_refused : (e : VerifyFault) (first : Record) (records : List Record) (s : State) → IsRecordedFrom first 0 records s → RefusesVerify e records → RefusesTrial (verify_told e) first
+verify_refused e first records s h refuses =
+    refused_for_memory (verify_told e) first (ap verify_told (refuses_recording e records h.recorded.recording refuses))

@@ -4,8 +4,10 @@ use Rattle.elf_load.specs.declared.fault.ElfFault.{ElfFault}
 use Rattle.elf_load.specs.declared.fault.ElfFault.TheVariants as elf_faults
 use Rattle.recover.specs.declared.fault.OpenFault.{OpenFault}
 use Rattle.recover.specs.declared.fault.OpenFault.TheVariants as open_faults
-use Rattle.replayer.specs.declared.fault.ReplayFault.{ReplayFault}
-use Rattle.replayer.specs.declared.fault.ReplayFault.TheVariants as replay_faults
+use Rattle.replayer.specs.declared.fault.ReadGuestFault.{ReadGuestFault}
+use Rattle.replayer.specs.declared.fault.ReadGuestFault.TheVariants as read_faults
+use Rattle.replayer.specs.declared.fault.VerifyFault.{VerifyFault}
+use Rattle.replayer.specs.declared.fault.VerifyFault.TheVariants as verify_faults
 use Rattle.session.specs.declared.fault.SessionFault.{SessionFault}
 use Rattle.session.specs.declared.fault.SessionFault.TheVariants as session_faults
 use Rattle.commands.specs.declared.refusal.Refusal.{Refusal}
@@ -29,12 +31,16 @@ abbrev pub IsOfSink : Refusal → Type 0
 IsOfSink (refusals.Session (session_faults.SinkFailed guest)) = Unit {0}
 IsOfSink _ = ⊥
 
-abbrev pub replay_told : ReplayFault → Refusal
-replay_told replay_faults.DeviceFailed = refusals.DeviceFailed
-replay_told (replay_faults.Unreadable index) = refusals.Unreadable index
-replay_told (replay_faults.Mismatch index) = refusals.Mismatch index
-replay_told replay_faults.BadOpening = refusals.BadOpening
-replay_told replay_faults.Memory = refusals.Memory
+abbrev pub read_told : ReadGuestFault → Refusal
+read_told read_faults.DeviceFailed = refusals.DeviceFailed
+read_told (read_faults.Unreadable index) = refusals.Unreadable index
+read_told read_faults.Memory = refusals.Memory
+
+abbrev pub verify_told : VerifyFault → Refusal
+verify_told (verify_faults.Mismatch index) = refusals.Mismatch index
+verify_told (verify_faults.BadCheckpoint index) = refusals.BadCheckpoint index
+verify_told verify_faults.BadOpening = refusals.BadOpening
+verify_told verify_faults.Memory = refusals.Memory
 
 -- of a guest's file
 abbrev pub elf_told : ℕ → ElfFault → Refusal

@@ -36,7 +36,7 @@ pub(crate) fn print_trial<O: Write, E: Write>(
     err: &mut E,
 ) -> Result<(), Refusal> {
     let mut out = BufWriter::new(alloc, out).map_err(|_| Refusal::Memory)?;
-    for put in &trial.replayed.output {
+    for put in trial.output.puts() {
         print_put(put, &mut out, err)?;
     }
     for entry in &trial.records {
@@ -44,11 +44,7 @@ pub(crate) fn print_trial<O: Write, E: Write>(
         writeln!(out, "{text}").map_err(|_| Refusal::OutputFailed)?;
     }
     let records = trial.records.len() as u64;
-    let text = VerifyLine::new(
-        records,
-        trial.replayed.guest.ran(),
-        trial.replayed.guest.ended(),
-    );
+    let text = VerifyLine::new(records, trial.verified.total(), trial.replayed.ended());
     writeln!(out, "{text}").map_err(|_| Refusal::OutputFailed)?;
     out.flush().map_err(|_| Refusal::OutputFailed)
 }

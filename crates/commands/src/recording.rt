@@ -41,6 +41,7 @@ fn jobs_of(
         elf: image.into_file(),
         name: Vec::from_slice(alloc, name)?,
         random,
+        every: 0,
         chooser: RoundRobin::new(quantum),
         outside: Silence,
         sink: MemSink::new(alloc),

@@ -2,11 +2,11 @@
 
 ghost use Rattle.std.specs.Prelude.{◌≡◌, ◌≢◌};
 ghost use Rattle.std.specs.IoError.{error_kind};
-ghost use Rattle.commands.specs.Told.{IsOfSink, elf_told, open_told, replay_told, session_told};
+ghost use Rattle.commands.specs.Told.{IsOfSink, elf_told, open_told, read_told, session_told, verify_told};
 
 use elf_load::fault::ElfFault;
 use recover::OpenFault;
-use replayer::ReplayFault;
+use replayer::{ReadGuestFault, VerifyFault};
 use session::SessionFault;
 use std::io;
 use std::io::ErrorKind;
@@ -42,6 +42,9 @@ pub enum Refusal {
     /// A record doesn't follow from those before it.
     #[error("record {index} does not replay")]
     Mismatch { index: usize },
+    /// The parts of which this record is the last don't describe the state there.
+    #[error("checkpoint {index} is wrong")]
+    BadCheckpoint { index: usize },
     /// The first record is no opening of a guest.
     #[error("bad opening")]
     BadOpening,
@@ -69,16 +72,27 @@ impl From<SessionFault> for Refusal {
     }
 }
 
-impl From<ReplayFault> for Refusal {
-    ghost from_gives = { λ fault e. e ≡ replay_told fault };
+impl From<ReadGuestFault> for Refusal {
+    ghost from_gives = { λ fault e. e ≡ read_told fault };
 
-    fn from(fault: ReplayFault) -> Self {
+    fn from(fault: ReadGuestFault) -> Self {
         match fault {
-            ReplayFault::DeviceFailed => Refusal::DeviceFailed,
-            ReplayFault::Unreadable { index } => Refusal::Unreadable { index },
-            ReplayFault::Mismatch { index } => Refusal::Mismatch { index },
-            ReplayFault::BadOpening => Refusal::BadOpening,
-            ReplayFault::Memory => Refusal::Memory,
+            ReadGuestFault::DeviceFailed => Refusal::DeviceFailed,
+            ReadGuestFault::Unreadable { index } => Refusal::Unreadable { index },
+            ReadGuestFault::Memory => Refusal::Memory,
+        }
+    }
+}
+
+impl From<VerifyFault> for Refusal {
+    ghost from_gives = { λ fault e. e ≡ verify_told fault };
+
+    fn from(fault: VerifyFault) -> Self {
+        match fault {
+            VerifyFault::Mismatch { index } => Refusal::Mismatch { index },
+            VerifyFault::BadCheckpoint { index } => Refusal::BadCheckpoint { index },
+            VerifyFault::BadOpening => Refusal::BadOpening,
+            VerifyFault::Memory => Refusal::Memory,
         }
     }
 }

@@ -1,31 +1,39 @@
-//! A trial of a program: it is recorded to a disk in memory, and what the disk holds is opened again and replayed.
+//! A trial of a program: it is recorded to a disk in memory, and what the disk holds is opened again, verified and
+//! replayed.
 
-ghost use Rattle.std.specs.Prelude.{◌≡◌, IsSome, IfOk, IfErr, length};
+ghost use Rattle.std.specs.Prelude.{◌≡◌, [], IsSome, IfOk, IfErr, flat_map};
 ghost use Rattle.rrv_model.specs.Opening.{IsName};
 ghost use Rattle.rrv_model.specs.Recording.{IsRecording, EndsIn, items_of};
 ghost use Rattle.guest_calls.specs.Guest.{state_of};
 ghost use Rattle.serial_sched.specs.Slices.{IsQuantum};
+ghost use Rattle.recorder.specs.Owed.{bytes_of};
 ghost use Rattle.recorder.specs.Recorded.{IsFirst, opening_of};
-ghost use Rattle.replayer.specs.Replayed.{OutputOf, chunks_in};
+ghost use Rattle.replayer.specs.Puts.{PutsAll};
+ghost use Rattle.replayer.specs.Verified.{Keeps};
 ghost use Rattle.commands.specs.Tried.{RefusesTrial, report_of};
 
 use crate::recording::record_image;
 use crate::refusal::Refusal;
 use elf_load::image::Image;
+use guest_calls::Guest;
+use recorder::MemSink;
 use recover::open;
-use replayer::{Replayed, read_guest, replay};
+use replayer::{Verified, read_guest, verify};
 use rrv_model::record::Record;
 use session::GuestReport;
 use std::alloc::Global;
 use std::sync::Wait;
 use std::thread::Threads;
 
-/// What is reported of a recorded guest, the records that its store was found to hold, and the guest as they replay it.
+/// What is reported of a recorded guest, the records that its store was found to hold, verified, and the guest behind the
+/// last of them, with the output, as they replay it.
 #[derive(Drop)]
 pub struct Trial {
     pub recorded: GuestReport,
     pub records: Vec<Record>,
-    pub replayed: Replayed,
+    pub verified: Verified,
+    pub replayed: Guest,
+    pub output: MemSink,
 }
 
 /// Records a program as guest 0 to a disk in memory, opens the disk again, and replays what it holds.
@@ -41,12 +49,13 @@ pub fn try_image<R: Threads + Wait + Sync>(
     requires quantum { IsQuantum quantum }
     ensures program { IfOk result (λ trial. IsFirst (opening_of 0 image name.now random) trial.records.items) }
     ensures recording { IfOk result (λ trial. IsRecording trial.records.items) }
-    ensures ends { IfOk result (λ trial. EndsIn (items_of trial.records.items) (state_of trial.replayed.guest)) }
+    ensures verified { IfOk result (λ trial. Keeps trial.verified trial.records.items) }
+    ensures ends { IfOk result (λ trial. EndsIn (items_of trial.records.items) (state_of trial.replayed)) }
     ensures output { IfOk result (λ trial.
-        OutputOf (items_of trial.records.items) (chunks_in trial.replayed.output.items)) }
+        PutsAll trial.verified.opening trial.verified.frames [] (flat_map bytes_of trial.output.puts.items)) }
     ensures ended { IfOk result (λ trial. IsSome trial.recorded.end) }
     ensures same { IfOk result (λ trial.
-        trial.recorded ≡ report_of trial.records.items (state_of trial.replayed.guest)) }
+        trial.recorded ≡ report_of trial.records.items (state_of trial.replayed)) }
     ensures refused { IfErr result (λ e. RefusesTrial e (opening_of 0 image name.now random)) }
 {
     let (disk, recorded) = record_image(rt, alloc, image, name, random, quantum)?;
@@ -58,10 +67,19 @@ pub fn try_image<R: Threads + Wait + Sync>(
     let records = read_guest(alloc, &lists, &mut disk, 0)?;
     drop(lists);
     drop(disk);
-    let replayed = replay(alloc, &records)?;
+    let verified = verify(alloc, &records)?;
+    let Ok(replayed) = verified.state_at(alloc, verified.total()) else {
+        return Err(Refusal::Memory);
+    };
+    let mut output = MemSink::new(alloc);
+    let Ok(()) = verified.output(alloc, rt, &mut output) else {
+        return Err(Refusal::Memory);
+    };
     Ok(Trial {
         recorded,
         records,
+        verified,
         replayed,
+        output,
     })
 }

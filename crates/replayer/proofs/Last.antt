@@ -11,12 +11,13 @@ use Rattle.rrv_model.specs.declared.record.Item.TheVariants as items
 use Rattle.rrv_model.specs.declared.record.Opening.{Opening}
 use Rattle.rrv_model.specs.declared.record.Part.{Part}
 use Rattle.rrv_model.specs.declared.record.Record.{Record}
-use Rattle.rrv_model.specs.Recording.{IsRecording, frames_of, items_of, row_after}
-use Rattle.rrv_model.specs.StateAt.{total}
+use Rattle.rrv_model.specs.Recording.{EndsIn, IsRecording, frames_of, items_of, row_after}
+use Rattle.rrv_model.specs.State.{State}
+use Rattle.rrv_model.specs.StateAt.{StateAt, total}
 use Rattle.replayer.specs.declared.recording.Track.{Track}
 use Rattle.replayer.specs.declared.recording.Mark.{Mark}
 use Rattle.replayer.specs.Kept.{IsKeptOf, IsTrack, last_place, marks_of, new_marks, verified_of}
-use Rattle.replayer.specs.Verified.{CheckpointsAreLastParts, HasCheckpointAt, IsLastCheckpoint, IsVerified, Keeps, RanFromLast, checkpoints_of, completed}
+use Rattle.replayer.specs.Verified.{CheckpointsAreLastParts, HasCheckpointAt, IsLastCheckpoint, IsVerified, Keeps, RanFromLast, TotalIsTheEnd, checkpoints_of, completed}
 use Rattle.replayer.proofs.Placed.{last_on}
 
 abbrev places_of : List Mark → List ℕ
@@ -248,3 +249,31 @@ checkpoints_are_last_parts its place = (there, back) where
       let at : 0 + total (frames_of h.before) ≡ place = sym (h.place_is ∙ omega arith) in
       subst (λ (is : List Item). Contains (checkpoints_of 0 is) place) (sym h.its_are)
       (subst (λ i. Contains (checkpoints_of 0 (h.before ++ items.Part h.part ∷ h.after)) i) at (any_of h.before h.part h.after h.rest 0 h.is_last))
+
+-- ---- the state at the total
+
+one_first : (x y : Item) → x ∷ [] ≡ y ∷ [] → x ≡ y
+one_first x y h = cc
+
+none_first : (x : Item) → [] ≡ x ∷ [] → ⊥
+none_first x h = cc
+
+opening_is : (p o : Opening) → items.Opening p ≡ items.Opening o → o ≡ p
+opening_is p o h = cc
+
+frame_opening : (f : Frame) (o : Opening) → items.Frame f ≡ items.Opening o → ⊥
+frame_opening f o h = cc
+
+part_opening : (p : Part) (o : Opening) → items.Part p ≡ items.Opening o → ⊥
+part_opening p o h = cc
+
+ends_of : (its : List Item) (o : Opening) (frames : List Frame) (s : State) → take 1 its ≡ items.Opening o ∷ [] → frames ≡ frames_of its → StateAt o frames (total frames) s → EndsIn its s
+ends_of [] o frames s first are at = absurd (none_first (items.Opening o) first)
+ends_of (items.Opening p ∷ its) o frames s first are at =
+    let same : o ≡ p = opening_is p o (one_first (items.Opening p) (items.Opening o) first) in
+    subst (λ (fs : List Frame). StateAt p fs (total fs) s) are (subst (λ (q : Opening). StateAt q frames (total frames) s) same at)
+ends_of (items.Frame f ∷ its) o frames s first are at = absurd (frame_opening f o (one_first (items.Frame f) (items.Opening o) first))
+ends_of (items.Part p ∷ its) o frames s first are at = absurd (part_opening p o (one_first (items.Part p) (items.Opening o) first))
+
+pub total_is_the_end : TotalIsTheEnd
+total_is_the_end verified records s keeps at = ends_of (items_of records) verified.opening verified.frames s keeps.opening keeps.frames at

@@ -1,5 +1,4 @@
 pub mod Steps
-pub mod ReplayRefusals
 pub mod Walked
 pub mod Kept
 pub mod Described

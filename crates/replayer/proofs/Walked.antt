@@ -1,9 +1,8 @@
 -- How a replay goes from record to record.
 use Rattle.std.proofs.Common.{◌≡◌, ℕ, suc, ◌+◌, ◌<◌, ◌≤◌, List, [], ◌∷◌, ◌++◌, length, take, get_or, refl, sym, ◌∙◌, ap, subst, arith, Some, None, zero}
-use Rattle.std.specs.Prelude.{All, slice_get}
+use Rattle.std.specs.Prelude.{slice_get}
 use Rattle.std.proofs.Math.Seq.{take-suc}
 use Rattle.std.proofs.lemmas.List.{length-take-le, take_all}
-use Rattle.std.proofs.lemmas.List.Elements.{All-push}
 use Rattle.std.specs.Prelude.{IsSomeAnd}
 use Rattle.rrv_model.specs.declared.record.Item.{Item}
 use Rattle.rrv_model.specs.declared.record.Item.TheVariants as items
@@ -13,6 +12,7 @@ use Rattle.rrv_model.specs.declared.record.Record.{Record}
 use Rattle.rrv_model.specs.State.{State}
 use Rattle.rrv_model.specs.Opening.{Opens}
 use Rattle.rrv_model.specs.Recording.{IsNumbered, IsRecording, Starts, items_of}
+use Rattle.rrv_model.proofs.RecordingLaws.{beginnings_are_recordings}
 use Rattle.rrv_model.proofs.RunLaws.{items-append, numbered-append}
 use Rattle.replayer.specs.declared.fault.VerifyFault.{VerifyFault}
 use Rattle.replayer.specs.declared.fault.VerifyFault.TheVariants as faults
@@ -23,17 +23,6 @@ use Rattle.replayer.specs.Refusals.{EndsCheckpointAt, Fails, IsLastPart, Refuses
 
 one_more : (n : ℕ) → n + 1 ≡ suc n
 one_more n = omega arith
-
--- ---- names
-
--- one element more
-pub all_next : (P : ℕ → Type 0) (xs : List ℕ) (i : ℕ) → i < length xs → All P (take i xs) → P (get_or xs i 0) → All P (take (i + 1) xs)
-all_next P xs i below all one =
-    let next : take (i + 1) xs ≡ take (suc i) xs = ap (λ n. take n xs) (one_more i) in
-    subst (All P) (sym (next ∙ take-suc xs i 0 below)) (All-push P (take i xs) (get_or xs i 0) all one)
-
-pub all_of : (P : ℕ → Type 0) (xs : List ℕ) (n : ℕ) → length xs ≤ n → All P (take n xs) → All P xs
-all_of P xs n long all = subst (All P) (take_all n xs long) all
 
 -- ---- walks
 
@@ -168,3 +157,14 @@ refused_opening (faults.BadCheckpoint index) r o zero_is is refuses = absurd ref
 -- what opened took memory
 pub opened : (r : Record) (o : Opening) (s : State) → r.index ≡ 0 → r.item ≡ items.Opening o → Opens o.elf o.name o.random s → TakesMemory r
 opened r o s zero_is is opens = (zero_is, (o, is, (opens.is_name, λ n low some. let bad : None ≡ Some n = sym opens.accepted ∙ some in cc)))
+
+-- ---- of a recording
+
+-- a recording is refused for want of memory alone
+pub refuses_recording : (e : VerifyFault) (records : List Record) → IsRecording records → RefusesVerify e records → e ≡ faults.Memory
+refuses_recording faults.Memory records recording refuses = refl
+refuses_recording faults.BadOpening records recording refuses = absurd (refuses (beginnings_are_recordings records 0 recording))
+refuses_recording (faults.Mismatch index) records recording refuses =
+    absurd (refuses.0.stops (subst (λ n. IsRecording (take n records)) (sym (one_more index)) (beginnings_are_recordings records index recording)))
+refuses_recording (faults.BadCheckpoint index) records recording refuses =
+    absurd (refuses.0.stops (subst (λ n. IsRecording (take n records)) (sym (one_more index)) (beginnings_are_recordings records index recording)))

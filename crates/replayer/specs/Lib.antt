@@ -1,6 +1,4 @@
-pub mod Replayed
 pub mod Told
-pub mod Refused
 pub mod Refusals
 pub mod Walks
 pub mod Verified

@@ -1,12 +1,12 @@
 -- How the refusals of a store's lists are told.
 use Rattle.std.specs.Prelude.{ℕ}
 use Rattle.recover.specs.declared.fault.ReadFault.{ReadFault}
-use Rattle.recover.specs.declared.fault.ReadFault.TheVariants as read_faults
-use Rattle.replayer.specs.declared.fault.ReplayFault.{ReplayFault}
-use Rattle.replayer.specs.declared.fault.ReplayFault.TheVariants as refusals
+use Rattle.recover.specs.declared.fault.ReadFault.TheVariants as disk_faults
+use Rattle.replayer.specs.declared.fault.ReadGuestFault.{ReadGuestFault}
+use Rattle.replayer.specs.declared.fault.ReadGuestFault.TheVariants as faults
 
 -- of a guest's record
-abbrev pub read_told : ℕ → ReadFault → ReplayFault
-read_told index read_faults.DeviceFailed = refusals.DeviceFailed
-read_told index read_faults.Damaged = refusals.Unreadable index
-read_told index read_faults.Memory = refusals.Memory
+abbrev pub read_told : ℕ → ReadFault → ReadGuestFault
+read_told index disk_faults.DeviceFailed = faults.DeviceFailed
+read_told index disk_faults.Damaged = faults.Unreadable index
+read_told index disk_faults.Memory = faults.Memory

@@ -7,8 +7,9 @@ use Rattle.rrv_model.specs.declared.record.Item.{Item}
 use Rattle.rrv_model.specs.declared.record.Item.TheVariants as items
 use Rattle.rrv_model.specs.declared.record.Opening.{Opening}
 use Rattle.rrv_model.specs.declared.record.Record.{Record}
-use Rattle.rrv_model.specs.Recording.{IsRecording, frames_of, items_of}
-use Rattle.rrv_model.specs.StateAt.{total}
+use Rattle.rrv_model.specs.Recording.{EndsIn, IsRecording, frames_of, items_of}
+use Rattle.rrv_model.specs.State.{State}
+use Rattle.rrv_model.specs.StateAt.{StateAt, total}
 
 -- A verified recording: its opening, its frames, the places of its complete checkpoints, and how many records it has. The
 -- place of a checkpoint is the number of instructions before it.
@@ -53,7 +54,7 @@ pub record IsLastCheckpoint (verified : VerifiedValue) (t place : ℕ) : Type 0 
   pub low : place ≤ t
   pub last : (other : ℕ) → Contains verified.checkpoints other → other ≤ t → other ≤ place
 
--- ---- a law
+-- ---- laws
 
 -- among the items is the last part of a checkpoint, behind frames of so many instructions
 pub record HasCheckpointAt (its : List Item) (place : ℕ) : Type 0 where
@@ -69,3 +70,8 @@ pub record HasCheckpointAt (its : List Item) (place : ℕ) : Type 0 where
 abbrev pub CheckpointsAreLastParts : Type 0
 CheckpointsAreLastParts = (its : List Item) (place : ℕ) →
     Contains (checkpoints_of 0 its) place ↔ HasCheckpointAt its place
+
+-- the state at the total is the one that the records end in
+abbrev pub TotalIsTheEnd : Type 0
+TotalIsTheEnd = (verified : VerifiedValue) (records : List Record) (s : State) → Keeps verified records →
+    StateAt verified.opening verified.frames (total verified.frames) s → EndsIn (items_of records) s

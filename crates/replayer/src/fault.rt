@@ -1,8 +1,8 @@
-//! Why records were not read, not replayed or verified, or their output was not put out.
+//! Why records were not read or verified, or their output was not put out.
 
 ghost use Rattle.std.specs.Prelude.{◌≡◌};
 ghost use Rattle.replayer.specs.Told.{read_told};
-ghost use Rattle.replayer.specs.declared.fault.ReplayFault.TheVariants as refusals;
+ghost use Rattle.replayer.specs.declared.fault.ReadGuestFault.TheVariants as read_faults;
 ghost use Rattle.replayer.specs.declared.fault.OutputFault.TheVariants as output_faults;
 ghost use Rattle.replayer.specs.declared.fault.VerifyFault.TheVariants as verify_faults;
 
@@ -12,60 +12,38 @@ use rrv_model::sink::SinkError;
 use std::alloc::{AllocError, AllocFailed};
 use thiserror::Error;
 
-/// Why a guest's records were not read, or not replayed.
+/// Why a guest's records were not read.
 #[derive(Clone, Copy, Debug, PartialEq, Eq, Error)]
-pub enum ReplayFault {
+pub enum ReadGuestFault {
     /// A call of the disk failed.
     #[error("device failed")]
     DeviceFailed,
     /// The store no longer holds a record that it held.
     #[error("record {index} unreadable")]
     Unreadable { index: u32 },
-    /// A record doesn't follow from those before it.
-    #[error("record {index} does not replay")]
-    Mismatch { index: usize },
-    /// The first record is no opening of a guest.
-    #[error("bad opening")]
-    BadOpening,
     /// A growth was refused.
     #[error("out of memory")]
     Memory,
 }
 
-impl ReplayFault {
+impl ReadGuestFault {
     /// The fault of a guest's record of this index.
     pub fn of_item(index: u32, fault: ReadFault) -> Self
         ensures { result ≡ read_told index fault }
     {
         match fault {
-            ReadFault::DeviceFailed => ReplayFault::DeviceFailed,
-            ReadFault::Damaged => ReplayFault::Unreadable { index },
-            ReadFault::Memory => ReplayFault::Memory,
+            ReadFault::DeviceFailed => ReadGuestFault::DeviceFailed,
+            ReadFault::Damaged => ReadGuestFault::Unreadable { index },
+            ReadFault::Memory => ReadGuestFault::Memory,
         }
     }
 }
 
-impl From<AllocError> for ReplayFault {
-    ghost from_gives = { λ _ e. e ≡ refusals.Memory };
-
-    fn from(_: AllocError) -> Self {
-        ReplayFault::Memory
-    }
-}
-
-impl<T: Drop> From<AllocFailed<T>> for ReplayFault {
-    ghost from_gives = { λ _ e. e ≡ refusals.Memory };
+impl<T: Drop> From<AllocFailed<T>> for ReadGuestFault {
+    ghost from_gives = { λ _ e. e ≡ read_faults.Memory };
 
     fn from(_: AllocFailed<T>) -> Self {
-        ReplayFault::Memory
-    }
-}
-
-impl From<refusal::Memory> for ReplayFault {
-    ghost from_gives = { λ _ e. e ≡ refusals.Memory };
-
-    fn from(_: refusal::Memory) -> Self {
-        ReplayFault::Memory
+        ReadGuestFault::Memory
     }
 }
 

@@ -8,15 +8,15 @@ mod opened;
 mod outputs;
 mod place;
 mod position;
+mod reading;
 mod recording;
-mod replaying;
 mod track;
 mod verified;
 mod verifying;
 mod walk;
 
-pub use fault::{OutputFault, ReplayFault, VerifyFault};
+pub use fault::{OutputFault, ReadGuestFault, VerifyFault};
 pub use place::Place;
-pub use replaying::{Replayed, read_guest, replay};
+pub use reading::read_guest;
 pub use verified::Verified;
 pub use verifying::verify;

@@ -5,7 +5,7 @@ ghost use Rattle.std.specs.Prelude.{◌≡◌, false};
 use super::kit::same;
 use recorder::MemSink;
 use recover::{Lists, open};
-use replayer::{read_guest, replay};
+use replayer::{read_guest, verify};
 use rrv_model::machine::GuestEnd;
 use serial_sched::RoundRobin;
 use session::{GuestReport, Job, OpenGate, SessionFault, record_all};
@@ -33,6 +33,7 @@ where
         elf: file_of(alloc, &EXIT_FIVE)?,
         name: Vec::from_slice(alloc, b"five")?,
         random: [0; 16],
+        every: 0,
         chooser: RoundRobin::new(64),
         outside: Nothing,
         sink: MemSink::new(alloc),
@@ -55,8 +56,9 @@ fn replayed<D: Disk>(
     number: u32,
 ) -> Result<(usize, Option<GuestEnd>), Fail> {
     let records = read_guest(alloc, lists, disk, number)?;
-    let replayed = replay(alloc, &records)?;
-    Ok((records.len(), replayed.guest.ended()))
+    let verified = verify(alloc, &records)?;
+    let guest = verified.state_at(alloc, verified.total())?;
+    Ok((records.len(), guest.ended()))
 }
 
 #[test]

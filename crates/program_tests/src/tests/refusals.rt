@@ -5,7 +5,7 @@ use commands::Refusal;
 use elf_load::fault::ElfFault;
 use guest_calls::{SetPageFault, SetRestFault};
 use recover::{OpenFault, ReadFault};
-use replayer::ReplayFault;
+use replayer::{ReadGuestFault, VerifyFault};
 use serial_sched::{FollowFault, SliceFault};
 use session::SessionFault;
 use std::fmt::Display;
@@ -40,6 +40,7 @@ fn texts_of_refusals(rt: HostRuntime) -> Result<(), Fail> {
             (Refusal::NotAStore, "not a store"),
             (Refusal::Damaged { segment: 0 }, "damaged segment 0"),
             (Refusal::Mismatch { index: 1 }, "record 1 does not replay"),
+            (Refusal::BadCheckpoint { index: 7 }, "checkpoint 7 is wrong"),
             (Refusal::BadOpening, "bad opening"),
             (Refusal::NewerVersion, "newer version"),
             (Refusal::Unreadable { index: 1 }, "record 1 unreadable"),
@@ -101,22 +102,33 @@ fn refusals_of_a_store(rt: HostRuntime) -> Result<(), Fail> {
 }
 
 #[test]
-fn refusals_of_a_replay(rt: HostRuntime) -> Result<(), Fail> {
+fn refusals_of_a_read(rt: HostRuntime) -> Result<(), Fail> {
+    let faults = [
+        (ReadFault::Damaged, "record 4 unreadable"),
+        (ReadFault::DeviceFailed, "device failed"),
+        (ReadFault::Memory, "out of memory"),
+    ];
+    for (fault, want) in faults {
+        let fault = ReadGuestFault::of_item(4, fault);
+        shows(&rt, &fault, want)?;
+        shows(&rt, &Refusal::from(fault), want)?;
+    }
+    Ok(())
+}
+
+#[test]
+fn refusals_of_a_verification(rt: HostRuntime) -> Result<(), Fail> {
     let faults = [
         (
-            ReplayFault::of_item(4, ReadFault::Damaged),
-            "record 4 unreadable",
-        ),
-        (
-            ReplayFault::of_item(4, ReadFault::DeviceFailed),
-            "device failed",
-        ),
-        (ReplayFault::of_item(4, ReadFault::Memory), "out of memory"),
-        (
-            ReplayFault::Mismatch { index: 1 },
+            VerifyFault::Mismatch { index: 1 },
             "record 1 does not replay",
         ),
-        (ReplayFault::BadOpening, "bad opening"),
+        (
+            VerifyFault::BadCheckpoint { index: 7 },
+            "checkpoint 7 is wrong",
+        ),
+        (VerifyFault::BadOpening, "bad opening"),
+        (VerifyFault::Memory, "out of memory"),
     ];
     for (fault, want) in faults {
         shows(&rt, &fault, want)?;

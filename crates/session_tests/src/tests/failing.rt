@@ -18,17 +18,17 @@ const TIMES: u32 = 10;
 const CALLS: u64 = 2 + 4 * 2 * 12 + 1;
 
 /// The records of a guest are the first of its run, and each letter that left has its record.
-fn is_beginning<R: Abort + AllocGlobal>(
+fn is_beginning<R: Abort + AllocGlobal + Wait>(
     rt: &R,
     store: &mut Store,
     guest: u32,
     job: &MemJob,
 ) -> Result<(), Fail> {
     let taken = job.sink.puts();
-    let kept = store.replayed(rt.alloc(), guest)?;
-    begin_output(rt, &kept.output, guest, TIMES);
+    let kept = store.replayed(rt, guest)?;
+    begin_output(rt, kept.output.puts(), guest, TIMES);
     begin_output(rt, taken, guest, TIMES);
-    same(rt, &guest, taken.len() <= kept.output.len(), true);
+    same(rt, &guest, taken.len() <= kept.output.puts().len(), true);
     Ok(())
 }
 

@@ -1,11 +1,12 @@
 //! What a store has after a session.
 
-use guest_calls::Put;
+use recorder::MemSink;
 use recover::{Lists, open};
-use replayer::{read_guest, replay};
+use replayer::{read_guest, verify};
 use rrv_model::machine::GuestEnd;
 use rrv_model::record::Record;
 use std::alloc::Global;
+use std::sync::Wait;
 use std::test::Fail;
 use trace_disk::{Disk, MemDisk};
 
@@ -13,7 +14,7 @@ use trace_disk::{Disk, MemDisk};
 #[derive(Drop)]
 pub(super) struct Kept {
     pub(super) records: usize,
-    pub(super) output: Vec<Put>,
+    pub(super) output: MemSink,
     pub(super) end: Option<GuestEnd>,
 }
 
@@ -45,20 +46,28 @@ impl Store {
     }
 
     /// Replays a guest to the end of its records, from the first on. Where it has no records there is nothing to replay.
-    pub(super) fn replayed(&mut self, alloc: Global, guest: u32) -> Result<Kept, Fail> {
+    pub(super) fn replayed<R: AllocGlobal + Wait>(
+        &mut self,
+        rt: &R,
+        guest: u32,
+    ) -> Result<Kept, Fail> {
+        let alloc = rt.alloc();
         let records = read_guest(alloc, &self.lists, &mut self.disk, guest)?;
+        let mut output = MemSink::new(alloc);
         if records.is_empty() {
             return Ok(Kept {
                 records: 0,
-                output: Vec::new(alloc),
+                output,
                 end: None,
             });
         }
-        let replayed = replay(alloc, &records)?;
+        let verified = verify(alloc, &records)?;
+        verified.output(alloc, rt, &mut output)?;
+        let last = verified.state_at(alloc, verified.total())?;
         Ok(Kept {
             records: records.len(),
-            end: replayed.guest.ended(),
-            output: replayed.output,
+            output,
+            end: last.ended(),
         })
     }
 }

@@ -14,7 +14,7 @@ use trace_log::Log;
 
 /// A guest is reported and put out to its end, and its records are a recording of just that. Of its records the first is its
 /// opening, and the last its exit.
-fn is_whole<R: Abort + AllocGlobal>(
+fn is_whole<R: Abort + AllocGlobal + Wait>(
     rt: &R,
     store: &mut Store,
     told: &GuestReport,
@@ -27,15 +27,15 @@ fn is_whole<R: Abort + AllocGlobal>(
     same(rt, &place, (told.records, told.end), (records, exited));
     same(rt, &place, job.sink.puts().len(), times as usize);
     begin_output(rt, job.sink.puts(), place, times);
-    let kept = store.replayed(rt.alloc(), place)?;
+    let kept = store.replayed(rt, place)?;
     same(
         rt,
         &place,
         (kept.records, kept.end),
         (records as usize, exited),
     );
-    same(rt, &place, kept.output.len(), times as usize);
-    begin_output(rt, &kept.output, place, times);
+    same(rt, &place, kept.output.puts().len(), times as usize);
+    begin_output(rt, kept.output.puts(), place, times);
     Ok(())
 }
 

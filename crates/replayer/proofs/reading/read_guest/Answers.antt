@@ -3,7 +3,7 @@ use Rattle.std.proofs.lemmas.List.{take_all}
 use Rattle.rrv_model.specs.declared.record.Record.{Record}
 use Rattle.rrv_model.specs.Recovered.{of_guest}
 use Rattle.replayer.proofs.Steps.{take_next}
-use Rattle.replayer.proofs.replaying.read_guest.Goals as goal
+use Rattle.replayer.proofs.reading.read_guest.Goals as goal
 
 pub loop-index-preserved : goal.loop-index-preserved
 loop-index-preserved g c = record {
