@@ -52,7 +52,7 @@ impl Store {
         guest: u32,
     ) -> Result<Kept, Fail> {
         let alloc = rt.alloc();
-        let records = read_guest(alloc, &self.lists, &mut self.disk, guest)?;
+        let records = self.records(alloc, guest)?;
         let mut output = MemSink::new(alloc);
         if records.is_empty() {
             return Ok(Kept {
