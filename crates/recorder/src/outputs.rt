@@ -105,7 +105,8 @@ impl Outputs {
     pub fn push(&mut self, put: Put)
         requires room { 1 ≤ self.old.room }
         requires few { self.old.released + length self.old.owed < 4294967295 }
-        ensures pushed { (self.new.released ≡ self.old.released) × (self.new.owed ≡ self.old.owed ++ bytes_of put ∷ []) }
+        ensures pushed { (self.new.released ≡ self.old.released)
+            × (self.new.owed ≡ self.old.owed ++ bytes_of put ∷ []) }
         ensures room { self.new.room + 1 ≡ self.old.room }
     {
         self.waiting.push_back_reserved(put);

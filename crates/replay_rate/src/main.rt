@@ -76,7 +76,13 @@ fn run_words<R: Files + AllocGlobal>(rt: &R, words: &[String]) -> Option<Outcome
         [file, every, times, asked @ ..] => {
             let elf = fs::read(rt, file).ok()?;
             let asked = asked_of(asked);
-            run_program(rt.alloc(), &elf, every.parse().ok()?, times.parse().ok()?, asked)
+            run_program(
+                rt.alloc(),
+                &elf,
+                every.parse().ok()?,
+                times.parse().ok()?,
+                asked,
+            )
         }
         _ => {
             let elf = file_of(rt.alloc(), &COUNTDOWN).ok()?;
