@@ -70,11 +70,11 @@ fn goes_on_at_the_first_byte_not_taken(rt: HostRuntime) -> Result<(), Fail> {
         failures: 0,
     };
     let mut outputs = Outputs::new(alloc);
-    outputs.reserve()?;
+    outputs.reserve(1)?;
     outputs.push(put_of(alloc, 1, b"hello")?);
-    outputs.reserve()?;
+    outputs.reserve(1)?;
     outputs.push(put_of(alloc, 1, b"")?);
-    outputs.reserve()?;
+    outputs.reserve(1)?;
     outputs.push(put_of(alloc, 2, b"no")?);
     same(
         &rt,
