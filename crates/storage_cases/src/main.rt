@@ -14,12 +14,10 @@
 //! Bytes are words of hex digits; behind a `*` stands how often they come. A line that begins with `#` says what follows.
 #![tactic(auto)]
 
-mod bytes;
 mod changes;
 mod records;
 mod stores;
 
-use bytes::bytes_of;
 use changes::changes_of;
 use records::{beginnings_text, record_text, refusal_text};
 use std::alloc::Global;
@@ -27,6 +25,7 @@ use std::process::ExitCode;
 use std::rt::Files;
 use std::{fs, io};
 use stores::changed_stores_text;
+use test_guests::bytes::bytes_of;
 
 /// What a line about a store finds; None where it asks nothing.
 fn store_answer<R: Files + AllocGlobal>(rt: &R, asked: &str, want: &str) -> Option<String> {

@@ -1,0 +1,60 @@
+//! Goes through cases of recordings, which come as lines of text, `ASKED = WANT`. Prints each line of which something
+//! else was found, and last how many lines there were.
+//!
+//! | Asked | Finds |
+//! |---|---|
+//! | `records NAME` | the list in the file NAME.records, once verified: its records and instructions, or its refusal |
+//! | `record FILE QUANTUM ..` | the same of a list made here: slices of a file's first thread, and a `+` for a checkpoint |
+//! | `state T TOLD` | what is told of the state at T |
+//! | `MOVE N .. TOLD` | what a cursor answers to these moves from the start on, and what is told of its state then |
+//!
+//! The last two ask of the list before them. A move is `seek`, `back`, `forward` or `change`, which goes to the last
+//! change of the byte at an address. Of a state is told its `place`, its `lines`, their `digest`, or whether it took no
+//! more instructions than `within` says. A line that begins with `#` says what follows.
+#![tactic(auto)]
+
+mod lists;
+mod made;
+mod moves;
+mod session;
+mod told;
+
+use session::Session;
+use std::alloc::AllocError;
+use std::io;
+use std::process::ExitCode;
+
+/// Takes a line, and answers what was found in place of what it wants.
+fn take(rt: &HostRuntime, session: &mut Session, line: &str) -> Result<Option<String>, AllocError> {
+    let Some((asked, want)) = line.split_once(" = ") else {
+        return Ok(Some("no question".to_string(rt.alloc())?));
+    };
+    match session.answer(rt, asked) {
+        Some(found) if found.as_str() == want => Ok(None),
+        Some(found) => Ok(Some(found)),
+        None => Ok(Some("no answer".to_string(rt.alloc())?)),
+    }
+}
+
+fn main(rt: HostRuntime) -> io::Result<ExitCode> {
+    let mut session = Session::new();
+    let mut lines = 0u32;
+    let mut wrong = 0u32;
+    for line in rt.lines(rt.alloc()) {
+        let line = line?;
+        if line.is_empty() || line.starts_with('#') {
+            continue;
+        }
+        lines = lines.saturating_add(1);
+        if let Some(found) = take(&rt, &mut session, line.as_str())? {
+            wrong = wrong.saturating_add(1);
+            println!(rt; "{}\n  finds: {found}", line.as_str())?;
+        }
+    }
+    println!(rt; "{lines} lines, {wrong} wrong")?;
+    if wrong == 0 {
+        Ok(ExitCode::SUCCESS)
+    } else {
+        Ok(ExitCode::FAILURE)
+    }
+}

@@ -1,0 +1,120 @@
+//! A recording that lines ask about.
+
+use crate::lists::{joined, read_list, texts_of};
+use crate::made::record;
+use crate::moves::{Move, go, move_of};
+use crate::told::{State, told_of};
+use replayer::{Verified, verify};
+use reverse_step::Cursor;
+use rrv_model::record::Record;
+use std::alloc::Global;
+use std::fs;
+use std::rt::Files;
+
+/// The last list of records, verified; None before the first one, and where that was refused.
+#[derive(Drop)]
+pub struct Session {
+    verified: Option<Verified>,
+}
+
+/// What is told of the state at a place.
+fn tell_state(alloc: Global, verified: &Verified, words: &[&str]) -> Option<String> {
+    let (place, told) = words.split_first()?;
+    let place = place.parse().ok()?;
+    let total = verified.total();
+    if total < place {
+        return None;
+    }
+    let guest = verified.state_at(alloc, place).ok()?;
+    let mut text = String::new(alloc);
+    let state = State {
+        guest: &guest,
+        place,
+        total,
+    };
+    state.tell(alloc, told_of(told)?, &mut text).ok()?;
+    Some(text)
+}
+
+/// The move that words say, if they say one.
+fn move_in(words: &[&str]) -> Option<Move> {
+    let [kind, number] = words else {
+        return None;
+    };
+    move_of(kind, number)
+}
+
+/// What a cursor answers to moves, and what is told of the state where it then is.
+fn tell_moves(alloc: Global, verified: &Verified, words: &[&str]) -> Option<String> {
+    let mut cursor = Cursor::new(alloc, verified).ok()?;
+    let mut text = String::new(alloc);
+    let mut told = None;
+    for pair in words.chunks(2) {
+        match move_in(pair) {
+            Some(step) => go(alloc, &mut cursor, step, &mut text)?,
+            None => told = told_of(pair),
+        }
+    }
+    let state = State {
+        guest: cursor.guest(),
+        place: cursor.place(),
+        total: verified.total(),
+    };
+    state.tell(alloc, told?, &mut text).ok()?;
+    Some(text)
+}
+
+/// The texts of the records of a file.
+fn texts_in<R: Files + AllocGlobal>(rt: &R, name: &str) -> Option<Vec<Vec<u8>>> {
+    let alloc = rt.alloc();
+    let path = format!(in alloc; "{name}.records").ok()?;
+    let lines = fs::read_to_string(rt, path.as_str()).ok()?;
+    texts_of(alloc, lines.as_str())
+}
+
+/// The records of the file that words name.
+fn list_in<R: Files + AllocGlobal>(rt: &R, words: &[&str]) -> Option<Vec<Record>> {
+    let alloc = rt.alloc();
+    let bytes = joined(alloc, &texts_in(rt, words.first()?)?).ok()?;
+    read_list(alloc, &bytes).ok()
+}
+
+/// Records a guest of the file that words name.
+fn record_file<R: Files + AllocGlobal>(rt: &R, words: &[&str]) -> Option<Vec<Record>> {
+    let (path, choices) = words.split_first()?;
+    let elf = fs::read(rt, *path).ok()?;
+    record(rt.alloc(), &elf, choices)
+}
+
+impl Session {
+    pub fn new() -> Session {
+        Session { verified: None }
+    }
+
+    /// What is found where a line asks this; None where it asks nothing, or no memory is left.
+    pub fn answer<R: Files + AllocGlobal>(&mut self, rt: &R, asked: &str) -> Option<String> {
+        let alloc = rt.alloc();
+        let words: Vec<&str> = asked.split_whitespace().collect(alloc).ok()?;
+        let (kind, rest) = words.split_first()?;
+        match *kind {
+            "records" => self.take(alloc, &list_in(rt, rest)?),
+            "record" => self.take(alloc, &record_file(rt, rest)?),
+            "state" => tell_state(alloc, self.verified.as_ref()?, rest),
+            _ => tell_moves(alloc, self.verified.as_ref()?, &words),
+        }
+    }
+
+    /// Verifies a list, and keeps it.
+    fn take(&mut self, alloc: Global, records: &[Record]) -> Option<String> {
+        self.verified = None;
+        match verify(alloc, records) {
+            Ok(verified) => {
+                let count = verified.len();
+                let total = verified.total();
+                self.verified = Some(verified);
+                format!(in alloc; "{count} records, {total} instructions").ok()
+            }
+            Err(fault) => format!(in alloc; "{fault}").ok(),
+        }
+    }
+}
