@@ -1,5 +1,5 @@
 -- The pages on which two memories differ.
-use Rattle.std.proofs.Common.{◌≡◌, ◌≢◌, ◌⊎◌, ℕ, zero, suc, ◌+◌, ◌*◌, ◌/◌, ◌%◌, ◌<◌, List, [], ◌∷◌, ◌++◌, length, Option, Some, None, Result, Ok, Err, OnErr, IfSome, is_some, ap, ◌∙◌, sym, subst, arith, slice_index, Contains, inl, inr, length-append}
+use Rattle.std.proofs.Common.{◌≡◌, ◌≢◌, ◌⊎◌, ℕ, zero, suc, ◌+◌, ◌*◌, ◌/◌, ◌%◌, ◌<◌, ◌≤◌, List, [], ◌∷◌, ◌++◌, length, Option, Some, None, IfSome, is_some, false, ap, ◌∙◌, sym, subst, arith, slice_index, Contains, inl, inr, length-append}
 use Rattle.std.proofs.lemmas.Bool.{false≢true, cases_lt}
 use Rattle.std.proofs.lemmas.Bool.Decides.{eqb_tells}
 use Rattle.std.proofs.lemmas.List.{get_or_append_left}
@@ -8,18 +8,13 @@ use Rattle.std.proofs.Math.Seq.{get_or-append_seam}
 use Rattle.std.proofs.lemmas.Grind.{same_number_lists}
 use Rattle.std.specs.Option.{option_map}
 use Rattle.std.specs.List.Sorted.{IsStrictlyIncreasing}
-use Rattle.rrv_model.specs.Memory.{byte_or_zero}
+use Rattle.rrv_model.specs.Memory.{byte_or_zero, is_mapped}
 use Rattle.guest_pages.specs.declared.page.Page.{Page}
 use Rattle.guest_pages.specs.Space.{page_at, memory_in, cell_in, IsPage, ArePages}
 use Rattle.guest_pages.specs.Mapping.{SamePage, SameAt, ListsOthers}
 use Rattle.guest_pages.specs.Snapshots.{SameOn, DifferOn, AreChanges}
-use Rattle.guest_pages.proofs.Facts.{none_high}
+use Rattle.guest_pages.proofs.Facts.{none_high, is_mapped_in}
 use Rattle.guest_pages.proofs.SameMemory.{in_page, same_cell, permissions_or}
-
--- what holds anyway holds where there is an error
-pub on_err : {T E P : Type 0} (r : Result T E) → P → OnErr r P
-on_err (Ok x) p = tt
-on_err (Err e) p = p
 
 -- ---- a list of the numbers that don't have a property
 
@@ -41,6 +36,29 @@ one_passes P n xs h here = record {
     | inr w ↦ h.pass q (omega (arith, w.1)) out
   ];
 }
+
+-- so do some numbers that have it
+pub more_pass : (P : ℕ → Type 0) (n m : ℕ) (xs : List ℕ) → ListsOthers P n xs → n ≤ m → ((q : ℕ) → n ≤ q → q < m → P q) → ListsOthers P m xs
+more_pass P n m xs h on pass = record {
+  rising = h.rising;
+  below = λ q c. omega (arith, on, h.below q c);
+  fail = h.fail;
+  pass = λ q l out. elim (cases_lt q n) [
+    | inl w ↦ h.pass q w out
+    | inr w ↦ pass q (omega (arith, w)) l
+  ];
+}
+
+-- a page that neither has is the same
+unmapped_same : (p q : Option Page) → is_some p ≡ false → is_some q ≡ false → SamePage p q
+unmapped_same None None h i = tt
+unmapped_same None (Some q) h i = absurd (false≢true (sym i))
+unmapped_same (Some p) q h i = absurd (false≢true (sym h))
+
+pub same_unmapped : (pages others : List (ℕ × Page)) (q : ℕ) → is_mapped (memory_in pages) q ≡ false → is_mapped (memory_in others) q ≡ false →
+    SameAt pages others q
+same_unmapped pages others q h i =
+    unmapped_same (page_at pages q) (page_at others q) (sym (is_mapped_in pages q) ∙ h) (sym (is_mapped_in others q) ∙ i)
 
 only_one : (n q : ℕ) → Contains (n ∷ []) q → n ≡ q
 only_one n q (zero, l, e) = e

@@ -329,19 +329,46 @@ pub(crate) fn view_page(pages: &Pages, number: u32) -> Option<PageView<'_>>
     })
 }
 
+/// The least page from a number on that is there, else the end of all pages.
+fn next_or_end(pages: &Pages, least: u32) -> u32
+    requires { ArePages pages.now.entries }
+    ensures low { least ≤ 0x80000 → least ≤ result }
+    ensures high { result ≤ 0x80000 }
+    ensures free { (q : ℕ) → least ≤ q → q < result → is_mapped (memory_in pages.now.entries) q ≡ false }
+{
+    match next_there(pages, least) {
+        Some(number) => number,
+        None => 0x80000,
+    }
+}
+
+/// The least number from this one on at which one of two maps has a page, else the end of all pages.
+fn next_of_either(pages: &Pages, others: &Pages, least: u32) -> u32
+    requires pages { ArePages pages.now.entries }
+    requires others { ArePages others.now.entries }
+    ensures low { least ≤ 0x80000 → least ≤ result }
+    ensures high { result ≤ 0x80000 }
+    ensures same { (q : ℕ) → least ≤ q → q < result → SameAt pages.now.entries others.now.entries q }
+{
+    let here = next_or_end(pages, least);
+    let there = next_or_end(others, least);
+    here.min(there)
+}
+
 /// Whether two maps have the same pages.
 pub(crate) fn same_pages(pages: &Pages, others: &Pages) -> bool
+    requires pages { ArePages pages.now.entries }
+    requires others { ArePages others.now.entries }
     ensures all { result ≡ true → (q : ℕ) → q < 0x80000 →
         SamePage (page_at pages.now.entries q) (page_at others.now.entries q) }
     ensures one { result ≡ false → (q : ℕ)
         × (SamePage (page_at pages.now.entries q) (page_at others.now.entries q) → ⊥) }
 {
-    for number in 0..0x80000 {
-        if !same_at(pages, others, number) {
-            return false;
-        }
+    let mut number = next_of_either(pages, others, 0);
+    while number < 0x80000 && same_at(pages, others, number) {
+        number = next_of_either(pages, others, number + 1);
     }
-    true
+    number == 0x80000
 }
 
 /// The numbers of the pages at which two maps differ, rising. It takes no memory where none does.
@@ -350,17 +377,20 @@ pub(crate) fn list_changed(
     pages: &Pages,
     others: &Pages,
 ) -> Result<Vec<u32>, AllocError>
+    requires pages { ArePages pages.now.entries }
+    requires others { ArePages others.now.entries }
     ensures listed { IfOk result (λ numbers.
         ListsOthers (SameAt pages.now.entries others.now.entries) 0x80000 numbers.items) }
     ensures grows { OnErr result ((q : ℕ)
         × (SamePage (page_at pages.now.entries q) (page_at others.now.entries q) → ⊥)) }
 {
     let mut numbers = Vec::new(alloc);
-    for number in 0..0x80000 {
-        if same_at(pages, others, number) {
-            continue;
+    let mut number = next_of_either(pages, others, 0);
+    while number < 0x80000 {
+        if !same_at(pages, others, number) {
+            numbers.push(number)?;
         }
-        numbers.push(number)?;
+        number = next_of_either(pages, others, number + 1);
     }
     Ok(numbers)
 }
