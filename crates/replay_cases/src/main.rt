@@ -4,18 +4,21 @@
 //! | Asked | Finds |
 //! |---|---|
 //! | `records NAME` | the list in the file NAME.records, once verified: its records and instructions, or its refusal |
-//! | `record FILE QUANTUM ..` | the same of a list made here: slices of a file's first thread, and a `+` for a checkpoint |
+//! | `record FILE QUANTUM ..` | the same of slices of a file's first thread, made here; a `+` is a checkpoint |
 //! | `state T TOLD` | what is told of the state at T |
-//! | `MOVE N .. TOLD` | what a cursor answers to these moves from the start on, and what is told of its state then |
+//! | `MOVE N .. TOLD` | what a cursor answers to moves from the start on, and what is told of where it then is |
+//! | `mutate NAME OTHER N SEED` | how many pass of so many lists, changed or mixed with others |
+//! | `met N OUTCOME` | whether so many of these came to that |
 //!
-//! The last two ask of the list before them. A move is `seek`, `back`, `forward` or `change`, which goes to the last
-//! change of the byte at an address. Of a state is told its `place`, its `lines`, their `digest`, or whether it took no
-//! more instructions than `within` says. A line that begins with `#` says what follows.
+//! `state` and moves ask of the list before them. A move is `seek`, `back`, `forward` or `change`, which goes to the
+//! last change of the byte at an address. Of a state is told its `place`, its `lines`, their `digest`, or whether it
+//! took no more instructions than `within` says. A line that begins with `#` says what follows.
 #![tactic(auto)]
 
 mod lists;
 mod made;
 mod moves;
+mod mutants;
 mod session;
 mod told;
 
@@ -37,7 +40,7 @@ fn take(rt: &HostRuntime, session: &mut Session, line: &str) -> Result<Option<St
 }
 
 fn main(rt: HostRuntime) -> io::Result<ExitCode> {
-    let mut session = Session::new();
+    let mut session = Session::new(rt.alloc());
     let mut lines = 0u32;
     let mut wrong = 0u32;
     for line in rt.lines(rt.alloc()) {

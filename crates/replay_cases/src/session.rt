@@ -3,6 +3,7 @@
 use crate::lists::{joined, read_list, texts_of};
 use crate::made::record;
 use crate::moves::{Move, go, move_of};
+use crate::mutants::{Outcome, Random, count_of, mutate, outcome_named};
 use crate::told::{State, told_of};
 use replayer::{Verified, verify};
 use reverse_step::Cursor;
@@ -11,10 +12,13 @@ use std::alloc::Global;
 use std::fs;
 use std::rt::Files;
 
-/// The last list of records, verified; None before the first one, and where that was refused.
+/// What lines ask about.
 #[derive(Drop)]
 pub struct Session {
+    /// The last list of records; None before the first one, and where that was refused.
     verified: Option<Verified>,
+    /// What became of the last lists that were changed.
+    outcomes: Vec<Outcome>,
 }
 
 /// What is told of the state at a place.
@@ -79,6 +83,26 @@ fn list_in<R: Files + AllocGlobal>(rt: &R, words: &[&str]) -> Option<Vec<Record>
     read_list(alloc, &bytes).ok()
 }
 
+/// What becomes of lists that are changed: of so many, by the numbers of a seed.
+fn mutate_list<R: Files + AllocGlobal>(rt: &R, words: &[&str]) -> Option<Vec<Outcome>> {
+    let [name, other, count, seed] = words else {
+        return None;
+    };
+    let texts = texts_in(rt, name)?;
+    let others = texts_in(rt, other)?;
+    let mut random = Random {
+        state: seed.parse().ok()?,
+    };
+    mutate(
+        rt.alloc(),
+        &texts,
+        &others,
+        count.parse().ok()?,
+        &mut random,
+    )
+    .ok()
+}
+
 /// Records a guest of the file that words name.
 fn record_file<R: Files + AllocGlobal>(rt: &R, words: &[&str]) -> Option<Vec<Record>> {
     let (path, choices) = words.split_first()?;
@@ -87,8 +111,11 @@ fn record_file<R: Files + AllocGlobal>(rt: &R, words: &[&str]) -> Option<Vec<Rec
 }
 
 impl Session {
-    pub fn new() -> Session {
-        Session { verified: None }
+    pub fn new(alloc: Global) -> Session {
+        Session {
+            verified: None,
+            outcomes: Vec::new(alloc),
+        }
     }
 
     /// What is found where a line asks this; None where it asks nothing, or no memory is left.
@@ -99,6 +126,8 @@ impl Session {
         match *kind {
             "records" => self.take(alloc, &list_in(rt, rest)?),
             "record" => self.take(alloc, &record_file(rt, rest)?),
+            "mutate" => self.keep_outcomes(alloc, mutate_list(rt, rest)?),
+            "met" => self.has_met(alloc, rest),
             "state" => tell_state(alloc, self.verified.as_ref()?, rest),
             _ => tell_moves(alloc, self.verified.as_ref()?, &words),
         }
@@ -116,5 +145,26 @@ impl Session {
             }
             Err(fault) => format!(in alloc; "{fault}").ok(),
         }
+    }
+
+    /// Keeps what became of lists, and tells how many pass.
+    fn keep_outcomes(&mut self, alloc: Global, outcomes: Vec<Outcome>) -> Option<String> {
+        let wrong = count_of(&outcomes, Outcome::Wrong);
+        let pass = outcomes.len().saturating_sub(wrong);
+        self.outcomes = outcomes;
+        format!(in alloc; "{pass} pass").ok()
+    }
+
+    /// Whether so many lists came to what has this name, else how many did.
+    fn has_met(&self, alloc: Global, words: &[&str]) -> Option<String> {
+        let [least, name] = words else {
+            return None;
+        };
+        let least: usize = least.parse().ok()?;
+        let count = count_of(&self.outcomes, outcome_named(name)?);
+        if least <= count {
+            return "yes".to_string(alloc).ok();
+        }
+        format!(in alloc; "{count}").ok()
     }
 }
