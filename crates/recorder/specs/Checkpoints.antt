@@ -56,7 +56,7 @@ KeepsBase (Some c) its guest = HasBase its guest c
 -- ---- how
 
 -- A checkpoint was made of the guest, against the memory kept before. Its parts, of which there may be so many, are
--- behind the items and put nothing out, and the guest's memory is kept instead.
+-- behind the items and put nothing out, and the guest's memory is kept instead of the one before.
 pub record MakesCheckpoint (old new : Checkpoints) (guest guest' : GuestValue) (its its' : List Item)
     (owed owed' : Owed) (most : ℕ) : Type 0 where
   pub parts : List Part
@@ -69,4 +69,5 @@ pub record MakesCheckpoint (old new : Checkpoints) (guest guest' : GuestValue) (
   pub owed_is : owed'.owed ≡ owed.owed ++ replicate (length parts) []
   pub every : new.every ≡ old.every
   pub kept : guest_snapshots guest' new.base ≡ Some (state_of guest).memory
+  pub gone : guest_snapshots guest' old.base ≡ None
   pub last : new.last ≡ guest.ran

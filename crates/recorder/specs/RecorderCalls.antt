@@ -136,6 +136,8 @@ pub record IsUnmoved {O : Type 0} (old new : GuestRecorder) (before after : O) :
   pub backlog : new.backlog ≡ old.backlog
   pub owed : (new.owed.released ≡ old.owed.released) × (new.owed.owed ≡ old.owed.owed)
   pub state : state_of new.guest ≡ state_of old.guest
+  pub ran : new.guest.ran ≡ old.guest.ran
+  pub put : new.guest.put ≡ old.guest.put
   pub checkpoints : KeepsCheckpoints old new
   pub environment : after ≡ before
 

@@ -5,6 +5,9 @@ use Rattle.rrv_model.specs.declared.record.End.TheVariants.{Preempt, Call, Fault
 use Rattle.rrv_model.specs.declared.record.Frame.{Frame}
 use Rattle.rrv_model.specs.declared.record.Opening.{Opening}
 use Rattle.rrv_model.specs.State.{State}
+use Rattle.replayer.specs.declared.fault.OutputFault.{OutputFault}
+use Rattle.replayer.specs.declared.fault.OutputFault.TheVariants as faults
+use Rattle.rrv_model.specs.Failures.{HasFailed}
 use Rattle.rrv_model.specs.Output.{Chunk, Output, PutFrom, spread}
 
 -- all that the frames put out was taken
@@ -19,6 +22,11 @@ pub record PutsBeginning (o : Opening) (frames : List Frame) (before after : Lis
   pub is_output : Output o frames chunks
   pub count : ℕ
   pub took : after ≡ before ++ take count (spread chunks)
+
+-- what a refusal tells of the sink's failures: there is one more where the sink refused, and else none
+abbrev pub RefusesOutput : OutputFault → ℕ → ℕ → Type 0
+RefusesOutput faults.SinkFailed old new = HasFailed old new
+RefusesOutput faults.Memory old new = new ≡ old
 
 -- just what was put out before these frames was taken
 pub record PutsSoFar (o : Opening) (frames : List Frame) (s : State) (left : List Frame)

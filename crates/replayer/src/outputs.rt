@@ -1,10 +1,10 @@
 //! The output along a track.
 
-ghost use Rattle.std.specs.Prelude.{◌≡◌, ◌↔◌, ◌++◌, ℕ, IsErrOf, OnErr, OnOk, take};
-ghost use Rattle.rrv_model.specs.Failures.{HasFailed, IsCounted};
+ghost use Rattle.std.specs.Prelude.{◌≡◌, ◌↔◌, ◌++◌, ℕ, IfErr, OnErr, OnOk, take};
+ghost use Rattle.rrv_model.specs.Failures.{IsCounted};
 ghost use Rattle.rrv_model.specs.Output.{spread, to_descriptor};
 ghost use Rattle.guest_calls.specs.Guest.{chunks_of};
-ghost use Rattle.replayer.specs.Puts.{PutsAll, PutsBeginning, chunks_by};
+ghost use Rattle.replayer.specs.Puts.{PutsAll, PutsBeginning, RefusesOutput, chunks_by};
 ghost use Rattle.replayer.specs.Kept.{AreKept};
 
 use crate::fault::OutputFault;
@@ -73,7 +73,8 @@ impl Track {
             → PutsAll self.now.opening self.now.frames (S.taken sink.old) (S.taken sink.new)) }
         ensures part { OnErr result (S.tells sink.old
             → PutsBeginning self.now.opening self.now.frames (S.taken sink.old) (S.taken sink.new)) }
-        ensures failed { IsErrOf result OutputFault.SinkFailed → HasFailed (S.faults sink.old) (S.faults sink.new) }
+        ensures steady { OnOk result (S.faults sink.new ≡ S.faults sink.old) }
+        ensures refused { IfErr result (λ e. RefusesOutput e (S.faults sink.old) (S.faults sink.new)) }
         ensures tells { S.tells sink.new ↔ S.tells sink.old }
     {
         let mut guest = self.start(alloc)?.into_guest();

@@ -1,10 +1,9 @@
 //! A verified recording, its state at each count of instructions, and its output.
 
-ghost use Rattle.std.specs.Prelude.{◌≡◌, ◌↔◌, ◌≤◌, IfOk, IsErrOf, OnErr, OnOk};
-ghost use Rattle.rrv_model.specs.Failures.{HasFailed};
+ghost use Rattle.std.specs.Prelude.{◌≡◌, ◌↔◌, ◌≤◌, IfErr, IfOk, OnErr, OnOk};
 ghost use Rattle.rrv_model.specs.StateAt.{StateAt, total};
 ghost use Rattle.guest_calls.specs.Guest.{state_of};
-ghost use Rattle.replayer.specs.Puts.{PutsAll, PutsBeginning};
+ghost use Rattle.replayer.specs.Puts.{PutsAll, PutsBeginning, RefusesOutput};
 ghost use Rattle.replayer.specs.Verified.{IsLastCheckpoint, IsVerified, RanFromLast};
 
 use crate::fault::OutputFault;
@@ -94,7 +93,8 @@ impl Verified {
             → PutsAll self.now.opening self.now.frames (S.taken sink.old) (S.taken sink.new)) }
         ensures part { OnErr result (S.tells sink.old
             → PutsBeginning self.now.opening self.now.frames (S.taken sink.old) (S.taken sink.new)) }
-        ensures failed { IsErrOf result OutputFault.SinkFailed → HasFailed (S.faults sink.old) (S.faults sink.new) }
+        ensures steady { OnOk result (S.faults sink.new ≡ S.faults sink.old) }
+        ensures refused { IfErr result (λ e. RefusesOutput e (S.faults sink.old) (S.faults sink.new)) }
         ensures tells { S.tells sink.new ↔ S.tells sink.old }
     {
         self.track.output(alloc, rt, sink)

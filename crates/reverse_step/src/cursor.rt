@@ -122,6 +122,7 @@ impl<'a> Cursor<'a> {
         ensures change { IfOk result (IsLastChange self.old.verified.opening self.old.verified.frames address
             self.old.place) }
         ensures at { IfOk result (λ found. IfSome found (λ t. self.new.place ≡ t)) }
+        ensures ran { IfOk result (λ found. IfSome found (λ t. RanFromLast self.new.verified t self.new.guest.ran)) }
         ensures stays { IfOk result (λ found. IfNone found (self.new ≡ self.old)) }
         ensures refused { OnErr result (self.new ≡ self.old) }
     {
