@@ -3,9 +3,13 @@
 
 mod disk;
 mod fail_once;
+mod file_disk;
 mod history;
 mod mem_disk;
+#[cfg(test)]
+mod tests;
 
 pub use disk::{Disk, DiskFailed, cut_through, write_through};
 pub use fail_once::FailOnce;
+pub use file_disk::{CannotOpen, FileDisk};
 pub use mem_disk::MemDisk;

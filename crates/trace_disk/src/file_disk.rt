@@ -1,0 +1,237 @@
+//! A disk in a file of the host.
+
+ghost use Rattle.std.specs.Prelude.{◌≡◌, ◌≤◌, ◌+◌, max, length, IfOk, OnOk, OnErr, IsTrue, true, false};
+ghost use Rattle.rrv_model.specs.Failures.{one_more, IsCounted};
+ghost use Rattle.trace_disk.specs.FileDisk.{opened_file, IsFileCall};
+
+use crate::{Disk, DiskFailed};
+use std::fs::{File, OpenOptions};
+use std::marker::Model;
+use std::os::fd::AsRawFd;
+use std::os::unix::fs::FileExt;
+use std::path::Path;
+use std::rt::Files;
+use std::{fs, io};
+use thiserror::Error;
+
+// The greatest length of a file in bytes.
+const MAX_LEN: u64 = (1 << 63) - 1;
+
+/// A file can't be made, or can't be opened, as a disk.
+#[derive(Clone, Copy, Debug, PartialEq, Eq, Error)]
+#[error("cannot open store")]
+pub struct CannotOpen;
+
+impl From<io::Error> for CannotOpen {
+    fn from(_: io::Error) -> Self {
+        CannotOpen
+    }
+}
+
+/// A disk in a file of the host, open for reading and writing. A lock keeps it from any other `FileDisk`, until it is let go.
+///
+/// Its length and its failures are promised. That its file is a disk as `Disk` has it is a premise: no file is `honest`.
+///
+/// A call fails, and changes nothing, where another program has given the file another length. After a sync that failed each
+/// device call fails, since the host may have dropped what was written, and may tell it once only.
+#[derive(Drop)]
+pub struct FileDisk {
+    file: File,
+    len: u64,
+    failures: u64,
+    is_broken: bool,
+}
+
+impl Model for FileDisk {
+    ghost use Rattle.trace_disk.specs.FileDisk.{HostFile};
+
+    ghost Value = { HostFile };
+
+    ghost view = { λ f. record { size = f.len; faults = f.failures; is_broken = f.is_broken } };
+}
+
+impl FileDisk {
+    /// Makes a file with no bytes, and has its name on the device. A path with anything there is refused, a link too.
+    pub fn create<R: Files<File = File>>(rt: &R, path: &str) -> Result<FileDisk, CannotOpen>
+        ensures { IfOk result (λ disk. disk ≡ opened_file 0) }
+    {
+        let folder = open_folder(rt, path)?;
+        let disk = FileDisk::locking(File::create_new(rt, path)?)?;
+        folder.sync_all()?;
+        // Another program may have written to it before the lock was taken.
+        if disk.len == 0 {
+            Ok(disk)
+        } else {
+            Err(CannotOpen)
+        }
+    }
+
+    /// Opens a file that is there, with the bytes that it has. A link leads to the file that it names.
+    ///
+    /// Refused are a folder and anything else that is no file, a file that may not be read and written, and one that is open
+    /// as a disk already, here or in another program.
+    pub fn open<R: Files<File = File>>(rt: &R, path: &str) -> Result<FileDisk, CannotOpen>
+        ensures { IfOk result (λ disk. disk ≡ opened_file disk.size) }
+    {
+        // To open a device or a pipe can do something to it, or wait.
+        if !fs::metadata(rt, path)?.is_file() {
+            return Err(CannotOpen);
+        }
+        FileDisk::locking(OpenOptions::new().read(true).write(true).open(rt, path)?)
+    }
+
+    // Takes the lock, and then the length.
+    fn locking(file: File) -> Result<FileDisk, CannotOpen>
+        ensures { IfOk result (λ disk. disk ≡ opened_file disk.size) }
+    {
+        let file = above_streams(file)?;
+        if file.try_lock().is_err() {
+            return Err(CannotOpen);
+        }
+        let metadata = file.metadata()?;
+        if !metadata.is_file() {
+            return Err(CannotOpen);
+        }
+        Ok(FileDisk {
+            file,
+            len: metadata.len(),
+            failures: 0,
+            is_broken: false,
+        })
+    }
+
+    // Whether the file may be changed: no sync has failed, and it has the length that the calls gave it.
+    fn is_whole(&self) -> bool
+        ensures { IsTrue result → self.now.is_broken ≡ false }
+    {
+        if self.is_broken {
+            return false;
+        }
+        match self.file.metadata() {
+            Ok(metadata) => metadata.len() == self.len,
+            Err(_) => false,
+        }
+    }
+
+    // Counts a failure.
+    fn failed(&mut self) -> DiskFailed
+        ensures { self.new ≡ record self.old { faults = one_more self.old.faults } }
+    {
+        self.failures = self.failures.saturating_add(1);
+        DiskFailed
+    }
+
+    // Counts a failure of a call that may be done in part, and takes the length that it left.
+    fn failed_in_part(&mut self) -> DiskFailed
+        ensures faults { self.new.faults ≡ one_more self.old.faults }
+        ensures broken { self.new.is_broken ≡ self.old.is_broken }
+    {
+        if let Ok(metadata) = self.file.metadata() {
+            self.len = metadata.len();
+        }
+        self.failed()
+    }
+}
+
+// The folder of a path, where it can be opened.
+fn open_folder<R: Files<File = File>>(rt: &R, path: &str) -> io::Result<File> {
+    let folder = match Path::new(path).parent() {
+        Some(folder) if !folder.as_str().is_empty() => folder.as_str(),
+        _ => ".",
+    };
+    if !fs::metadata(rt, folder)?.is_dir() {
+        return Err(io::ErrorKind::NotADirectory.into());
+    }
+    File::open(rt, folder)
+}
+
+// Where a standard stream was closed, a file may get its number: what is meant for the stream must not reach the file.
+fn above_streams(file: File) -> io::Result<File> {
+    if file.as_raw_fd() > 2 {
+        Ok(file)
+    } else {
+        file.try_clone()
+    }
+}
+
+impl Disk for FileDisk {
+    ghost use Rattle.trace_disk.specs.Started.{empty_disk};
+
+    ghost honest = { λ _. ⊥ };
+
+    ghost size = { λ f. f.size };
+
+    ghost faults = { λ f. f.faults };
+
+    ghost state = { λ _. empty_disk };
+
+    ghost sized = { λ f no. absurd no };
+
+    ghost reads_now = { λ f no. absurd no };
+
+    fn len(&self) -> u64 {
+        self.len
+    }
+
+    fn failures(&self) -> u64 {
+        self.failures
+    }
+
+    fn read_at(&mut self, at: u64, into: &mut [u8]) -> Result<(), DiskFailed>
+        requires { at + length into.old ≤ self.old.size }
+        ensures call { IsFileCall self.old self.new result }
+        ensures size { self.new.size ≡ self.old.size }
+        ensures broken { self.new.is_broken ≡ self.old.is_broken }
+    {
+        if self.is_broken || self.file.read_exact_at(into, at).is_err() {
+            return Err(self.failed());
+        }
+        Ok(())
+    }
+
+    fn write_at(&mut self, at: u64, bytes: &[u8]) -> Result<(), DiskFailed>
+        requires { at ≤ self.old.size }
+        ensures call { IsFileCall self.old self.new result }
+        ensures size { OnOk result (self.new.size ≡ max self.old.size (at + length bytes.now)) }
+        ensures broken { self.new.is_broken ≡ self.old.is_broken }
+    {
+        let end = at.saturating_add(bytes.len() as u64);
+        if end > MAX_LEN || !self.is_whole() {
+            return Err(self.failed());
+        }
+        if self.file.write_all_at(bytes, at).is_err() {
+            return Err(self.failed_in_part());
+        }
+        self.len = self.len.max(end);
+        Ok(())
+    }
+
+    fn cut(&mut self, len: u64) -> Result<(), DiskFailed>
+        requires { len ≤ self.old.size }
+        ensures call { IsFileCall self.old self.new result }
+        ensures size { OnOk result (self.new.size ≡ len) }
+        ensures broken { self.new.is_broken ≡ self.old.is_broken }
+    {
+        if !self.is_whole() {
+            return Err(self.failed());
+        }
+        if self.file.set_len(len).is_err() {
+            return Err(self.failed_in_part());
+        }
+        self.len = len;
+        Ok(())
+    }
+
+    fn sync(&mut self) -> Result<(), DiskFailed>
+        ensures call { IsFileCall self.old self.new result }
+        ensures size { self.new.size ≡ self.old.size }
+        ensures breaks { OnErr result (self.new.is_broken ≡ true) }
+        ensures whole { OnOk result (self.new.is_broken ≡ false) }
+    {
+        if !self.is_whole() || self.file.sync_all().is_err() {
+            self.is_broken = true;
+            return Err(self.failed());
+        }
+        Ok(())
+    }
+}
