@@ -28,12 +28,14 @@ impl From<io::Error> for CannotOpen {
     }
 }
 
-/// A disk in a file of the host, open for reading and writing. A lock keeps it from any other `FileDisk`, until it is let go.
+/// A disk in a file of the host, open for reading and writing.
 ///
 /// Its length and its failures are promised. That its file is a disk as `Disk` has it is a premise: no file is `honest`.
 ///
-/// A call fails, and changes nothing, where another program has given the file another length. After a sync that failed each
-/// device call fails, since the host may have dropped what was written, and may tell it once only.
+/// A lock keeps the file from each other `FileDisk`, in any program, until this one is let go. A program that doesn't ask for
+/// locks is not kept off: where the file has another length than the calls gave it, no call changes it, and a sync fails.
+///
+/// After a sync that failed each device call fails, since the host may have dropped what was written, and tells it once at most.
 #[derive(Drop)]
 pub struct FileDisk {
     file: File,
@@ -51,7 +53,8 @@ impl Model for FileDisk {
 }
 
 impl FileDisk {
-    /// Makes a file with no bytes, and has its name on the device. A path with anything there is refused, a link too.
+    /// Makes a file with no bytes, and has its name on the device. A path with anything there is refused, a link too. At an `Err` a
+    /// file with no bytes may be left, where a lock isn't to be had or the folder can't be synced.
     pub fn create<R: Files<File = File>>(rt: &R, path: &str) -> Result<FileDisk, CannotOpen>
         ensures { IfOk result (λ disk. disk ≡ opened_file 0) }
     {
