@@ -169,6 +169,21 @@ fn outcome_of(alloc: Global, bytes: &[u8], random: &mut Random) -> Outcome {
     }
 }
 
+/// The bytes of texts, with one change or two.
+fn changed(
+    alloc: Global,
+    texts: &[Vec<u8>],
+    others: &[Vec<u8>],
+    random: &mut Random,
+) -> Result<Vec<u8>, AllocError> {
+    let mut changed = texts.to_vec(alloc)?;
+    change(&mut changed, others, random)?;
+    if random.below(2) == 0 {
+        change(&mut changed, others, random)?;
+    }
+    joined(alloc, &changed)
+}
+
 /// What becomes of so many lists, each with one change or two.
 pub fn mutate(
     alloc: Global,
@@ -179,11 +194,7 @@ pub fn mutate(
 ) -> Result<Vec<Outcome>, AllocError> {
     let mut outcomes = Vec::new(alloc);
     for _ in 0..count {
-        let mut changed = texts.to_vec(alloc)?;
-        for _ in 0..random.below(2) + 1 {
-            change(&mut changed, others, random)?;
-        }
-        let bytes = joined(alloc, &changed)?;
+        let bytes = changed(alloc, texts, others, random)?;
         outcomes.push(outcome_of(alloc, &bytes, random))?;
     }
     Ok(outcomes)

@@ -4,6 +4,7 @@
 
 mod fault;
 mod forward;
+pub mod laws;
 mod opened;
 mod outputs;
 mod place;
