@@ -1,0 +1,13 @@
+//! What a recorded guest gets from the host: its input, its random bytes, the time, and the streams that its output goes to.
+#![tactic(auto)]
+
+mod clocks;
+mod machine;
+mod random;
+mod streams;
+#[cfg(test)]
+mod tests;
+
+pub use machine::Machine;
+pub use random::opening_random;
+pub use streams::{StreamSink, Streams};

@@ -1,0 +1,108 @@
+//! The two streams that the output of all guests goes to.
+
+ghost use Rattle.std.specs.Prelude.{◌≡◌, ◌≢◌, ◌≤◌, [], length, take, IfOk, OnErr};
+ghost use Rattle.std.specs.Io.KnownBytes.{Appends, Keeps};
+
+use rrv_model::sink::{Sink, SinkError};
+use std::io::Write;
+use std::sync::{Mutex, Wait};
+
+/// A stream for the output of guests, and one for their errors.
+#[derive(Drop)]
+pub struct Streams<O: Write + Drop, E: Write + Drop> {
+    output: O,
+    error: E,
+}
+
+impl<O: Write + Drop, E: Write + Drop> Streams<O, E> {
+    /// These two.
+    pub fn new(output: O, error: E) -> Self
+        ensures output { result.output ≡ output }
+        ensures error { result.error ≡ error }
+    {
+        Streams { output, error }
+    }
+
+    /// The two again, the output first.
+    pub fn into_parts(self) -> (O, E)
+        ensures output { result.0 ≡ self.output }
+        ensures error { result.1 ≡ self.error }
+    {
+        let Streams { output, error } = self;
+        (output, error)
+    }
+
+    /// Writes a beginning of the bytes, at least one, to the stream of a descriptor, and answers its length: 2 is the errors' one,
+    /// any other the output's. The other stream is left alone.
+    fn put(&mut self, descriptor: u32, bytes: &[u8]) -> Result<usize, SinkError>
+        requires { 1 ≤ length bytes.now }
+        ensures length { IfOk result (λ count. (1 ≤ count) × (count ≤ length bytes.now)) }
+        ensures output { descriptor ≢ 2 → (self.new.error ≡ self.old.error) × IfOk result (λ count.
+            Appends (O.contents self.old.output) (O.contents self.new.output) (take count bytes.now)) }
+        ensures error { descriptor ≡ 2 → (self.new.output ≡ self.old.output) × IfOk result (λ count.
+            Appends (E.contents self.old.error) (E.contents self.new.error) (take count bytes.now)) }
+    {
+        if descriptor == 2 {
+            write_out(&mut self.error, bytes)
+        } else {
+            write_out(&mut self.output, bytes)
+        }
+    }
+}
+
+/// Writes a beginning of the bytes, at least one, flushes, and answers its length. A refused write or flush is an error.
+fn write_out<W: Write>(writer: &mut W, bytes: &[u8]) -> Result<usize, SinkError>
+    requires { 1 ≤ length bytes.now }
+    ensures length { IfOk result (λ count. (1 ≤ count) × (count ≤ length bytes.now)) }
+    ensures appends { IfOk result (λ count.
+        Appends (W.contents writer.old) (W.contents writer.new) (take count bytes.now)) }
+{
+    let count = match writer.write(bytes) {
+        Ok(count) => count,
+        Err(_) => return Err(SinkError),
+    };
+    if count == 0 || writer.flush().is_err() {
+        return Err(SinkError);
+    }
+    Ok(count)
+}
+
+/// The sink of one guest, over streams that it shares with others: each put is made alone, under the lock.
+#[derive(Drop)]
+pub struct StreamSink<'a, O: Write + Drop, E: Write + Drop> {
+    streams: &'a Mutex<Streams<O, E>>,
+    failures: u64,
+}
+
+impl<'a, O: Write + Drop, E: Write + Drop> StreamSink<'a, O, E> {
+    /// A sink over these streams, of which no call has failed.
+    pub fn new(streams: &'a Mutex<Streams<O, E>>) -> Self
+        ensures { result.failures ≡ 0 }
+    {
+        StreamSink {
+            streams,
+            failures: 0,
+        }
+    }
+}
+
+/// A put is written and flushed when it answers. It fails where the writer refuses the write or the flush, or takes no byte.
+impl<O: Write + Drop, E: Write + Drop> Sink for StreamSink<'_, O, E> {
+    ghost tells = { λ _. ⊥ };
+
+    ghost taken = { λ _. [] };
+
+    ghost faults = { λ s. s.failures };
+
+    fn put(&mut self, rt: &impl Wait, descriptor: u32, bytes: &[u8]) -> Result<usize, SinkError> {
+        let put = self.streams.lock(rt).put(descriptor, bytes);
+        if put.is_err() {
+            self.failures = self.failures.saturating_add(1);
+        }
+        put
+    }
+
+    fn failures(&self) -> u64 {
+        self.failures
+    }
+}
