@@ -9,7 +9,9 @@ use guest_calls::Outside;
 use std::marker::Model;
 use std::time::{Clock, Instant};
 
-/// The environment of one guest: the bytes of its input, random bytes that a seed determines, and the host's clocks.
+/// The environment of one guest: the bytes of its input, random bytes that a seed determines, and the host's clocks. The real clock
+/// is at 0 where the host can't tell it, or tells a time before 1970. The monotonic clock then stays at the last moment given,
+/// which is 0 at first, and so it does where the host's goes back.
 #[derive(Drop)]
 pub struct Machine<'a, R: Clock> {
     input: &'a [u8],

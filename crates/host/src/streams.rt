@@ -1,7 +1,7 @@
 //! The two streams that the output of all guests goes to.
 
 ghost use Rattle.std.specs.Prelude.{◌≡◌, ◌≢◌, ◌≤◌, [], length, take, IfOk, OnErr};
-ghost use Rattle.std.specs.Io.KnownBytes.{Appends, Keeps};
+ghost use Rattle.host.specs.Written.{Gains};
 
 use rrv_model::sink::{Sink, SinkError};
 use std::io::Write;
@@ -37,10 +37,10 @@ impl<O: Write + Drop, E: Write + Drop> Streams<O, E> {
     fn put(&mut self, descriptor: u32, bytes: &[u8]) -> Result<usize, SinkError>
         requires { 1 ≤ length bytes.now }
         ensures length { IfOk result (λ count. (1 ≤ count) × (count ≤ length bytes.now)) }
-        ensures output { descriptor ≢ 2 → (self.new.error ≡ self.old.error) × IfOk result (λ count.
-            Appends (O.contents self.old.output) (O.contents self.new.output) (take count bytes.now)) }
-        ensures error { descriptor ≡ 2 → (self.new.output ≡ self.old.output) × IfOk result (λ count.
-            Appends (E.contents self.old.error) (E.contents self.new.error) (take count bytes.now)) }
+        ensures output { descriptor ≢ 2 → (self.new.error ≡ self.old.error)
+            × Gains (O.contents self.old.output) (O.contents self.new.output) result bytes.now }
+        ensures error { descriptor ≡ 2 → (self.new.output ≡ self.old.output)
+            × Gains (E.contents self.old.error) (E.contents self.new.error) result bytes.now }
     {
         if descriptor == 2 {
             write_out(&mut self.error, bytes)
@@ -54,8 +54,7 @@ impl<O: Write + Drop, E: Write + Drop> Streams<O, E> {
 fn write_out<W: Write>(writer: &mut W, bytes: &[u8]) -> Result<usize, SinkError>
     requires { 1 ≤ length bytes.now }
     ensures length { IfOk result (λ count. (1 ≤ count) × (count ≤ length bytes.now)) }
-    ensures appends { IfOk result (λ count.
-        Appends (W.contents writer.old) (W.contents writer.new) (take count bytes.now)) }
+    ensures gains { Gains (W.contents writer.old) (W.contents writer.new) result bytes.now }
 {
     let count = match writer.write(bytes) {
         Ok(count) => count,
@@ -86,7 +85,9 @@ impl<'a, O: Write + Drop, E: Write + Drop> StreamSink<'a, O, E> {
     }
 }
 
-/// A put is written and flushed when it answers. It fails where the writer refuses the write or the flush, or takes no byte.
+/// A put has been written and flushed when it answers how many bytes. It fails where the writer refuses the write, also an
+/// interrupted one, takes no byte, or refuses the flush. Of a put that failed at the flush a writer may hold bytes, and they leave
+/// twice where they are put again. The standard streams hold none.
 impl<O: Write + Drop, E: Write + Drop> Sink for StreamSink<'_, O, E> {
     ghost tells = { λ _. ⊥ };
 
