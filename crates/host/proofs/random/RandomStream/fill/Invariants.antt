@@ -8,4 +8,5 @@ invariant-loop-i l =
     (l.self.seed ≡ l.initial.self.seed)
     × (l.self.guest ≡ l.initial.self.guest)
     × (l.self.place ≡ (l.initial.self.place + l.i) % 2 ^ 37)
-    × ((k : ℕ) → k < l.i → slice_index l.into k ≡ byte_at l.initial.self.seed l.initial.self.guest (l.initial.self.place + k))
+    × ((k : ℕ) → k < l.i → slice_index l.into k
+    ≡ byte_at l.initial.self.seed l.initial.self.guest (l.initial.self.place + k))
