@@ -1,0 +1,79 @@
+-- The commands of the program, as the parser of the kit reads words: each with its arguments, in their order.
+use Rattle.std.specs.Prelude.{◌≡◌, ℕ, [], ◌∷◌, Some, codes, false, true}
+use Rattle.clap.specs.declared.builder.action.ArgAction.TheVariants.{Append, Set}
+use Rattle.clap.specs.declared.builder.command.Command.{Command}
+use Rattle.clap.specs.declared.builder.command.Command.TheViews.{out-Command}
+use Rattle.clap.specs.Words.{App, Rule, Shape, Text, app_of, new_app, new_rule, with_rule, with_subcommand}
+
+-- ---- arguments
+
+-- a value that has to be there
+abbrev pub needed : Text → Rule
+needed name = record (new_rule name) { required = true; action = Some Set }
+
+-- an option with a value
+abbrev pub option : Text → Rule
+option name = record (new_rule name) { long = Some name; value_names = 1; action = Some Set }
+
+-- an option with a value, which is this one where the option isn't there
+abbrev pub option_or : Text → Text → Rule
+option_or name value = record (option name) { defaults = value ∷ [] }
+
+-- values of which there are so many
+abbrev pub several : (least most : ℕ) → Text → Rule
+several least most name = record (new_rule name) {
+  required = true;
+  range = Some (record { start_inclusive = least; end_inclusive = most });
+  action = Some Append;
+}
+
+-- ---- commands
+
+abbrev pub of_store : Text → App
+of_store name = with_rule (new_app name) (needed (codes "STORE"))
+
+abbrev pub of_guest : Text → App
+of_guest name = with_rule (of_store name) (needed (codes "GUEST"))
+
+-- the options, and last the files
+abbrev pub record_options : App
+record_options = with_rule (with_rule (with_rule (with_rule (of_store (codes "record"))
+    (option_or (codes "quantum") (codes "50000")))
+    (option_or (codes "every") (codes "1048576")))
+    (option (codes "input")))
+    (option (codes "seed"))
+
+abbrev pub record_command : App
+record_command = with_rule record_options (several 1 16 (codes "ELF"))
+
+abbrev pub replay_command : App
+replay_command = with_rule (of_guest (codes "replay")) (option (codes "at"))
+
+abbrev pub back_command : App
+back_command = with_rule (with_rule (of_guest (codes "back")) (needed (codes "FROM"))) (needed (codes "N"))
+
+abbrev pub last_command : App
+last_command = with_rule (with_rule (of_guest (codes "last")) (needed (codes "FROM"))) (needed (codes "ADDR"))
+
+-- the words that follow the program's name: some command, but no `help`
+abbrev pub as_bare : Shape → Shape
+as_bare top = record top { no_binary_name = true; subcommand_required = true; disable_help_subcommand = true }
+
+abbrev pub bare_program : App
+bare_program = record (new_app (codes "rrv")) { top = as_bare (new_app (codes "rrv")).top }
+
+-- the program with its commands
+abbrev pub writing_program : App
+writing_program = with_subcommand (with_subcommand bare_program (of_store (codes "new")).top) record_command.top
+
+abbrev pub showing_program : App
+showing_program = with_subcommand (with_subcommand (with_subcommand writing_program (of_store (codes "list")).top)
+    (of_guest (codes "dump")).top) (of_guest (codes "verify")).top
+
+abbrev pub program : App
+program = with_subcommand (with_subcommand (with_subcommand showing_program replay_command.top)
+    back_command.top) last_command.top
+
+-- the parser reads words by this, and has no argument that counts for its subcommands too
+abbrev pub IsCommand : App → Command → Type 0
+IsCommand app command = (app_of command ≡ app) × ((out-Command command).has_globals ≡ false)

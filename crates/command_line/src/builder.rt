@@ -1,0 +1,112 @@
+//! Commands and their arguments, as the parser of words knows them.
+
+ghost use Rattle.std.specs.Prelude.{◌≡◌, ◌≤◌, IfOk, false};
+ghost use Rattle.clap.specs.Words.{App, new_app, rule_of, with_rule, with_subcommand};
+ghost use Rattle.command_line.specs.Commands.{IsCommand, needed, of_guest, of_store, option, option_or, several};
+
+use clap::{Arg, ArgAction, Command};
+use std::alloc::{AllocError, Global};
+
+/// A value that has to be there.
+pub(crate) fn needed<'a>(alloc: Global, name: &'a str, help: &'a str) -> Arg<'a>
+    ensures rule { rule_of result ≡ needed name.now }
+    ensures local { result.global ≡ false }
+{
+    Arg::new(alloc, name)
+        .required(true)
+        .action(ArgAction::Set)
+        .help(help)
+}
+
+/// An option with a value, which help calls by a name.
+pub(crate) fn option<'a>(alloc: Global, name: &'a str, value: &'a str, help: &'a str) -> Arg<'a>
+    ensures rule { rule_of result ≡ option name.now }
+    ensures local { result.global ≡ false }
+{
+    Arg::new(alloc, name)
+        .long(name)
+        .value_name(value)
+        .action(ArgAction::Set)
+        .help(help)
+}
+
+/// An option with a value, which is this one where the option isn't there.
+pub(crate) fn option_or<'a>(
+    alloc: Global,
+    name: &'a str,
+    value: &'a str,
+    default: &'a str,
+    help: &'a str,
+) -> Arg<'a>
+    ensures rule { rule_of result ≡ option_or name.now default.now }
+    ensures local { result.global ≡ false }
+{
+    option(alloc, name, value, help).default_value(default)
+}
+
+/// Values, one at the least and `most` at most.
+pub(crate) fn several<'a>(alloc: Global, name: &'a str, most: usize, help: &'a str) -> Arg<'a>
+    requires { 1 ≤ most }
+    ensures rule { rule_of result ≡ several 1 most name.now }
+    ensures local { result.global ≡ false }
+{
+    Arg::new(alloc, name)
+        .required(true)
+        .num_args(1..=most)
+        .action(ArgAction::Append)
+        .help(help)
+}
+
+/// A command with one argument more.
+pub(crate) fn with_argument<'a>(
+    command: Command<'a>,
+    argument: Arg<'a>,
+) -> Result<Command<'a>, AllocError>
+    requires { argument.global ≡ false }
+    ensures { (app : App) → IsCommand app command.entry
+        → IfOk result (IsCommand (with_rule app (rule_of argument.entry))) }
+{
+    command.arg(argument)
+}
+
+/// A command with one command more below it.
+pub(crate) fn with_command<'a>(
+    command: Command<'a>,
+    below: Command<'a>,
+) -> Result<Command<'a>, AllocError>
+    ensures { (app other : App) → IsCommand app command.entry → IsCommand other below.entry
+        → IfOk result (IsCommand (with_subcommand app other.top)) }
+{
+    command.subcommand(below)
+}
+
+/// A command of this name, with no arguments yet.
+fn named<'a>(alloc: Global, name: &'a str, about: &'a str) -> Command<'a>
+    ensures { IsCommand (new_app name.now) result }
+{
+    Command::new(alloc, name).about(about)
+}
+
+/// A command of a store.
+pub(crate) fn of_store<'a>(
+    alloc: Global,
+    name: &'a str,
+    about: &'a str,
+) -> Result<Command<'a>, AllocError>
+    ensures { IfOk result (IsCommand (of_store name.now)) }
+{
+    let store = needed(alloc, "STORE", "the file of the store");
+    with_argument(named(alloc, name, about), store)
+}
+
+/// A command of a guest of a store.
+pub(crate) fn of_guest<'a>(
+    alloc: Global,
+    name: &'a str,
+    about: &'a str,
+) -> Result<Command<'a>, AllocError>
+    ensures { IfOk result (IsCommand (of_guest name.now)) }
+{
+    let guest = needed(alloc, "GUEST", "the guest's number in the store");
+    with_argument(of_store(alloc, name, about)?, guest)
+}

@@ -1,0 +1,143 @@
+//! The commands of the program.
+
+ghost use Rattle.std.specs.Prelude.{◌≡◌, IfOk, true};
+ghost use Rattle.clap.specs.Words.{is_simple_and_free};
+ghost use Rattle.command_line.specs.Commands.{IsCommand, back_command, bare_program, last_command, program, record_command};
+ghost use Rattle.command_line.specs.Commands.{record_options, replay_command, showing_program, writing_program};
+
+use crate::builder::{
+    needed, of_guest, of_store, option, option_or, several, with_argument, with_command,
+};
+use clap::Command;
+use std::alloc::{AllocError, Global};
+
+/// The options of `record STORE ELF..`.
+fn record_options<'a>(alloc: Global) -> Result<Command<'a>, AllocError>
+    ensures { IfOk result (IsCommand record_options) }
+{
+    let quantum = option_or(
+        alloc,
+        "quantum",
+        "N",
+        "50000",
+        "instructions of a slice at most, 64 to 1048576",
+    );
+    let every = option_or(
+        alloc,
+        "every",
+        "N",
+        "1048576",
+        "instructions between checkpoints, 0 for none",
+    );
+    let input = option(
+        alloc,
+        "input",
+        "FILE",
+        "what each guest reads, up to 1048576 bytes",
+    );
+    let seed = option(alloc, "seed", "HEX", "the seed of random bytes, 32 digits");
+    let command = of_store(alloc, "record", "records 1 to 16 programs at once")?;
+    let command = with_argument(command, quantum)?;
+    let command = with_argument(command, every)?;
+    let command = with_argument(command, input)?;
+    with_argument(command, seed)
+}
+
+/// `record STORE ELF..`.
+fn record<'a>(alloc: Global) -> Result<Command<'a>, AllocError>
+    ensures { IfOk result (IsCommand record_command) }
+{
+    let files = several(alloc, "ELF", 16, "static RISC-V programs (ELF32, RV32IMA)");
+    with_argument(record_options(alloc)?, files)
+}
+
+/// `replay STORE GUEST`.
+fn replay<'a>(alloc: Global) -> Result<Command<'a>, AllocError>
+    ensures { IfOk result (IsCommand replay_command) }
+{
+    let at = option(
+        alloc,
+        "at",
+        "T",
+        "print the state behind T instructions instead",
+    );
+    with_argument(
+        of_guest(alloc, "replay", "puts a guest's output out again")?,
+        at,
+    )
+}
+
+/// `back STORE GUEST FROM N`.
+fn back<'a>(alloc: Global) -> Result<Command<'a>, AllocError>
+    ensures { IfOk result (IsCommand back_command) }
+{
+    let from = needed(alloc, "FROM", "the place to go back from, in instructions");
+    let count = needed(alloc, "N", "how many instructions to go back");
+    let command = of_guest(alloc, "back", "prints the state so many instructions back")?;
+    let command = with_argument(command, from)?;
+    with_argument(command, count)
+}
+
+/// `last STORE GUEST FROM ADDR`.
+fn last<'a>(alloc: Global) -> Result<Command<'a>, AllocError>
+    ensures { IfOk result (IsCommand last_command) }
+{
+    let from = needed(alloc, "FROM", "the place to go back from, in instructions");
+    let address = needed(
+        alloc,
+        "ADDR",
+        "the byte's address, 1 to 8 hexadecimal digits",
+    );
+    let command = of_guest(
+        alloc,
+        "last",
+        "prints the state before a byte's last change",
+    )?;
+    let command = with_argument(command, from)?;
+    with_argument(command, address)
+}
+
+/// The program without its commands.
+fn bare_program<'a>(alloc: Global) -> Result<Command<'a>, AllocError>
+    ensures { IfOk result (IsCommand bare_program) }
+{
+    Ok(
+        Command::new(alloc, "rrv")
+            .bin_name("rrv")?
+            .about("records RISC-V programs and replays them exactly")
+            .no_binary_name(true)
+            .subcommand_required(true)
+            .disable_help_subcommand(true),
+    )
+}
+
+/// With the commands that write a store.
+fn writing_program<'a>(alloc: Global) -> Result<Command<'a>, AllocError>
+    ensures { IfOk result (IsCommand writing_program) }
+{
+    let new = of_store(alloc, "new", "makes an empty store in a new file")?;
+    let command = with_command(bare_program(alloc)?, new)?;
+    with_command(command, record(alloc)?)
+}
+
+/// And with those that show what it holds.
+fn showing_program<'a>(alloc: Global) -> Result<Command<'a>, AllocError>
+    ensures { IfOk result (IsCommand showing_program) }
+{
+    let list = of_store(alloc, "list", "prints a line for each guest")?;
+    let dump = of_guest(alloc, "dump", "prints a line for each record of a guest")?;
+    let verify = of_guest(alloc, "verify", "replays a guest's records and compares")?;
+    let command = with_command(writing_program(alloc)?, list)?;
+    let command = with_command(command, dump)?;
+    with_command(command, verify)
+}
+
+/// The program with its commands, which the parser reads words by.
+pub fn program<'a>(alloc: Global) -> Result<Command<'a>, AllocError>
+    ensures commands { IfOk result (IsCommand program) }
+    ensures exact { is_simple_and_free program ≡ true }
+{
+    let command = with_command(showing_program(alloc)?, replay(alloc)?)?;
+    let command = with_command(command, back(alloc)?)?;
+    with_command(command, last(alloc)?)
+}
