@@ -1,6 +1,6 @@
 -- The commands of the program, as the parser of the kit reads words: each with its arguments, in their order.
-use Rattle.std.specs.Prelude.{◌≡◌, ℕ, [], ◌∷◌, Some, codes, false, true}
-use Rattle.clap.specs.declared.builder.action.ArgAction.TheVariants.{Append, Set}
+use Rattle.std.specs.Prelude.{◌≡◌, ◌⊎◌, ℕ, List, [], ◌∷◌, Some, codes, false, true}
+use Rattle.clap.specs.declared.builder.action.ArgAction.TheVariants.{Append, Set, SetTrue}
 use Rattle.clap.specs.declared.builder.command.Command.{Command}
 use Rattle.clap.specs.declared.builder.command.Command.TheViews.{out-Command}
 use Rattle.clap.specs.Words.{App, Rule, Shape, Text, app_of, new_app, new_rule, with_rule, with_subcommand}
@@ -18,6 +18,10 @@ option name = record (new_rule name) { long = Some name; value_names = 1; action
 -- an option with a value, which is this one where the option isn't there
 abbrev pub option_or : Text → Text → Rule
 option_or name value = record (option name) { defaults = value ∷ [] }
+
+-- an option without a value
+abbrev pub flag : Text → Rule
+flag name = record (new_rule name) { long = Some name; action = Some SetTrue }
 
 -- values of which there are so many
 abbrev pub several : (least most : ℕ) → Text → Rule
@@ -37,17 +41,21 @@ of_guest name = with_rule (of_store name) (needed (codes "GUEST"))
 
 -- the options, and last the files
 abbrev pub record_options : App
-record_options = with_rule (with_rule (with_rule (with_rule (of_store (codes "record"))
+record_options = with_rule (with_rule (with_rule (with_rule (with_rule (of_store (codes "record"))
     (option_or (codes "quantum") (codes "50000")))
     (option_or (codes "every") (codes "1048576")))
     (option (codes "input")))
-    (option (codes "seed"))
+    (option (codes "seed")))
+    (flag (codes "progress"))
 
 abbrev pub record_command : App
 record_command = with_rule record_options (several 1 16 (codes "ELF"))
 
+abbrev pub verify_command : App
+verify_command = with_rule (of_guest (codes "verify")) (flag (codes "progress"))
+
 abbrev pub replay_command : App
-replay_command = with_rule (of_guest (codes "replay")) (option (codes "at"))
+replay_command = with_rule (with_rule (of_guest (codes "replay")) (option (codes "at"))) (flag (codes "progress"))
 
 abbrev pub back_command : App
 back_command = with_rule (with_rule (of_guest (codes "back")) (needed (codes "FROM"))) (needed (codes "N"))
@@ -55,9 +63,14 @@ back_command = with_rule (with_rule (of_guest (codes "back")) (needed (codes "FR
 abbrev pub last_command : App
 last_command = with_rule (with_rule (of_guest (codes "last")) (needed (codes "FROM"))) (needed (codes "ADDR"))
 
--- the words that follow the program's name: some command, but no `help`
+-- the words that follow the program's name: some command, but no `help`; there is a version
 abbrev pub as_bare : Shape → Shape
-as_bare top = record top { no_binary_name = true; subcommand_required = true; disable_help_subcommand = true }
+as_bare top = record top {
+  has_version = true;
+  no_binary_name = true;
+  subcommand_required = true;
+  disable_help_subcommand = true;
+}
 
 abbrev pub bare_program : App
 bare_program = record (new_app (codes "rrv")) { top = as_bare (new_app (codes "rrv")).top }
@@ -68,7 +81,7 @@ writing_program = with_subcommand (with_subcommand bare_program (of_store (codes
 
 abbrev pub showing_program : App
 showing_program = with_subcommand (with_subcommand (with_subcommand writing_program (of_store (codes "list")).top)
-    (of_guest (codes "dump")).top) (of_guest (codes "verify")).top
+    (of_guest (codes "dump")).top) verify_command.top
 
 abbrev pub program : App
 program = with_subcommand (with_subcommand (with_subcommand showing_program replay_command.top)
@@ -77,3 +90,14 @@ program = with_subcommand (with_subcommand (with_subcommand showing_program repl
 -- the parser reads words by this, and has no argument that counts for its subcommands too
 abbrev pub IsCommand : App → Command → Type 0
 IsCommand app command = (app_of command ≡ app) × ((out-Command command).has_globals ≡ false)
+
+-- ---- names
+
+-- the name is that of one of these
+abbrev pub IsNameOf : Text → List Shape → Type 0
+IsNameOf name [] = ⊥
+IsNameOf name (sub ∷ subs) = (name ≡ sub.name) ⊎ IsNameOf name subs
+
+-- the name is that of a command of the program
+abbrev pub IsCommandName : Text → Type 0
+IsCommandName name = IsNameOf name program.subs

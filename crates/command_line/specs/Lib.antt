@@ -1,1 +1,4 @@
 pub mod Commands
+pub mod Lines
+pub mod Request
+pub mod Unread

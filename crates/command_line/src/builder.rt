@@ -1,8 +1,8 @@
 //! Commands and their arguments, as the parser of words knows them.
 
 ghost use Rattle.std.specs.Prelude.{◌≡◌, ◌≤◌, IfOk, false};
-ghost use Rattle.clap.specs.Words.{App, new_app, rule_of, with_rule, with_subcommand};
-ghost use Rattle.command_line.specs.Commands.{IsCommand, needed, of_guest, of_store, option, option_or, several};
+ghost use Rattle.clap.specs.Words.{App, Rule, new_app, rule_of, with_rule, with_subcommand};
+ghost use Rattle.command_line.specs.Commands.{IsCommand, flag, needed, of_guest, of_store, option, option_or, several};
 
 use clap::{Arg, ArgAction, Command};
 use std::alloc::{AllocError, Global};
@@ -44,6 +44,17 @@ pub(crate) fn option_or<'a>(
     option(alloc, name, value, help).default_value(default)
 }
 
+/// An option without a value.
+pub(crate) fn flag<'a>(alloc: Global, name: &'a str, help: &'a str) -> Arg<'a>
+    ensures rule { rule_of result ≡ flag name.now }
+    ensures local { result.global ≡ false }
+{
+    Arg::new(alloc, name)
+        .long(name)
+        .action(ArgAction::SetTrue)
+        .help(help)
+}
+
 /// Values, one at the least and `most` at most.
 pub(crate) fn several<'a>(alloc: Global, name: &'a str, most: usize, help: &'a str) -> Arg<'a>
     requires { 1 ≤ most }
@@ -63,8 +74,8 @@ pub(crate) fn with_argument<'a>(
     argument: Arg<'a>,
 ) -> Result<Command<'a>, AllocError>
     requires { argument.global ≡ false }
-    ensures { (app : App) → IsCommand app command.entry
-        → IfOk result (IsCommand (with_rule app (rule_of argument.entry))) }
+    ensures { (app : App) (rule : Rule) → IsCommand app command.entry → rule_of argument.entry ≡ rule
+        → IfOk result (IsCommand (with_rule app rule)) }
 {
     command.arg(argument)
 }

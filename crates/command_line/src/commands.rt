@@ -2,14 +2,20 @@
 
 ghost use Rattle.std.specs.Prelude.{◌≡◌, IfOk, true};
 ghost use Rattle.clap.specs.Words.{is_simple_and_free};
-ghost use Rattle.command_line.specs.Commands.{IsCommand, back_command, bare_program, last_command, program, record_command};
-ghost use Rattle.command_line.specs.Commands.{record_options, replay_command, showing_program, writing_program};
+ghost use Rattle.command_line.specs.Commands.{IsCommand, back_command, bare_program, last_command, program};
+ghost use Rattle.command_line.specs.Commands.{record_command, record_options, replay_command, showing_program, verify_command, writing_program};
 
 use crate::builder::{
-    needed, of_guest, of_store, option, option_or, several, with_argument, with_command,
+    flag, needed, of_guest, of_store, option, option_or, several, with_argument, with_command,
 };
 use clap::Command;
 use std::alloc::{AllocError, Global};
+
+/// The version of the program.
+const VERSION: &str = "0.1.0";
+
+/// What `--progress` does.
+const PROGRESS: &str = "show how far it is, on standard error";
 
 /// The options of `record STORE ELF..`.
 fn record_options<'a>(alloc: Global) -> Result<Command<'a>, AllocError>
@@ -40,7 +46,8 @@ fn record_options<'a>(alloc: Global) -> Result<Command<'a>, AllocError>
     let command = with_argument(command, quantum)?;
     let command = with_argument(command, every)?;
     let command = with_argument(command, input)?;
-    with_argument(command, seed)
+    let command = with_argument(command, seed)?;
+    with_argument(command, flag(alloc, "progress", PROGRESS))
 }
 
 /// `record STORE ELF..`.
@@ -49,6 +56,14 @@ fn record<'a>(alloc: Global) -> Result<Command<'a>, AllocError>
 {
     let files = several(alloc, "ELF", 16, "static RISC-V programs (ELF32, RV32IMA)");
     with_argument(record_options(alloc)?, files)
+}
+
+/// `verify STORE GUEST`.
+fn verify<'a>(alloc: Global) -> Result<Command<'a>, AllocError>
+    ensures { IfOk result (IsCommand verify_command) }
+{
+    let command = of_guest(alloc, "verify", "replays a guest's records and compares")?;
+    with_argument(command, flag(alloc, "progress", PROGRESS))
 }
 
 /// `replay STORE GUEST`.
@@ -61,10 +76,9 @@ fn replay<'a>(alloc: Global) -> Result<Command<'a>, AllocError>
         "T",
         "print the state behind T instructions instead",
     );
-    with_argument(
-        of_guest(alloc, "replay", "puts a guest's output out again")?,
-        at,
-    )
+    let command = of_guest(alloc, "replay", "puts a guest's output out again")?;
+    let command = with_argument(command, at)?;
+    with_argument(command, flag(alloc, "progress", PROGRESS))
 }
 
 /// `back STORE GUEST FROM N`.
@@ -104,6 +118,7 @@ fn bare_program<'a>(alloc: Global) -> Result<Command<'a>, AllocError>
     Ok(
         Command::new(alloc, "rrv")
             .bin_name("rrv")?
+            .version(VERSION)
             .about("records RISC-V programs and replays them exactly")
             .no_binary_name(true)
             .subcommand_required(true)
@@ -126,10 +141,9 @@ fn showing_program<'a>(alloc: Global) -> Result<Command<'a>, AllocError>
 {
     let list = of_store(alloc, "list", "prints a line for each guest")?;
     let dump = of_guest(alloc, "dump", "prints a line for each record of a guest")?;
-    let verify = of_guest(alloc, "verify", "replays a guest's records and compares")?;
     let command = with_command(writing_program(alloc)?, list)?;
     let command = with_command(command, dump)?;
-    with_command(command, verify)
+    with_command(command, verify(alloc)?)
 }
 
 /// The program with its commands, which the parser reads words by.

@@ -4,6 +4,14 @@
 mod builder;
 mod commands;
 mod digits;
+mod lines;
+mod numbers;
+mod reading;
+mod request;
+mod unread;
+mod values;
 
 pub use commands::program;
 pub use digits::{BadSeed, seed};
+pub use lines::line;
+pub use request::{GuestOf, Recording, Request};

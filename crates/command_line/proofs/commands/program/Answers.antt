@@ -1,7 +1,6 @@
-use Rattle.std.proofs.Common.{◌≡◌, refl, true}
-use Rattle.clap.specs.Words.{is_simple_and_free, with_subcommand}
-use Rattle.clap.proofs.OnLiterals.{clap_on_literals}
-use Rattle.command_line.specs.Commands.{back_command, last_command, program, replay_command, showing_program}
+use Rattle.clap.specs.Words.{with_subcommand}
+use Rattle.command_line.specs.Commands.{back_command, last_command, replay_command, showing_program}
+use Rattle.command_line.proofs.Words.{simple_and_free}
 use Rattle.command_line.proofs.commands.program.Goals as goal
 
 pub returns-clause-commands : goal.returns-clause-commands
@@ -10,10 +9,6 @@ returns-clause-commands c =
     let with_replay = with_subcommand showing_program replay_command.top in
     let going_back = c.in_ok-command-2.ensures with_replay back_command replaying c.in_ok-back.ensures in
     c.with_command-3.ensures (with_subcommand with_replay back_command.top) last_command going_back c.in_ok-last.ensures
-
-simple_and_free : is_simple_and_free program ≡ true
-unfolding clap_on_literals
-simple_and_free = refl
 
 pub returns-clause-exact : goal.returns-clause-exact
 returns-clause-exact c = simple_and_free

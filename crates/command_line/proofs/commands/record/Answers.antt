@@ -1,9 +1,7 @@
-use Rattle.std.proofs.Common.{IfOk, subst}
-use Rattle.clap.specs.Words.{Rule, with_rule}
-use Rattle.command_line.specs.Commands.{IsCommand, record_options}
+use Rattle.std.proofs.Common.{codes}
+use Rattle.command_line.specs.Commands.{record_options, several}
 use Rattle.command_line.proofs.commands.record.Goals as goal
 
 pub returns : goal.returns
 returns c =
-    subst (λ (r : Rule). IfOk c.with_argument.result (IsCommand (with_rule record_options r))) c.several-files.ensures.rule
-    (c.with_argument.ensures record_options c.in_ok-record_options.ensures)
+    c.with_argument.ensures record_options (several 1 16 (codes "ELF")) c.in_ok-record_options.ensures c.several-files.ensures.rule

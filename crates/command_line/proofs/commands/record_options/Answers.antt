@@ -1,12 +1,16 @@
-use Rattle.std.proofs.Common.{IfOk, codes, subst}
-use Rattle.clap.specs.Words.{Rule, with_rule}
-use Rattle.command_line.specs.Commands.{IsCommand, of_store, option, option_or}
+use Rattle.std.proofs.Common.{codes}
+use Rattle.clap.specs.Words.{with_rule}
+use Rattle.command_line.specs.Commands.{flag, of_store, option, option_or}
 use Rattle.command_line.proofs.commands.record_options.Goals as goal
 
 pub returns : goal.returns
 returns c =
-    let after1 = subst (λ (r : Rule). IsCommand (with_rule (of_store (codes "record")) r) c.in_ok-command-2.command) c.option_or-quantum.ensures.rule (c.in_ok-command-2.ensures (of_store (codes "record")) c.in_ok-command.ensures) in
-    let after2 = subst (λ (r : Rule). IsCommand (with_rule (with_rule (of_store (codes "record")) (option_or (codes "quantum") (codes "50000"))) r) c.in_ok-command-3.command) c.option_or-every.ensures.rule (c.in_ok-command-3.ensures (with_rule (of_store (codes "record")) (option_or (codes "quantum") (codes "50000"))) after1) in
-    let after3 = subst (λ (r : Rule). IsCommand (with_rule (with_rule (with_rule (of_store (codes "record")) (option_or (codes "quantum") (codes "50000"))) (option_or (codes "every") (codes "1048576"))) r) c.in_ok-command-4.command) c.option-input.ensures.rule (c.in_ok-command-4.ensures (with_rule (with_rule (of_store (codes "record")) (option_or (codes "quantum") (codes "50000"))) (option_or (codes "every") (codes "1048576"))) after2) in
-    subst (λ (r : Rule). IfOk c.with_argument-4.result (IsCommand (with_rule (with_rule (with_rule (with_rule (of_store (codes "record")) (option_or (codes "quantum") (codes "50000"))) (option_or (codes "every") (codes "1048576"))) (option (codes "input"))) r))) c.option-seed.ensures.rule
-    (c.with_argument-4.ensures (with_rule (with_rule (with_rule (of_store (codes "record")) (option_or (codes "quantum") (codes "50000"))) (option_or (codes "every") (codes "1048576"))) (option (codes "input"))) after3)
+    let before2 = c.in_ok-command-2.ensures (of_store (codes "record")) (option_or (codes "quantum") (codes "50000")) c.in_ok-command.ensures c.option_or-quantum.ensures.rule in
+    let app2 = with_rule (of_store (codes "record")) (option_or (codes "quantum") (codes "50000")) in
+    let before3 = c.in_ok-command-3.ensures app2 (option_or (codes "every") (codes "1048576")) before2 c.option_or-every.ensures.rule in
+    let app3 = with_rule app2 (option_or (codes "every") (codes "1048576")) in
+    let before4 = c.in_ok-command-4.ensures app3 (option (codes "input")) before3 c.option-input.ensures.rule in
+    let app4 = with_rule app3 (option (codes "input")) in
+    let before5 = c.in_ok-command-5.ensures app4 (option (codes "seed")) before4 c.option-seed.ensures.rule in
+    let app5 = with_rule app4 (option (codes "seed")) in
+    c.with_argument-5.ensures app5 (flag (codes "progress")) before5 c.flag.ensures.rule

@@ -1,0 +1,124 @@
+-- What a request asks for where the command that was found is known.
+use Rattle.std.proofs.Common.{◌≡◌, ℕ, List, Option, true, false, refl, codes, ap, ◌∙◌, sym}
+use Rattle.std.proofs.lemmas.Bool.{false≢true}
+use Rattle.std.proofs.lemmas.Slice.Eq.{bytes_eq-Decides}
+use Rattle.std.specs.Str.{bytes_eq}
+use Rattle.std.specs.Result.{IfErr, IsErrAnd}
+use Rattle.std.specs.Prelude.{Result}
+use Rattle.clap.specs.Words.{Row, Text}
+use Rattle.clap.proofs.TakesLemmas.{passed_up}
+use Rattle.command_line.specs.declared.unread.Unread.{Unread}
+use Rattle.command_line.specs.declared.unread.Unread.TheVariants as unread
+use Rattle.command_line.specs.declared.request.GuestOf.{GuestOf}
+use Rattle.command_line.specs.declared.request.Recording.{Recording}
+use Rattle.command_line.specs.declared.request.Request.{Request}
+use Rattle.command_line.specs.declared.request.Request.TheVariants as requests
+use Rattle.command_line.specs.Request.{Asks, HasAddress, HasNumber, HasNumberOrNone, HasText, NamesGuest, NamesRecording}
+use Rattle.command_line.specs.Unread.{OnBad}
+
+-- ---- a refusal that is passed up
+
+on_bad : {P Q : Type 0} (e : Unread) → (P → Q) → OnBad e P → OnBad e Q
+on_bad (unread.Missing name) f p = f p
+on_bad (unread.BadNumber name text least most) f p = f p
+on_bad (unread.BadAddress name text) f p = f p
+on_bad unread.Memory f p = tt
+
+pub passed : {T P Q : Type 0} (r : Result T Unread) (e : Unread) → IsErrAnd r (λ y. y ≡ e) → (P → Q) → OnBad e P → IfErr r (λ e. OnBad e Q)
+passed {Q = Q} r e is f p = passed_up r e (λ e. OnBad e Q) is (on_bad e f p)
+
+-- ---- what a command may ask for
+
+same_bytes : (a : Text) → bytes_eq a a ≡ true
+same_bytes a = (bytes_eq-Decides a a).1 refl
+
+other : (a b : Text) → bytes_eq a b ≡ false → a ≡ b → ⊥
+other a b differ same = false≢true (sym differ ∙ ap (bytes_eq a) (sym same) ∙ same_bytes a)
+
+pub asks_new : (request : Request) (rows : List Row) → Asks request (codes "new", rows) → (store : Text) × HasText rows (codes "STORE") store
+asks_new requests.Demonstration rows h = absurd h.1
+asks_new (requests.New store) rows h = (store.now, h.1)
+asks_new (requests.Record recording) rows h = absurd (other (codes "new") (codes "record") refl h.0)
+asks_new (requests.List store) rows h = absurd (other (codes "new") (codes "list") refl h.0)
+asks_new (requests.Dump guest) rows h = absurd (other (codes "new") (codes "dump") refl h.0)
+asks_new (requests.Verify guest progress) rows h = absurd (other (codes "new") (codes "verify") refl h.0)
+asks_new (requests.Replay guest at progress) rows h = absurd (other (codes "new") (codes "replay") refl h.0)
+asks_new (requests.Back guest from count) rows h = absurd (other (codes "new") (codes "back") refl h.0)
+asks_new (requests.Last guest from address) rows h = absurd (other (codes "new") (codes "last") refl h.0)
+
+pub asks_record : (request : Request) (rows : List Row) → Asks request (codes "record", rows) → (r : Recording) × NamesRecording rows r
+asks_record requests.Demonstration rows h = absurd h.1
+asks_record (requests.New store) rows h = absurd (other (codes "record") (codes "new") refl h.0)
+asks_record (requests.Record recording) rows h = (recording, h.1)
+asks_record (requests.List store) rows h = absurd (other (codes "record") (codes "list") refl h.0)
+asks_record (requests.Dump guest) rows h = absurd (other (codes "record") (codes "dump") refl h.0)
+asks_record (requests.Verify guest progress) rows h = absurd (other (codes "record") (codes "verify") refl h.0)
+asks_record (requests.Replay guest at progress) rows h = absurd (other (codes "record") (codes "replay") refl h.0)
+asks_record (requests.Back guest from count) rows h = absurd (other (codes "record") (codes "back") refl h.0)
+asks_record (requests.Last guest from address) rows h = absurd (other (codes "record") (codes "last") refl h.0)
+
+pub asks_list : (request : Request) (rows : List Row) → Asks request (codes "list", rows) → (store : Text) × HasText rows (codes "STORE") store
+asks_list requests.Demonstration rows h = absurd h.1
+asks_list (requests.New store) rows h = absurd (other (codes "list") (codes "new") refl h.0)
+asks_list (requests.Record recording) rows h = absurd (other (codes "list") (codes "record") refl h.0)
+asks_list (requests.List store) rows h = (store.now, h.1)
+asks_list (requests.Dump guest) rows h = absurd (other (codes "list") (codes "dump") refl h.0)
+asks_list (requests.Verify guest progress) rows h = absurd (other (codes "list") (codes "verify") refl h.0)
+asks_list (requests.Replay guest at progress) rows h = absurd (other (codes "list") (codes "replay") refl h.0)
+asks_list (requests.Back guest from count) rows h = absurd (other (codes "list") (codes "back") refl h.0)
+asks_list (requests.Last guest from address) rows h = absurd (other (codes "list") (codes "last") refl h.0)
+
+pub asks_dump : (request : Request) (rows : List Row) → Asks request (codes "dump", rows) → (guest : GuestOf) × NamesGuest rows guest
+asks_dump requests.Demonstration rows h = absurd h.1
+asks_dump (requests.New store) rows h = absurd (other (codes "dump") (codes "new") refl h.0)
+asks_dump (requests.Record recording) rows h = absurd (other (codes "dump") (codes "record") refl h.0)
+asks_dump (requests.List store) rows h = absurd (other (codes "dump") (codes "list") refl h.0)
+asks_dump (requests.Dump guest) rows h = (guest, h.1)
+asks_dump (requests.Verify guest progress) rows h = absurd (other (codes "dump") (codes "verify") refl h.0)
+asks_dump (requests.Replay guest at progress) rows h = absurd (other (codes "dump") (codes "replay") refl h.0)
+asks_dump (requests.Back guest from count) rows h = absurd (other (codes "dump") (codes "back") refl h.0)
+asks_dump (requests.Last guest from address) rows h = absurd (other (codes "dump") (codes "last") refl h.0)
+
+pub asks_verify : (request : Request) (rows : List Row) → Asks request (codes "verify", rows) → (guest : GuestOf) × NamesGuest rows guest
+asks_verify requests.Demonstration rows h = absurd h.1
+asks_verify (requests.New store) rows h = absurd (other (codes "verify") (codes "new") refl h.0)
+asks_verify (requests.Record recording) rows h = absurd (other (codes "verify") (codes "record") refl h.0)
+asks_verify (requests.List store) rows h = absurd (other (codes "verify") (codes "list") refl h.0)
+asks_verify (requests.Dump guest) rows h = absurd (other (codes "verify") (codes "dump") refl h.0)
+asks_verify (requests.Verify guest progress) rows h = (guest, h.1.0)
+asks_verify (requests.Replay guest at progress) rows h = absurd (other (codes "verify") (codes "replay") refl h.0)
+asks_verify (requests.Back guest from count) rows h = absurd (other (codes "verify") (codes "back") refl h.0)
+asks_verify (requests.Last guest from address) rows h = absurd (other (codes "verify") (codes "last") refl h.0)
+
+pub asks_replay : (request : Request) (rows : List Row) → Asks request (codes "replay", rows) → (guest : GuestOf) × NamesGuest rows guest × (at : Option ℕ) × HasNumberOrNone rows (codes "at") at
+asks_replay requests.Demonstration rows h = absurd h.1
+asks_replay (requests.New store) rows h = absurd (other (codes "replay") (codes "new") refl h.0)
+asks_replay (requests.Record recording) rows h = absurd (other (codes "replay") (codes "record") refl h.0)
+asks_replay (requests.List store) rows h = absurd (other (codes "replay") (codes "list") refl h.0)
+asks_replay (requests.Dump guest) rows h = absurd (other (codes "replay") (codes "dump") refl h.0)
+asks_replay (requests.Verify guest progress) rows h = absurd (other (codes "replay") (codes "verify") refl h.0)
+asks_replay (requests.Replay guest at progress) rows h = (guest, h.1.0, at, h.1.1)
+asks_replay (requests.Back guest from count) rows h = absurd (other (codes "replay") (codes "back") refl h.0)
+asks_replay (requests.Last guest from address) rows h = absurd (other (codes "replay") (codes "last") refl h.0)
+
+pub asks_back : (request : Request) (rows : List Row) → Asks request (codes "back", rows) → (guest : GuestOf) × NamesGuest rows guest × (from : ℕ) × HasNumber rows (codes "FROM") from × (count : ℕ) × HasNumber rows (codes "N") count
+asks_back requests.Demonstration rows h = absurd h.1
+asks_back (requests.New store) rows h = absurd (other (codes "back") (codes "new") refl h.0)
+asks_back (requests.Record recording) rows h = absurd (other (codes "back") (codes "record") refl h.0)
+asks_back (requests.List store) rows h = absurd (other (codes "back") (codes "list") refl h.0)
+asks_back (requests.Dump guest) rows h = absurd (other (codes "back") (codes "dump") refl h.0)
+asks_back (requests.Verify guest progress) rows h = absurd (other (codes "back") (codes "verify") refl h.0)
+asks_back (requests.Replay guest at progress) rows h = absurd (other (codes "back") (codes "replay") refl h.0)
+asks_back (requests.Back guest from count) rows h = (guest, h.1.0, from, h.1.1, count, h.1.2)
+asks_back (requests.Last guest from address) rows h = absurd (other (codes "back") (codes "last") refl h.0)
+
+pub asks_last : (request : Request) (rows : List Row) → Asks request (codes "last", rows) → (guest : GuestOf) × NamesGuest rows guest × (from : ℕ) × HasNumber rows (codes "FROM") from × (address : ℕ) × HasAddress rows (codes "ADDR") address
+asks_last requests.Demonstration rows h = absurd h.1
+asks_last (requests.New store) rows h = absurd (other (codes "last") (codes "new") refl h.0)
+asks_last (requests.Record recording) rows h = absurd (other (codes "last") (codes "record") refl h.0)
+asks_last (requests.List store) rows h = absurd (other (codes "last") (codes "list") refl h.0)
+asks_last (requests.Dump guest) rows h = absurd (other (codes "last") (codes "dump") refl h.0)
+asks_last (requests.Verify guest progress) rows h = absurd (other (codes "last") (codes "verify") refl h.0)
+asks_last (requests.Replay guest at progress) rows h = absurd (other (codes "last") (codes "replay") refl h.0)
+asks_last (requests.Back guest from count) rows h = absurd (other (codes "last") (codes "back") refl h.0)
+asks_last (requests.Last guest from address) rows h = (guest, h.1.0, from, h.1.1, address, h.1.2)

@@ -1,0 +1,2 @@
+pub mod Inversion
+pub mod Words

@@ -1,0 +1,113 @@
+//! The values that the parser found, read as what they stand for.
+
+ghost use Rattle.std.specs.Prelude.{◌≡◌, ℕ, IfErr, IfOk, Option, map, option_map};
+ghost use Rattle.clap.specs.Words.{Text, all_of, found_of, rows_of};
+ghost use Rattle.command_line.specs.Request.{HasAddress, HasFlag, HasNumberIn, HasNumberOrNone, HasOption, HasText, NamesGuest};
+ghost use Rattle.command_line.specs.Unread.{OnBad};
+
+use crate::numbers::{address_in, number_in};
+use crate::request::GuestOf;
+use crate::unread::Unread;
+use clap::ArgMatches;
+
+/// The text of an option, where it is there.
+pub(crate) fn text_or_none<'a>(values: &ArgMatches<'a>, name: &str) -> Option<&'a str>
+    ensures { HasOption (rows_of (found_of values.now)) name.now result }
+{
+    values.get_str(name)
+}
+
+/// The texts of an argument that may have several, where it is there.
+pub(crate) fn several_or_none<'m, 'a>(
+    values: &'m ArgMatches<'a>,
+    name: &str,
+) -> Option<&'m [&'a str]>
+    ensures { all_of name.now (rows_of (found_of values.now)) ≡ option_map (λ s. map (λ t. t.now) s.now) result }
+{
+    values.get_strs(name)
+}
+
+/// The text of an argument that has to be there.
+pub(crate) fn text<'a>(values: &ArgMatches<'a>, name: &'a str) -> Result<&'a str, Unread<'a>>
+    ensures found { IfOk result (λ text. HasText (rows_of (found_of values.now)) name.now text.now) }
+    ensures none { IfErr result (λ e. OnBad e
+        ((text : Text) → HasText (rows_of (found_of values.now)) name.now text → ⊥)) }
+{
+    match text_or_none(values, name) {
+        Some(text) => Ok(text),
+        None => Err(Unread::Missing { name }),
+    }
+}
+
+/// The number of an argument that has to be there, within bounds.
+pub(crate) fn number<'a>(
+    values: &ArgMatches<'a>,
+    name: &'a str,
+    least: u64,
+    most: u64,
+) -> Result<u64, Unread<'a>>
+    ensures found { IfOk result (HasNumberIn least most (rows_of (found_of values.now)) name.now) }
+    ensures none { IfErr result (λ e. OnBad e
+        ((n : ℕ) → HasNumberIn least most (rows_of (found_of values.now)) name.now n → ⊥)) }
+{
+    let text = text(values, name)?;
+    match number_in(text, least, most) {
+        Some(number) => Ok(number),
+        None => Err(Unread::BadNumber {
+            name,
+            text,
+            least,
+            most,
+        }),
+    }
+}
+
+/// The number of an option, where it is there.
+pub(crate) fn number_or_none<'a>(
+    values: &ArgMatches<'a>,
+    name: &'a str,
+) -> Result<Option<u64>, Unread<'a>>
+    ensures found { IfOk result (HasNumberOrNone (rows_of (found_of values.now)) name.now) }
+    ensures none { IfErr result (λ e. OnBad e
+        ((n : Option ℕ) → HasNumberOrNone (rows_of (found_of values.now)) name.now n → ⊥)) }
+{
+    if text_or_none(values, name).is_none() {
+        return Ok(None);
+    }
+    Ok(Some(number(values, name, 0, u64::MAX)?))
+}
+
+/// The address of an argument that has to be there.
+pub(crate) fn address<'a>(values: &ArgMatches<'a>, name: &'a str) -> Result<u32, Unread<'a>>
+    ensures found { IfOk result (HasAddress (rows_of (found_of values.now)) name.now) }
+    ensures none { IfErr result (λ e. OnBad e
+        ((n : ℕ) → HasAddress (rows_of (found_of values.now)) name.now n → ⊥)) }
+{
+    let text = text(values, name)?;
+    match address_in(text) {
+        Some(address) => Ok(address),
+        None => Err(Unread::BadAddress { name, text }),
+    }
+}
+
+/// Whether an option without a value is there.
+pub(crate) fn flag(values: &ArgMatches<'_>, name: &str) -> bool
+    ensures { HasFlag (rows_of (found_of values.now)) name.now result }
+{
+    match text_or_none(values, name) {
+        Some(text) => text == "true",
+        None => false,
+    }
+}
+
+/// The guest that a line names.
+pub(crate) fn guest<'a>(values: &ArgMatches<'a>) -> Result<GuestOf<'a>, Unread<'a>>
+    ensures found { IfOk result (NamesGuest (rows_of (found_of values.now))) }
+    ensures none { IfErr result (λ e. OnBad e
+        ((guest : GuestOf) → NamesGuest (rows_of (found_of values.now)) guest → ⊥)) }
+{
+    Ok(GuestOf {
+        store: text(values, "STORE")?,
+        number: number(values, "GUEST", 0, u64::MAX)?,
+    })
+}
