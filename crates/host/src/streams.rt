@@ -4,6 +4,7 @@ ghost use Rattle.std.specs.Prelude.{◌≡◌, ◌≢◌, ◌≤◌, [], length,
 ghost use Rattle.host.specs.Written.{Gains};
 
 use rrv_model::sink::{Sink, SinkError};
+use std::fmt::Display;
 use std::io::Write;
 use std::sync::{Mutex, Wait};
 
@@ -30,6 +31,14 @@ impl<O: Write + Drop, E: Write + Drop> Streams<O, E> {
     {
         let Streams { output, error } = self;
         (output, error)
+    }
+
+    /// Writes a text to the errors' stream, and flushes it. What the stream refuses is dropped.
+    pub fn note<T: Display>(&mut self, text: &T)
+        ensures { self.new.output ≡ self.old.output }
+    {
+        let _ = write!(self.error, "{text}");
+        let _ = self.error.flush();
     }
 
     /// Writes a beginning of the bytes, at least one, to the stream of a descriptor, and answers its length: 2 is the errors' one,

@@ -7,6 +7,10 @@ pub trait Gate {
 
     /// The guest's worker has sent so many frames. It tells this after each frame that it sent.
     fn submitted(&self, guest: u32, frames: u32);
+
+    /// The guest's worker has sent so many records, and the guest has run so many instructions. It tells this whenever it sent some. An
+    /// impl that leaves it out does nothing.
+    fn sent(&self, _guest: u32, _records: u32, _instructions: u64) {}
 }
 
 /// A gate that lets every step be made.

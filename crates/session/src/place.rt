@@ -17,13 +17,15 @@ impl<G: Gate> Place<'_, G> {
         self.gate.may_step(self.guest)
     }
 
-    /// Tells the flusher of the records that were sent, and the gate of the frames among them. The first record is no frame.
-    pub(crate) fn tell_sent(&self, before: u32, sent: u32) {
+    /// Tells the flusher and the gate of the records that were sent, and the gate of the frames among them. The first record is no
+    /// frame. `instructions` is how many the guest has run.
+    pub(crate) fn tell_sent(&self, before: u32, sent: u32, instructions: u64) {
         if before < sent {
             self.pace.sent(sent - before);
             if 1 < sent {
                 self.gate.submitted(self.guest, sent - 1);
             }
+            self.gate.sent(self.guest, sent, instructions);
         }
     }
 }

@@ -136,7 +136,7 @@ fn send<G: Gate, R: Wait>(
 {
     let before = recorder.sent();
     let result = recorder.send(rt);
-    place.tell_sent(before, recorder.sent());
+    place.tell_sent(before, recorder.sent(), recorder.guest().ran());
     result
 }
 

@@ -1,0 +1,13 @@
+//! The line that shows how far a command is, on standard error.
+#![tactic(auto)]
+
+mod clearing;
+mod extent;
+mod meter;
+mod recording;
+mod verifying;
+
+pub use clearing::Clearing;
+pub use extent::{Count, Extent};
+pub use recording::RecordProgress;
+pub use verifying::VerifyProgress;
