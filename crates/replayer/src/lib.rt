@@ -20,4 +20,4 @@ pub use fault::{OutputFault, ReadGuestFault, VerifyFault};
 pub use place::Place;
 pub use reading::read_guest;
 pub use verified::Verified;
-pub use verifying::verify;
+pub use verifying::{Watch, verify, verify_watched};
