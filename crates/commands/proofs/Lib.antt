@@ -1,2 +1,5 @@
 pub mod Tried
-pub mod Words
+pub mod Statuses
+pub mod Texts
+pub mod Summaries
+pub mod JobLists

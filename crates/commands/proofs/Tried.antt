@@ -167,8 +167,8 @@ module _ {C O S : Type 0} (choosers : Choosers C) (sinks : Sinks S) where
         begun = recorded_at_zero first log.next_guest committed (vec_items jobs) (vec_items jobs') zero_is one run.recorded;
         past = inr h.1;
       }
-  session_refused (faults.SinkFailed guest) first log log' committed jobs jobs' zero_is kept one run h = inl (ap (λ (n : ℕ). faults.SinkFailed n) (one_place first (vec_items jobs) guest one h.0))
-  session_refused (faults.Held guest) first log log' committed jobs jobs' zero_is kept one run h = inr (ap (λ (n : ℕ). faults.Held n) (one_place first (vec_items jobs) guest one h.0))
+  session_refused (faults.SinkFailed guest) first log log' committed jobs jobs' zero_is kept one run h = tt
+  session_refused (faults.Held guest) first log log' committed jobs jobs' zero_is kept one run h = ap (λ (n : ℕ). faults.Held n) (one_place first (vec_items jobs) guest one h.0)
   session_refused faults.TooManyGuests first log log' committed jobs jobs' zero_is kept one run h =
       let e : length (vec_items jobs) ≡ 1 = ap length one.only in
       absurd (elim h.0 [

@@ -1,4 +1,7 @@
 pub mod Told
 pub mod Silent
 pub mod Tried
-pub mod Request
+pub mod Status
+pub mod Stores
+pub mod Printed
+pub mod Jobs

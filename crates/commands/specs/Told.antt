@@ -4,10 +4,14 @@ use Rattle.elf_load.specs.declared.fault.ElfFault.{ElfFault}
 use Rattle.elf_load.specs.declared.fault.ElfFault.TheVariants as elf_faults
 use Rattle.recover.specs.declared.fault.OpenFault.{OpenFault}
 use Rattle.recover.specs.declared.fault.OpenFault.TheVariants as open_faults
+use Rattle.replayer.specs.declared.fault.OutputFault.{OutputFault}
+use Rattle.replayer.specs.declared.fault.OutputFault.TheVariants as output_faults
 use Rattle.replayer.specs.declared.fault.ReadGuestFault.{ReadGuestFault}
 use Rattle.replayer.specs.declared.fault.ReadGuestFault.TheVariants as read_faults
 use Rattle.replayer.specs.declared.fault.VerifyFault.{VerifyFault}
 use Rattle.replayer.specs.declared.fault.VerifyFault.TheVariants as verify_faults
+use Rattle.reverse_step.specs.declared.fault.SeekFault.{SeekFault}
+use Rattle.reverse_step.specs.declared.fault.SeekFault.TheVariants as seek_faults
 use Rattle.session.specs.declared.fault.SessionFault.{SessionFault}
 use Rattle.session.specs.declared.fault.SessionFault.TheVariants as session_faults
 use Rattle.commands.specs.declared.refusal.Refusal.{Refusal}
@@ -24,12 +28,17 @@ abbrev pub session_told : SessionFault → Refusal
 session_told session_faults.DeviceFailed = refusals.DeviceFailed
 session_told session_faults.StoreFull = refusals.StoreFull
 session_told session_faults.Memory = refusals.Memory
+session_told (session_faults.SinkFailed guest) = refusals.OutputFailed
 session_told fault = refusals.Session fault
 
--- a sink refused output
-abbrev pub IsOfSink : Refusal → Type 0
-IsOfSink (refusals.Session (session_faults.SinkFailed guest)) = Unit {0}
-IsOfSink _ = ⊥
+abbrev pub seek_told : SeekFault → Refusal
+seek_told seek_faults.BeforeStart = refusals.BeforeStart
+seek_told seek_faults.PastEnd = refusals.PastEnd
+seek_told seek_faults.Memory = refusals.Memory
+
+abbrev pub output_told : OutputFault → Refusal
+output_told output_faults.SinkFailed = refusals.OutputFailed
+output_told output_faults.Memory = refusals.Memory
 
 abbrev pub read_told : ReadGuestFault → Refusal
 read_told read_faults.DeviceFailed = refusals.DeviceFailed

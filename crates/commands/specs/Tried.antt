@@ -64,5 +64,6 @@ abbrev pub RefusesTrial : Refusal → Record → Type 0
 RefusesTrial refusals.Memory first = Unit {0}
 RefusesTrial refusals.DeviceFailed first = Unit {0}
 RefusesTrial refusals.StoreFull first = IsTooLong first
-RefusesTrial (refusals.Session fault) first = (fault ≡ faults.SinkFailed 0) ⊎ (fault ≡ faults.Held 0)
+RefusesTrial refusals.OutputFailed first = Unit {0}
+RefusesTrial (refusals.Session fault) first = fault ≡ faults.Held 0
 RefusesTrial _ first = ⊥

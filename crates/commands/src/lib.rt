@@ -1,16 +1,24 @@
 //! What the lines of the program do.
 #![tactic(auto)]
 
+mod demonstration;
 mod exit_five;
+mod files;
+mod guests;
+mod jobs;
 mod printing;
-mod program_file;
-mod recording;
+mod record;
 mod refusal;
-mod request;
+mod replaying;
 mod running;
 mod silence;
+mod states;
+mod store;
+mod terminals;
 mod trial;
+mod verifying;
 
-pub use program_file::read_program;
+pub use files::read_program;
 pub use refusal::Refusal;
-pub use running::{report, report_unread, run};
+pub use running::{report, report_unread, run, run_on};
+pub use terminals::Terminals;

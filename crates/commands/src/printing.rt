@@ -1,27 +1,59 @@
-//! What is printed of a trial.
+//! What is printed.
 
-ghost use Rattle.std.specs.Prelude.{◌≡◌, ◌≢◌, OnOk};
+ghost use Rattle.std.specs.Prelude.{◌≡◌, ◌≢◌, IfErr, IfSome, OnOk};
 ghost use Rattle.std.specs.Io.KnownBytes.{Appends, Keeps};
+ghost use Rattle.commands.specs.Printed.{with_newline};
 
 use crate::refusal::Refusal;
 use crate::trial::Trial;
-use guest_calls::Put;
 use std::alloc::Global;
+use std::fmt::Display;
 use std::io::{BufWriter, Write};
 use trace_text::{RecordLine, VerifyLine};
 
-/// Prints bytes that a guest put out. What goes to descriptor 2 is printed as errors, once all before it is printed.
-fn print_put<O: Write, E: Write>(put: &Put, out: &mut O, err: &mut E) -> Result<(), Refusal>
-    ensures output { OnOk result (put.now.descriptor ≢ 2
-        → Appends (O.contents out.old) (O.contents out.new) put.now.bytes) }
-    ensures errors { OnOk result (put.now.descriptor ≡ 2
-        → Appends (E.contents err.old) (E.contents err.new) put.now.bytes) }
-    ensures no_output { OnOk result (put.now.descriptor ≡ 2
-        → Keeps (O.contents out.old) (O.contents out.new)) }
-    ensures no_errors { put.now.descriptor ≢ 2 → err.new ≡ err.old }
+/// A writer that collects what it is given, and writes it in blocks.
+pub(crate) fn in_blocks<W: Write + Drop>(alloc: Global, out: W) -> Result<BufWriter<W>, Refusal> {
+    BufWriter::new(alloc, out).map_err(|_| Refusal::Memory)
+}
+
+/// Prints a text.
+pub(crate) fn print_text<W: Write, T: Display>(out: &mut W, text: &T) -> Result<(), Refusal>
+    ensures printed { OnOk result (IfSome (T.output text.now) (Appends (W.contents out.old) (W.contents out.new))) }
+    ensures refused { IfErr result (λ e. e ≡ Refusal.OutputFailed) }
 {
-    let bytes = put.bytes.as_slice();
-    if put.descriptor == 2 {
+    write!(out, "{text}").map_err(|_| Refusal::OutputFailed)
+}
+
+/// Prints a text and a newline.
+pub(crate) fn print_line<W: Write, T: Display>(out: &mut W, line: &T) -> Result<(), Refusal>
+    ensures printed { OnOk result (IfSome (T.output line.now)
+        (λ text. Appends (W.contents out.old) (W.contents out.new) (with_newline text))) }
+    ensures refused { IfErr result (λ e. e ≡ Refusal.OutputFailed) }
+{
+    writeln!(out, "{line}").map_err(|_| Refusal::OutputFailed)
+}
+
+/// Writes what was collected.
+pub(crate) fn finish<W: Write>(out: &mut W) -> Result<(), Refusal> {
+    out.flush().map_err(|_| Refusal::OutputFailed)
+}
+
+/// Prints bytes that a guest put out. What goes to descriptor 2 is printed as errors, once all before it is printed.
+pub(crate) fn print_put<O: Write, E: Write>(
+    descriptor: u32,
+    bytes: &[u8],
+    out: &mut O,
+    err: &mut E,
+) -> Result<(), Refusal>
+    ensures output { OnOk result (descriptor ≢ 2
+        → Appends (O.contents out.old) (O.contents out.new) bytes.now) }
+    ensures errors { OnOk result (descriptor ≡ 2
+        → Appends (E.contents err.old) (E.contents err.new) bytes.now) }
+    ensures no_output { OnOk result (descriptor ≡ 2
+        → Keeps (O.contents out.old) (O.contents out.new)) }
+    ensures no_errors { descriptor ≢ 2 → err.new ≡ err.old }
+{
+    if descriptor == 2 {
         out.flush().map_err(|_| Refusal::OutputFailed)?;
         return err.write_all(bytes).map_err(|_| Refusal::OutputFailed);
     }
@@ -35,16 +67,15 @@ pub(crate) fn print_trial<O: Write, E: Write>(
     out: &mut O,
     err: &mut E,
 ) -> Result<(), Refusal> {
-    let mut out = BufWriter::new(alloc, out).map_err(|_| Refusal::Memory)?;
+    let mut out = in_blocks(alloc, out)?;
     for put in trial.output.puts() {
-        print_put(put, &mut out, err)?;
+        print_put(put.descriptor, put.bytes.as_slice(), &mut out, err)?;
     }
     for entry in &trial.records {
-        let text = RecordLine::new(entry);
-        writeln!(out, "{text}").map_err(|_| Refusal::OutputFailed)?;
+        print_line(&mut out, &RecordLine::new(entry))?;
     }
     let records = trial.records.len() as u64;
-    let text = VerifyLine::new(records, trial.verified.total(), trial.replayed.ended());
-    writeln!(out, "{text}").map_err(|_| Refusal::OutputFailed)?;
-    out.flush().map_err(|_| Refusal::OutputFailed)
+    let end = VerifyLine::new(records, trial.verified.total(), trial.replayed.ended());
+    print_line(&mut out, &end)?;
+    finish(&mut out)
 }

@@ -2,19 +2,31 @@
 
 ghost use Rattle.std.specs.Prelude.{◌≡◌, ◌≢◌};
 ghost use Rattle.std.specs.IoError.{error_kind};
-ghost use Rattle.commands.specs.Told.{IsOfSink, elf_told, open_told, read_told, session_told, verify_told};
+ghost use Rattle.commands.specs.Told.{elf_told, open_told, output_told, read_told, seek_told, session_told, verify_told};
+ghost use Rattle.commands.specs.declared.refusal.Refusal.TheVariants as refusals;
 
+use command_line::BadSeed;
 use elf_load::fault::ElfFault;
 use recover::OpenFault;
-use replayer::{ReadGuestFault, VerifyFault};
+use replayer::{OutputFault, ReadGuestFault, VerifyFault};
+use reverse_step::SeekFault;
+use rrv_model::refusal;
 use session::SessionFault;
+use std::alloc::{AllocError, AllocFailed};
 use std::io;
 use std::io::ErrorKind;
 use thiserror::Error;
+use trace_disk::CannotOpen;
 
 /// Why a line was refused. The text is what the program prints behind `rrv: `.
 #[derive(Debug, Drop, Error)]
 pub enum Refusal {
+    /// The seed isn't 32 hexadecimal digits.
+    #[error("bad seed")]
+    BadSeed,
+    /// The file of a store can't be opened or made.
+    #[error("cannot open store")]
+    CannotOpenStore,
     /// The file can't be read, or it is above its limit.
     #[error("cannot read file")]
     CannotReadFile,
@@ -48,9 +60,21 @@ pub enum Refusal {
     /// The first record is no opening of a guest.
     #[error("bad opening")]
     BadOpening,
+    /// The store has no guest of this number.
+    #[error("no such guest")]
+    NoSuchGuest,
+    /// The place lies before the start.
+    #[error("before the start")]
+    BeforeStart,
+    /// The place lies past the end.
+    #[error("past the end")]
+    PastEnd,
     /// The session met what only a session meets.
     #[error("{fault}")]
     Session { fault: SessionFault },
+    /// The host doesn't tell the time.
+    #[error("cannot read clock")]
+    NoClock,
     /// The output could not be written.
     #[error("output failed")]
     OutputFailed,
@@ -67,8 +91,72 @@ impl From<SessionFault> for Refusal {
             SessionFault::DeviceFailed => Refusal::DeviceFailed,
             SessionFault::StoreFull => Refusal::StoreFull,
             SessionFault::Memory => Refusal::Memory,
+            SessionFault::SinkFailed { .. } => Refusal::OutputFailed,
             fault => Refusal::Session { fault },
         }
+    }
+}
+
+impl From<BadSeed> for Refusal {
+    ghost from_gives = { λ _ e. e ≡ refusals.BadSeed };
+
+    fn from(_: BadSeed) -> Self {
+        Refusal::BadSeed
+    }
+}
+
+impl From<CannotOpen> for Refusal {
+    ghost from_gives = { λ _ e. e ≡ refusals.CannotOpenStore };
+
+    fn from(_: CannotOpen) -> Self {
+        Refusal::CannotOpenStore
+    }
+}
+
+impl From<SeekFault> for Refusal {
+    ghost from_gives = { λ fault e. e ≡ seek_told fault };
+
+    fn from(fault: SeekFault) -> Self {
+        match fault {
+            SeekFault::BeforeStart => Refusal::BeforeStart,
+            SeekFault::PastEnd => Refusal::PastEnd,
+            SeekFault::Memory => Refusal::Memory,
+        }
+    }
+}
+
+impl From<OutputFault> for Refusal {
+    ghost from_gives = { λ fault e. e ≡ output_told fault };
+
+    fn from(fault: OutputFault) -> Self {
+        match fault {
+            OutputFault::SinkFailed => Refusal::OutputFailed,
+            OutputFault::Memory => Refusal::Memory,
+        }
+    }
+}
+
+impl From<refusal::Memory> for Refusal {
+    ghost from_gives = { λ _ e. e ≡ refusals.Memory };
+
+    fn from(_: refusal::Memory) -> Self {
+        Refusal::Memory
+    }
+}
+
+impl From<AllocError> for Refusal {
+    ghost from_gives = { λ _ e. e ≡ refusals.Memory };
+
+    fn from(_: AllocError) -> Self {
+        Refusal::Memory
+    }
+}
+
+impl<T: Drop> From<AllocFailed<T>> for Refusal {
+    ghost from_gives = { λ _ e. e ≡ refusals.Memory };
+
+    fn from(_: AllocFailed<T>) -> Self {
+        Refusal::Memory
     }
 }
 
@@ -126,14 +214,11 @@ impl Refusal {
     /// The refusal of a trial, whose disk and sink are in memory: such fail for want of memory alone.
     pub fn of_trial(self) -> Self
         ensures disk { self ≡ Refusal.DeviceFailed → result ≡ Refusal.Memory }
-        ensures sink { IsOfSink self → result ≡ Refusal.Memory }
-        ensures other { self ≢ Refusal.DeviceFailed → (IsOfSink self → ⊥) → result ≡ self }
+        ensures sink { self ≡ Refusal.OutputFailed → result ≡ Refusal.Memory }
+        ensures other { self ≢ Refusal.DeviceFailed → self ≢ Refusal.OutputFailed → result ≡ self }
     {
         match self {
-            Refusal::DeviceFailed
-            | Refusal::Session {
-                fault: SessionFault::SinkFailed { .. },
-            } => Refusal::Memory,
+            Refusal::DeviceFailed | Refusal::OutputFailed => Refusal::Memory,
             other => other,
         }
     }

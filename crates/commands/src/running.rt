@@ -2,45 +2,68 @@
 
 ghost use Rattle.std.specs.Prelude.{◌≡◌, ◌≢◌, ◌≤◌, ◌⊎◌, length, map};
 ghost use Rattle.std.specs.IoError.{error_kind};
-ghost use Rattle.clap.specs.Words.{fault_of, kind_of};
-ghost use Rattle.commands.specs.Request.{IsStatus, program, status_of};
+ghost use Rattle.clap.specs.Words.{kind_of};
+ghost use Rattle.command_line.specs.Lines.{IsWithinLimits};
+ghost use Rattle.commands.specs.Status.{IsStatus, status_of};
 
 use crate::exit_five::EXIT_FIVE;
+use crate::files::image_of;
+use crate::guests::{dump, list};
 use crate::printing::print_trial;
-use crate::program_file::{image_in, image_of};
+use crate::record::record;
 use crate::refusal::Refusal;
-use crate::request::{Request, parse_words};
+use crate::replaying::{put_out, tell};
+use crate::states::{show_back, show_last};
+use crate::store::{make_store, open_store};
+use crate::terminals::Terminals;
 use crate::trial::try_image;
+use crate::verifying::verified_in;
 use clap::error::ErrorKind as LineFault;
-use elf_load::image::Image;
+use command_line::{GuestOf, Request, line};
+use replayer::Verified;
 use std::alloc::Global;
 use std::convert::AsStr;
+use std::fs::File;
 use std::io;
 use std::io::{ErrorKind, Write};
 use std::rt::Files;
 use std::sync::Wait;
 use std::thread::Threads;
+use std::time::Clock;
 
-/// The name of the guest of a trial.
+/// The name of the demonstration's guest.
 const NAME: &[u8] = b"g0";
 
-/// How many instructions a slice of a trial runs at most.
+/// How many instructions a slice of it runs at most.
 const QUANTUM: u32 = 50_000;
 
 /// Does what a line of words asks for, which are those after the program's name, and returns the exit status: 0 done
 /// (also for a call of help), 1 refused, 2 a line that is none. What is asked for goes to `out`. A refusal's text,
 /// behind `rrv: `, and the text of a bad line go to `err`.
-pub fn run<R: Files + AllocGlobal + Threads + Wait + Sync, S: AsStr, O: Write, E: Write>(
-    rt: &R,
-    words: &[S],
-    out: &mut O,
-    err: &mut E,
-) -> u8
-    ensures some { 1 ≤ length words.now → IsStatus (fault_of program (map S.text words.now)) result }
+pub fn run<
+    R: Files<File = File> + AllocGlobal + Threads + Wait + Sync + Clock,
+    S: AsStr,
+    O: Write + Drop + Send,
+    E: Write + Drop + Send,
+>(rt: &R, words: &[S], out: &mut O, err: &mut E) -> u8
+    ensures some { 1 ≤ length words.now → IsStatus (map S.text words.now) result }
     ensures none { length words.now ≡ 0 → result ≤ 1 }
 {
-    match parse_words(rt.alloc(), words) {
-        Ok(request) => run_request(rt, request, out, err),
+    run_on(rt, words, Terminals::none(), out, err)
+}
+
+/// The same, where standard output or standard error may be a terminal.
+pub fn run_on<
+    R: Files<File = File> + AllocGlobal + Threads + Wait + Sync + Clock,
+    S: AsStr,
+    O: Write + Drop + Send,
+    E: Write + Drop + Send,
+>(rt: &R, words: &[S], terminals: Terminals, out: &mut O, err: &mut E) -> u8
+    ensures some { 1 ≤ length words.now → IsStatus (map S.text words.now) result }
+    ensures none { length words.now ≡ 0 → result ≤ 1 }
+{
+    match line(rt.alloc(), words) {
+        Ok(request) => run_request(rt, request, terminals, out, err),
         Err(error) => report(&error, out, err),
     }
 }
@@ -83,47 +106,90 @@ fn report_refusal<E: Write>(refusal: &Refusal, err: &mut E) -> u8
 }
 
 /// Does what is asked for, or tells why not, and answers the status.
-fn run_request<R: Files + AllocGlobal + Threads + Wait + Sync, O: Write, E: Write>(
-    rt: &R,
-    request: Request<'_>,
-    out: &mut O,
-    err: &mut E,
-) -> u8
+fn run_request<
+    R: Files<File = File> + AllocGlobal + Threads + Wait + Sync + Clock,
+    O: Write + Drop + Send,
+    E: Write + Drop + Send,
+>(rt: &R, request: Request<'_>, terminals: Terminals, out: &mut O, err: &mut E) -> u8
+    requires { IsWithinLimits request }
     ensures { (result ≡ 0) ⊎ (result ≡ 1) }
 {
-    match perform(rt, request, out, err) {
+    match perform(rt, request, terminals, out, err) {
         Ok(()) => 0,
         Err(refusal) => report_refusal(&refusal, err),
     }
 }
 
 /// Does what each command does.
-fn perform<R: Files + AllocGlobal + Threads + Wait + Sync, O: Write, E: Write>(
+fn perform<
+    R: Files<File = File> + AllocGlobal + Threads + Wait + Sync + Clock,
+    O: Write + Drop + Send,
+    E: Write + Drop + Send,
+>(
     rt: &R,
     request: Request<'_>,
+    terminals: Terminals,
     out: &mut O,
     err: &mut E,
-) -> Result<(), Refusal> {
+) -> Result<(), Refusal>
+    requires { IsWithinLimits request }
+{
+    let alloc = rt.alloc();
     match request {
-        Request::Demonstration => try_program(
-            rt,
-            rt.alloc(),
-            image_of(rt.alloc(), &EXIT_FIVE)?,
-            out,
-            err,
-        ),
-        Request::Try { elf } => try_program(rt, rt.alloc(), image_in(rt, elf)?, out, err),
+        Request::Demonstration => demonstrate(rt, alloc, out, err),
+        Request::New { store } => make_store(rt, store),
+        Request::Record(recording) => record(rt, &recording, terminals, out, err),
+        Request::List { store } => list(alloc, open_store(rt, store)?, out),
+        Request::Dump { guest } => dump(alloc, open_store(rt, guest.store)?, guest.number, out),
+        Request::Verify { guest, progress } => {
+            let verified = guest_verified(rt, guest, progress || terminals.err, err)?;
+            tell(alloc, &verified, out)
+        }
+        Request::Replay {
+            guest,
+            at,
+            progress,
+        } => {
+            let verified = guest_verified(rt, guest, progress || terminals.err, err)?;
+            match at {
+                Some(place) => show_back(alloc, &verified, place, 0, out),
+                None => put_out(rt, alloc, &verified, out, err),
+            }
+        }
+        Request::Back { guest, from, count } => {
+            let verified = guest_verified(rt, guest, false, err)?;
+            show_back(alloc, &verified, from, count, out)
+        }
+        Request::Last {
+            guest,
+            from,
+            address,
+        } => {
+            let verified = guest_verified(rt, guest, false, err)?;
+            show_last(alloc, &verified, from, address, out)
+        }
     }
 }
 
-/// Records a program, replays what was recorded, and prints the output, the records and the end.
-fn try_program<R: Threads + Wait + Sync, O: Write, E: Write>(
+/// A guest's recording in a store in a file, verified. The store is closed again. How far it is goes to `err`, where `is_shown` says so.
+fn guest_verified<R: Files<File = File> + AllocGlobal + Clock, E: Write + Drop>(
+    rt: &R,
+    guest: GuestOf<'_>,
+    is_shown: bool,
+    err: &mut E,
+) -> Result<Verified, Refusal> {
+    let store = open_store(rt, guest.store)?;
+    verified_in(rt, rt.alloc(), store, guest.number, is_shown, err)
+}
+
+/// Records a small program, replays what was recorded, and prints the output, the records and the end.
+fn demonstrate<R: Threads + Wait + Sync, O: Write, E: Write>(
     rt: &R,
     alloc: Global,
-    image: Image,
     out: &mut O,
     err: &mut E,
 ) -> Result<(), Refusal> {
+    let image = image_of(alloc, 0, &EXIT_FIVE)?;
     let trial = try_image(rt, alloc, image, NAME, [0; 16], QUANTUM).map_err(
         |refusal| refusal.of_trial(),
     )?;

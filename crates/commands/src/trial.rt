@@ -12,7 +12,7 @@ ghost use Rattle.replayer.specs.Puts.{PutsAll};
 ghost use Rattle.replayer.specs.Verified.{Keeps};
 ghost use Rattle.commands.specs.Tried.{RefusesTrial, report_of};
 
-use crate::recording::record_image;
+use crate::demonstration::record_image;
 use crate::refusal::Refusal;
 use elf_load::image::Image;
 use guest_calls::Guest;

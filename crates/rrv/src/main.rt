@@ -1,7 +1,8 @@
 //! `rrv`: records RISC-V programs and replays them.
 #![tactic(auto)]
 
-use commands::{report_unread, run};
+use commands::{Terminals, report_unread, run_on};
+use std::io::IsTerminal;
 use std::process::ExitCode;
 use std::{env, io};
 
@@ -18,5 +19,9 @@ fn main(rt: HostRuntime) -> ExitCode {
         Ok(words) => words,
         Err(error) => return ExitCode::from(report_unread(&error, &mut err)),
     };
-    ExitCode::from(run(&rt, words.as_slice(), &mut out, &mut err))
+    let terminals = Terminals {
+        out: out.is_terminal(),
+        err: err.is_terminal(),
+    };
+    ExitCode::from(run_on(&rt, words.as_slice(), terminals, &mut out, &mut err))
 }

@@ -1,7 +1,7 @@
 use Rattle.std.proofs.Common.{◌≡◌, ◌∙◌, refl, sym, subst}
 use Rattle.clap.specs.declared.error.kind.ErrorKind.{ErrorKind}
-use Rattle.commands.proofs.Words.{mistake_status}
-use Rattle.commands.specs.Request.{status_of}
+use Rattle.commands.proofs.Statuses.{mistake_status}
+use Rattle.commands.specs.Status.{status_of}
 use Rattle.commands.proofs.running.report.Goals as goal
 
 pub returns-in_default : goal.returns-in_default

@@ -1,0 +1,14 @@
+use Rattle.std.proofs.Common.{arith}
+use Rattle.rrv_model.specs.Recovered.{of_guest}
+use Rattle.commands.proofs.Summaries.{summary_on}
+use Rattle.commands.proofs.guests.summary_of.Goals as goal
+
+pub loop-index-preserved : goal.loop-index-preserved
+loop-index-preserved g c =
+    let before = c.loop-index.invariant in
+    let adds = c.with-summary.ensures in (
+      before.0,
+      summary_on (of_guest c.args.guest c.args.lists.now) c.loop-index.index c.in_ok-entry.entry _ _ _ _ _ _ c.in_ok-entry.ensures.record before.1 adds.adds,
+      omega (arith, before.2, adds.frames),
+      omega (arith, before.3, adds.instructions),
+    )

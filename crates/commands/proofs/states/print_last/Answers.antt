@@ -1,0 +1,36 @@
+use Rattle.std.proofs.Common.{◌≡◌, List, ℕ, Option, subst, ◌∙◌}
+use Rattle.std.specs.Prelude.{IfSome, OnOk}
+use Rattle.std.specs.Io.KnownBytes.{Appends}
+use Rattle.replayer.specs.Verified.{VerifiedValue}
+use Rattle.reverse_step.specs.Changes.{IsLastChange}
+use Rattle.commands.specs.Printed.{IsStateText}
+use Rattle.commands.proofs.Texts.{change_printed, unchanged_printed}
+use Rattle.commands.proofs.states.print_last.Goals as goal
+
+-- the last change, told of another cursor's recording and place
+last_change : (v v' : VerifiedValue) (address from from' : ℕ) (found found' : Option ℕ) → v ≡ v' → from ≡ from' → found ≡ found'
+    → IsLastChange v.opening v.frames address from found → IsLastChange v'.opening v'.frames address from' found'
+last_change v v' address from from' found found' same place is change =
+    subst (λ (o : Option ℕ). IsLastChange v'.opening v'.frames address from' o) is
+    (subst (λ (n : ℕ). IsLastChange v'.opening v'.frames address n found) place
+    (subst (λ (x : VerifiedValue). IsLastChange x.opening x.frames address from found) same change))
+
+pub returns-in-Some-clause-printed : goal.returns-in-Some-clause-printed
+returns-in-Some-clause-printed g c =
+    let v = c.args.verified.now in
+    let made = c.in_ok-cursor.ensures in
+    let moved = c.in_ok-last_change.ensures in
+    let new = c.last_change.new.self in
+    let contents = g.W.Write.contents in
+    change_printed c.print_state.result v.opening v.frames c.args.address c.args.from c.in-Some.field-0 new.place _ _
+    (last_change _ v c.args.address _ _ _ _ made.verified made.at c.in-Some.is moved.change)
+    (subst (λ (o : Option ℕ). IfSome o (λ t. new.place ≡ t)) c.in-Some.is moved.at)
+    (subst (λ (x : VerifiedValue). OnOk c.print_state.result ((text : List ℕ) × IsStateText x.opening x.frames new.place text × Appends (contents c.args.out.now) (contents c.print_state.new.out) text))
+    (moved.verified ∙ made.verified) c.print_state.ensures.printed)
+
+pub returns-clause-printed : goal.returns-clause-printed
+returns-clause-printed g c =
+    let v = c.args.verified.now in
+    let made = c.in_ok-cursor.ensures in
+    unchanged_printed c.print_line.result v.opening v.frames c.args.address c.args.from _ _
+    (last_change _ v c.args.address _ _ _ _ made.verified made.at c.in-None.is c.in_ok-last_change.ensures.change) c.print_line.ensures.printed

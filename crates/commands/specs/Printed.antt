@@ -1,0 +1,80 @@
+-- What the lines print of stores and of guests.
+use Rattle.std.specs.Prelude.{◌≡◌, ◌↔◌, ℕ, ◌+◌, ◌≤◌, List, [], ◌∷◌, ◌++◌, Option, Some, None, length, flat_map, codes, Contains}
+use Rattle.std.specs.Fmt.{decimal}
+use Rattle.std.specs.List.Sorted.{IsStrictlyIncreasing}
+use Rattle.rrv_model.specs.declared.record.Frame.{Frame}
+use Rattle.rrv_model.specs.declared.record.Item.{Item}
+use Rattle.rrv_model.specs.declared.record.Item.TheVariants as items
+use Rattle.rrv_model.specs.declared.record.Opening.{Opening}
+use Rattle.rrv_model.specs.declared.record.Record.{Record}
+use Rattle.rrv_model.specs.Recording.{frames_of, items_of}
+use Rattle.rrv_model.specs.Recovered.{of_guest}
+use Rattle.rrv_model.specs.State.{State}
+use Rattle.rrv_model.specs.StateAt.{StateAt, total}
+use Rattle.session.specs.declared.report.GuestReport.{GuestReport}
+use Rattle.trace_text.specs.Lines.{list_line, record_line, report_line}
+use Rattle.trace_text.specs.States.{state_lines}
+
+-- a text, and a newline
+abbrev pub with_newline : List ℕ → List ℕ
+with_newline text = text ++ 10 ∷ []
+
+-- the name in the last opening among the items, of which a guest has one; else this one
+abbrev pub name_in : List ℕ → List Item → List ℕ
+name_in name [] = name
+name_in name (items.Opening o ∷ rest) = name_in o.name rest
+name_in name (items.Frame f ∷ rest) = name_in name rest
+name_in name (items.Part p ∷ rest) = name_in name rest
+
+-- what is listed of a guest with these records: its name, how many frames there are, and how many instructions these ran
+pub record IsSummary (records : List Record) (name : List ℕ) (frames instructions : ℕ) : Type 0 where
+  pub name_is : name ≡ name_in [] (items_of records)
+  pub frames_are : frames ≡ length (frames_of (items_of records))
+  pub instructions_are : instructions ≡ total (frames_of (items_of records))
+
+-- an item changes the name, the number of frames and that of instructions so
+abbrev pub AddsItem : (name : List ℕ) → (frames instructions : ℕ) → Item → (name' : List ℕ) → (frames' instructions' : ℕ) → Type 0
+AddsItem name frames instructions (items.Opening o) name' frames' instructions' =
+    (name' ≡ o.name) × (frames' ≡ frames) × (instructions' ≡ instructions)
+AddsItem name frames instructions (items.Frame f) name' frames' instructions' =
+    (name' ≡ name) × (frames' ≡ frames + 1) × (instructions' ≡ instructions + f.count)
+AddsItem name frames instructions (items.Part p) name' frames' instructions' =
+    (name' ≡ name) × (frames' ≡ frames) × (instructions' ≡ instructions)
+
+-- the line of a guest with these records
+abbrev pub guest_line : ℕ → List Record → List ℕ
+guest_line guest records =
+    list_line guest (name_in [] (items_of records)) (length records)
+    (length (frames_of (items_of records))) (total (frames_of (items_of records)))
+
+-- the name of the guest at a place of the line
+abbrev pub name_at : ℕ → List ℕ
+name_at place = codes "g" ++ decimal place
+
+-- the lines of all guests with records among these, by rising number
+pub record IsList (records : List Record) (text : List ℕ) : Type 0 where
+  pub guests : List ℕ
+  pub rising : IsStrictlyIncreasing guests
+  pub each : (guest : ℕ) → Contains guests guest ↔ (1 ≤ length (of_guest guest records))
+  pub text_is : text ≡ flat_map (λ guest. with_newline (guest_line guest (of_guest guest records))) guests
+
+-- the lines of records
+abbrev pub dump_lines : List Record → List ℕ
+dump_lines records = flat_map (λ r. with_newline (record_line r)) records
+
+-- the lines of the state at a place of a recording
+pub record IsStateText (o : Opening) (frames : List Frame) (place : ℕ) (text : List ℕ) : Type 0 where
+  pub state : State
+  pub is_at : StateAt o frames place state
+  pub text_is : text ≡ state_lines place (total frames) state
+
+-- what is printed of a place that was found, or not
+abbrev pub IsFoundText : Opening → List Frame → Option ℕ → List ℕ → Type 0
+IsFoundText o frames None text = text ≡ with_newline (codes "unchanged")
+IsFoundText o frames (Some place) text = IsStateText o frames place text
+
+-- the lines that report how guests ended, from the one at this place of the line on
+abbrev pub report_lines : ℕ → List GuestReport → List ℕ
+report_lines place [] = []
+report_lines place (report ∷ reports) =
+    with_newline (report_line (name_at place) report.end report.records) ++ report_lines (place + 1) reports

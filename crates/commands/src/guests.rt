@@ -1,0 +1,160 @@
+//! The list of a store's guests, and of a guest's records.
+
+ghost use Rattle.std.specs.Prelude.{◌≡◌, ◌+◌, ◌-◌, ◌^◌, ◌<◌, ◌≤◌, IfErr, IfOk, List, OnOk, length, ℕ};
+ghost use Rattle.std.specs.Io.KnownBytes.{Appends};
+ghost use Rattle.rrv_model.specs.Recovered.{of_guest};
+ghost use Rattle.commands.specs.Printed.{AddsItem, IsList, IsSummary, dump_lines, guest_line, with_newline};
+ghost use Rattle.commands.specs.Stores.{RefusesDump, RefusesPrint};
+
+use crate::printing::{finish, in_blocks, print_line};
+use crate::refusal::Refusal;
+use crate::store::{Store, guest_in, record_in};
+use recover::Lists;
+use rrv_model::record::{Item, Record};
+use std::alloc::Global;
+use std::io::Write;
+use trace_disk::Disk;
+use trace_text::{ListLine, RecordLine};
+
+/// What is listed of a guest.
+#[derive(Drop)]
+struct Summary {
+    name: Vec<u8>,
+    frames: u64,
+    instructions: u64,
+}
+
+impl Summary {
+    /// With a record more.
+    fn with(self, entry: Record) -> Summary
+        requires frames { self.frames < 2 ^ 32 }
+        requires instructions { self.instructions < 2 ^ 64 - 2 ^ 32 }
+        ensures adds { AddsItem self.name.items self.frames self.instructions entry.item
+            result.name.items result.frames result.instructions }
+        ensures frames { result.frames ≤ self.frames + 1 }
+        ensures instructions { result.instructions ≤ self.instructions + 2 ^ 32 }
+    {
+        match entry.item {
+            Item::Opening(opening) => Summary {
+                name: opening.name.into_vec(),
+                ..self
+            },
+            Item::Frame(frame) => Summary {
+                frames: self.frames + 1,
+                instructions: self.instructions + u64::from(frame.count),
+                ..self
+            },
+            Item::Part(_) => self,
+        }
+    }
+}
+
+/// The summary of a guest. One record of it is held at a time.
+fn summary_of<D: Disk>(
+    alloc: Global,
+    lists: &Lists,
+    disk: &mut D,
+    guest: u32,
+) -> Result<Summary, Refusal>
+    ensures summary { IfOk result (λ s.
+        IsSummary (of_guest guest lists.now) s.name.items s.frames s.instructions) }
+    ensures refused { IfErr result (λ e. e ≡ Refusal.Memory) }
+{
+    let mut summary = Summary {
+        name: Vec::new(alloc),
+        frames: 0,
+        instructions: 0,
+    };
+    for index in 0..lists.len(guest) {
+        let entry = record_in(alloc, lists, disk, guest, index)?;
+        summary = summary.with(entry);
+    }
+    Ok(summary)
+}
+
+/// Prints a guest's line.
+fn print_guest<D: Disk, W: Write>(
+    alloc: Global,
+    lists: &Lists,
+    disk: &mut D,
+    guest: u32,
+    out: &mut W,
+) -> Result<(), Refusal>
+    ensures printed { OnOk result (Appends (W.contents out.old) (W.contents out.new)
+        (with_newline (guest_line guest (of_guest guest lists.now)))) }
+    ensures refused { IfErr result RefusesPrint }
+{
+    let summary = summary_of(alloc, lists, disk, guest)?;
+    let records = u64::from(lists.len(guest));
+    let line = ListLine::new(
+        guest,
+        summary.name.as_slice(),
+        records,
+        summary.frames,
+        summary.instructions,
+    );
+    print_line(out, &line)
+}
+
+/// Prints a line for each guest, by rising number.
+fn print_guests<D: Disk, W: Write>(
+    alloc: Global,
+    lists: &Lists,
+    disk: &mut D,
+    out: &mut W,
+) -> Result<(), Refusal>
+    ensures printed { OnOk result ((text : List ℕ) × IsList lists.now text
+        × Appends (W.contents out.old) (W.contents out.new) text) }
+    ensures refused { IfErr result RefusesPrint }
+{
+    for guest in lists.guests() {
+        print_guest(alloc, lists, disk, *guest, out)?;
+    }
+    Ok(())
+}
+
+/// Prints a line for each record of the guest of this number. One record is held at a time.
+fn print_records<D: Disk, W: Write>(
+    alloc: Global,
+    lists: &Lists,
+    disk: &mut D,
+    number: u64,
+    out: &mut W,
+) -> Result<(), Refusal>
+    ensures printed { OnOk result (Appends (W.contents out.old) (W.contents out.new)
+        (dump_lines (of_guest number lists.now))) }
+    ensures some { OnOk result (1 ≤ length (of_guest number lists.now)) }
+    ensures refused { IfErr result (λ e. RefusesDump e (of_guest number lists.now)) }
+{
+    let guest = guest_in(lists, number)?;
+    for index in 0..lists.len(guest) {
+        let entry = record_in(alloc, lists, disk, guest, index)?;
+        print_line(out, &RecordLine::new(&entry))?;
+    }
+    Ok(())
+}
+
+/// Prints the list of a store's guests in blocks.
+pub(crate) fn list<D: Disk + Drop, O: Write>(
+    alloc: Global,
+    store: Store<D>,
+    out: &mut O,
+) -> Result<(), Refusal> {
+    let Store { lists, mut disk } = store;
+    let mut out = in_blocks(alloc, out)?;
+    print_guests(alloc, &lists, &mut disk, &mut out)?;
+    finish(&mut out)
+}
+
+/// Prints the records of a guest in blocks.
+pub(crate) fn dump<D: Disk + Drop, O: Write>(
+    alloc: Global,
+    store: Store<D>,
+    number: u64,
+    out: &mut O,
+) -> Result<(), Refusal> {
+    let Store { lists, mut disk } = store;
+    let mut out = in_blocks(alloc, out)?;
+    print_records(alloc, &lists, &mut disk, number, &mut out)?;
+    finish(&mut out)
+}

@@ -1,0 +1,86 @@
+//! The jobs of a recording: one for each program of the line.
+
+ghost use Rattle.std.specs.Prelude.{◌≡◌, ◌≢◌, ◌^◌, ◌≤◌, IfErr, IfOk, length};
+ghost use Rattle.serial_sched.specs.Slices.{IsQuantum};
+ghost use Rattle.commands.specs.Jobs.{AreJobs, IsJob, terms_of};
+ghost use Rattle.commands.specs.Printed.{name_at};
+ghost use Rattle.commands.specs.Told.{session_told};
+
+use crate::refusal::Refusal;
+use elf_load::image::Image;
+use host::{Machine, StreamSink, Streams, opening_random};
+use serial_sched::RoundRobin;
+use session::{Job, SessionFault};
+use std::alloc::Global;
+use std::io::Write;
+use std::sync::Mutex;
+use std::time::{Clock, Instant};
+
+/// A guest whose threads take turns, with the host as its environment, and whose output goes to the two streams.
+pub(crate) type HostJob<'a, 's, R, O, E> = Job<RoundRobin, Machine<'a, R>, StreamSink<'s, O, E>>;
+
+/// What the guests of a recording share, beside the streams.
+#[derive(Drop)]
+pub(crate) struct Shared<'a, R: Clock> {
+    pub(crate) rt: &'a R,
+    pub(crate) start: Instant,
+    pub(crate) input: &'a [u8],
+    pub(crate) seed: [u8; 16],
+    pub(crate) quantum: u32,
+    pub(crate) every: u32,
+    ghost fits: { IsQuantum quantum },
+}
+
+/// The name of the guest at this place of the line: `g`, and the place in decimal.
+pub(crate) fn name_of(alloc: Global, place: usize) -> Result<Vec<u8>, Refusal>
+    ensures name { IfOk result (λ name. name.items ≡ name_at place) }
+    ensures refused { IfErr result (λ e. e ≡ Refusal.Memory) }
+{
+    let name = format!(in alloc; "g{place}")?;
+    Ok(name.into_bytes())
+}
+
+/// The job of the guest at this place of the line.
+fn job_of<'a, 's, R: Clock, O: Write + Drop, E: Write + Drop>(
+    alloc: Global,
+    shared: &Shared<'a, R>,
+    streams: &'s Mutex<Streams<O, E>>,
+    place: u32,
+    image: Image,
+) -> Result<HostJob<'a, 's, R, O, E>, Refusal>
+    ensures job { IfOk result (λ job. IsJob (terms_of shared.now.input.now shared.now.seed shared.now.quantum
+        shared.now.every) place image job) }
+    ensures refused { IfErr result (λ e. e ≡ Refusal.Memory) }
+{
+    Ok(Job {
+        elf: image.into_file(),
+        name: name_of(alloc, place as usize)?,
+        random: opening_random(&shared.seed, place),
+        every: shared.every,
+        chooser: RoundRobin::new(shared.quantum),
+        outside: Machine::new(shared.rt, shared.start, shared.input, &shared.seed, place),
+        sink: StreamSink::new(streams),
+    })
+}
+
+/// The jobs of the programs, in the order of the line.
+pub(crate) fn jobs_of<'a, 's, R: Clock, O: Write + Drop, E: Write + Drop>(
+    alloc: Global,
+    shared: &Shared<'a, R>,
+    streams: &'s Mutex<Streams<O, E>>,
+    images: Vec<Image>,
+) -> Result<Vec<HostJob<'a, 's, R, O, E>>, Refusal>
+    ensures jobs { IfOk result (λ jobs. AreJobs (terms_of shared.now.input.now shared.now.seed shared.now.quantum
+        shared.now.every) 0 images.items jobs.items) }
+    ensures refused { IfErr result (λ e. e ≢ Refusal.Memory
+        → (e ≡ session_told SessionFault.TooManyGuests) × (2 ^ 32 ≤ length images.items)) }
+{
+    let mut jobs = Vec::new(alloc);
+    for image in images {
+        let Ok(place) = u32::try_from(jobs.len()) else {
+            return Err(Refusal::from(SessionFault::TooManyGuests));
+        };
+        jobs.push(job_of(alloc, shared, streams, place, image)?)?;
+    }
+    Ok(jobs)
+}

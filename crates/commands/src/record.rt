@@ -1,0 +1,124 @@
+//! The recording of programs.
+
+ghost use Rattle.std.specs.Prelude.{◌≡◌, IfErr, OnOk, false};
+ghost use Rattle.std.specs.Io.KnownBytes.{Appends};
+ghost use Rattle.serial_sched.specs.Slices.{IsQuantum};
+ghost use Rattle.commands.specs.Printed.{report_lines};
+ghost use Rattle.commands.specs.Stores.{RefusesPrint};
+
+use crate::files::{images_in, input_in};
+use crate::jobs::{Shared, jobs_of, name_of};
+use crate::printing::{finish, in_blocks, print_line};
+use crate::refusal::Refusal;
+use crate::store::open_log;
+use crate::terminals::Terminals;
+use command_line::{Recording, seed};
+use elf_load::image::Image;
+use host::Streams;
+use progress::{Clearing, RecordProgress};
+use session::{GuestReport, SessionReport, record_all};
+use std::alloc::Global;
+use std::fs::File;
+use std::io::Write;
+use std::rt::Files;
+use std::sync::atomic::AtomicBool;
+use std::sync::{Mutex, Wait};
+use std::thread::Threads;
+use std::time::{Clock, Instant};
+use trace_disk::FileDisk;
+use trace_log::Log;
+use trace_text::ReportLine;
+
+/// The seed that a line gives, or zeros.
+fn seed_of(text: Option<&str>) -> Result<[u8; 16], Refusal> {
+    match text {
+        Some(text) => Ok(seed(text)?),
+        None => Ok([0; 16]),
+    }
+}
+
+/// Records programs to a store, and prints how each guest ended. Output is printed once it is durable.
+pub(crate) fn record<
+    R: Files<File = File> + AllocGlobal + Threads + Wait + Sync + Clock,
+    O: Write + Drop + Send,
+    E: Write + Drop + Send,
+>(
+    rt: &R,
+    recording: &Recording<'_>,
+    terminals: Terminals,
+    out: &mut O,
+    err: &mut E,
+) -> Result<(), Refusal>
+    requires { IsQuantum recording.now.quantum }
+{
+    let start = Instant::now(rt).map_err(|_| Refusal::NoClock)?;
+    let seed = seed_of(recording.seed)?;
+    let log = open_log(rt, recording.store)?;
+    let input = input_in(rt, recording.input)?;
+    let images = images_in(rt, &recording.files)?;
+    let shared = Shared {
+        rt,
+        start,
+        input: &input,
+        seed,
+        quantum: recording.quantum,
+        every: recording.every,
+    };
+    let line = AtomicBool::new(false);
+    let is_on = recording.progress || terminals.err;
+    let output = Clearing::new(out, &line, terminals.out);
+    let errors = Clearing::new(&mut *err, &line, true);
+    let result = record_images(rt, log, &shared, images, output, errors, &line, is_on);
+    Clearing::new(&mut *err, &line, true).clear();
+    tell(rt.alloc(), &result?, err)
+}
+
+/// Records programs to a log, each as a guest. What they put out goes to the two streams. How far it is goes to the errors', where
+/// `is_on` says so, and `line` says whether it is shown.
+fn record_images<
+    R: AllocGlobal + Threads + Wait + Sync + Clock,
+    O: Write + Drop + Send,
+    E: Write + Drop + Send,
+>(
+    rt: &R,
+    log: Log<FileDisk>,
+    shared: &Shared<'_, R>,
+    images: Vec<Image>,
+    out: O,
+    err: E,
+    line: &AtomicBool,
+    is_on: bool,
+) -> Result<SessionReport, Refusal>
+    requires { log.is_broken ≡ false }
+{
+    let streams = Mutex::new(Streams::new(out, err));
+    let jobs = jobs_of(rt.alloc(), shared, &streams, images)?;
+    let gate = RecordProgress::new(rt, &streams, line, is_on);
+    let (_log, _jobs, result) = record_all(rt, rt.alloc(), log, jobs, &gate);
+    Ok(result?)
+}
+
+/// Prints how each guest ended, in the order of the line.
+fn print_reports<W: Write>(
+    alloc: Global,
+    reports: &[GuestReport],
+    out: &mut W,
+) -> Result<(), Refusal>
+    ensures printed { OnOk result (Appends (W.contents out.old) (W.contents out.new) (report_lines 0 reports.now)) }
+    ensures refused { IfErr result RefusesPrint }
+{
+    for place in 0..reports.len() {
+        let report = &reports[place];
+        let name = name_of(alloc, place)?;
+        let line = ReportLine::new(name.as_slice(), report.end, u64::from(report.records));
+        print_line(out, &line)?;
+    }
+    Ok(())
+}
+
+/// Prints the same in blocks.
+fn tell<E: Write>(alloc: Global, report: &SessionReport, err: &mut E) -> Result<(), Refusal> {
+    let mut err = in_blocks(alloc, err)?;
+    print_reports(alloc, &report.guests, &mut err)?;
+    finish(&mut err)
+}

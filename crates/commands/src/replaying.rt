@@ -1,0 +1,91 @@
+//! A verified recording, told and put out again.
+
+ghost use Rattle.std.specs.Prelude.{◌≡◌, [], IfErr, OnOk};
+ghost use Rattle.std.specs.Io.KnownBytes.{Appends};
+ghost use Rattle.rrv_model.specs.State.{State};
+ghost use Rattle.rrv_model.specs.StateAt.{StateAt, total};
+ghost use Rattle.trace_text.specs.Lines.{verify_line};
+ghost use Rattle.commands.specs.Printed.{with_newline};
+ghost use Rattle.commands.specs.Stores.{RefusesPrint};
+
+use crate::printing::{finish, in_blocks, print_line, print_put};
+use crate::refusal::Refusal;
+use replayer::Verified;
+use rrv_model::sink::{Sink, SinkError};
+use std::alloc::Global;
+use std::io::Write;
+use std::sync::Wait;
+use trace_text::VerifyLine;
+
+/// Prints how many records and instructions a recording has, and how it ends.
+fn print_verified<W: Write>(alloc: Global, verified: &Verified, out: &mut W) -> Result<(), Refusal>
+    ensures printed { OnOk result ((last : State)
+        × StateAt verified.now.opening verified.now.frames (total verified.now.frames) last
+        × Appends (W.contents out.old) (W.contents out.new)
+        (with_newline (verify_line verified.now.len (total verified.now.frames) last.ended))) }
+    ensures refused { IfErr result RefusesPrint }
+{
+    let total = verified.total();
+    let last = verified.state_at(alloc, total)?;
+    let line = VerifyLine::new(verified.len() as u64, total, last.ended());
+    print_line(out, &line)
+}
+
+/// Prints the same in blocks.
+pub(crate) fn tell<O: Write>(
+    alloc: Global,
+    verified: &Verified,
+    out: &mut O,
+) -> Result<(), Refusal> {
+    let mut out = in_blocks(alloc, out)?;
+    print_verified(alloc, verified, &mut out)?;
+    finish(&mut out)
+}
+
+/// Where the output of a replay goes.
+#[derive(Drop)]
+struct Printed<O: Write + Drop, E: Write + Drop> {
+    out: O,
+    err: E,
+    failures: u64,
+}
+
+/// A put is written whole. At an `Err` a part of it may be.
+impl<O: Write + Drop, E: Write + Drop> Sink for Printed<O, E> {
+    ghost tells = { λ _. ⊥ };
+
+    ghost taken = { λ _. [] };
+
+    ghost faults = { λ s. s.failures };
+
+    fn put(&mut self, _rt: &impl Wait, descriptor: u32, bytes: &[u8]) -> Result<usize, SinkError> {
+        match print_put(descriptor, bytes, &mut self.out, &mut self.err) {
+            Ok(()) => Ok(bytes.len()),
+            Err(_) => {
+                self.failures = self.failures.saturating_add(1);
+                Err(SinkError)
+            }
+        }
+    }
+
+    fn failures(&self) -> u64 {
+        self.failures
+    }
+}
+
+/// Puts the output of a recording out again.
+pub(crate) fn put_out<R: Wait, O: Write, E: Write>(
+    rt: &R,
+    alloc: Global,
+    verified: &Verified,
+    out: &mut O,
+    err: &mut E,
+) -> Result<(), Refusal> {
+    let mut sink = Printed {
+        out: in_blocks(alloc, out)?,
+        err,
+        failures: 0,
+    };
+    verified.output(alloc, rt, &mut sink)?;
+    finish(&mut sink.out)
+}

@@ -1,0 +1,123 @@
+//! The state at a place of a verified recording.
+
+ghost use Rattle.std.specs.Prelude.{◌≡◌, ◌+◌, ◌≤◌, IfErr, IfOk, List, OnOk, Option, ℕ};
+ghost use Rattle.std.specs.Io.KnownBytes.{Appends};
+ghost use Rattle.rrv_model.specs.StateAt.{total};
+ghost use Rattle.reverse_step.specs.Changes.{IsLastChange};
+ghost use Rattle.commands.specs.Printed.{IsFoundText, IsStateText};
+ghost use Rattle.commands.specs.Stores.{RefusesPlace};
+
+use crate::printing::{finish, in_blocks, print_line, print_text};
+use crate::refusal::Refusal;
+use replayer::Verified;
+use reverse_step::Cursor;
+use std::alloc::Global;
+use std::io::Write;
+use trace_text::StateLines;
+
+/// A cursor at a place.
+fn cursor_at<'a>(alloc: Global, verified: &'a Verified, place: u64) -> Result<Cursor<'a>, Refusal>
+    ensures verified { IfOk result (λ cursor. cursor.verified ≡ verified.now) }
+    ensures at { IfOk result (λ cursor. cursor.place ≡ place) }
+    ensures within { OnOk result (place ≤ total verified.now.frames) }
+    ensures refused { IfErr result (λ e. RefusesPlace e (total verified.now.frames) place 0) }
+{
+    let mut cursor = Cursor::new(alloc, verified)?;
+    cursor.seek(alloc, place)?;
+    Ok(cursor)
+}
+
+/// A cursor at so many instructions before a place.
+fn cursor_back<'a>(
+    alloc: Global,
+    verified: &'a Verified,
+    from: u64,
+    count: u64,
+) -> Result<Cursor<'a>, Refusal>
+    ensures verified { IfOk result (λ cursor. cursor.verified ≡ verified.now) }
+    ensures at { IfOk result (λ cursor. cursor.place + count ≡ from) }
+    ensures within { OnOk result (from ≤ total verified.now.frames) }
+    ensures refused { IfErr result (λ e. RefusesPlace e (total verified.now.frames) from count) }
+{
+    let mut cursor = cursor_at(alloc, verified, from)?;
+    cursor.back(alloc, count)?;
+    Ok(cursor)
+}
+
+/// Prints the state at a cursor's place.
+fn print_state<W: Write>(cursor: &Cursor<'_>, steps: u64, out: &mut W) -> Result<(), Refusal>
+    requires { steps ≡ total cursor.now.verified.frames }
+    ensures printed { OnOk result ((text : List ℕ)
+        × IsStateText cursor.now.verified.opening cursor.now.verified.frames cursor.now.place text
+        × Appends (W.contents out.old) (W.contents out.new) text) }
+    ensures refused { IfErr result (λ e. e ≡ Refusal.OutputFailed) }
+{
+    let lines = StateLines::new(cursor.guest(), cursor.place(), steps);
+    print_text(out, &lines)
+}
+
+/// Prints the state so many instructions before a place.
+fn print_back<W: Write>(
+    alloc: Global,
+    verified: &Verified,
+    from: u64,
+    count: u64,
+    out: &mut W,
+) -> Result<(), Refusal>
+    ensures printed { OnOk result ((place : ℕ) × (place + count ≡ from) × (text : List ℕ)
+        × IsStateText verified.now.opening verified.now.frames place text
+        × Appends (W.contents out.old) (W.contents out.new) text) }
+    ensures within { OnOk result (from ≤ total verified.now.frames) }
+    ensures refused { IfErr result (λ e. RefusesPlace e (total verified.now.frames) from count) }
+{
+    let cursor = cursor_back(alloc, verified, from, count)?;
+    print_state(&cursor, verified.total(), out)
+}
+
+/// Prints the state before the last change, below a place, of the byte at an address, or that there is none.
+fn print_last<W: Write>(
+    alloc: Global,
+    verified: &Verified,
+    from: u64,
+    address: u32,
+    out: &mut W,
+) -> Result<(), Refusal>
+    ensures printed { OnOk result ((found : Option ℕ) × (text : List ℕ)
+        × IsLastChange verified.now.opening verified.now.frames address from found
+        × IsFoundText verified.now.opening verified.now.frames found text
+        × Appends (W.contents out.old) (W.contents out.new) text) }
+    ensures within { OnOk result (from ≤ total verified.now.frames) }
+    ensures refused { IfErr result (λ e. RefusesPlace e (total verified.now.frames) from 0) }
+{
+    let mut cursor = cursor_at(alloc, verified, from)?;
+    match cursor.last_change(alloc, address)? {
+        Some(_) => print_state(&cursor, verified.total(), out),
+        None => print_line(out, &"unchanged"),
+    }
+}
+
+/// Prints the state so many instructions before a place, in blocks.
+pub(crate) fn show_back<O: Write>(
+    alloc: Global,
+    verified: &Verified,
+    from: u64,
+    count: u64,
+    out: &mut O,
+) -> Result<(), Refusal> {
+    let mut out = in_blocks(alloc, out)?;
+    print_back(alloc, verified, from, count, &mut out)?;
+    finish(&mut out)
+}
+
+/// Prints the state before the last change of a byte, in blocks.
+pub(crate) fn show_last<O: Write>(
+    alloc: Global,
+    verified: &Verified,
+    from: u64,
+    address: u32,
+    out: &mut O,
+) -> Result<(), Refusal> {
+    let mut out = in_blocks(alloc, out)?;
+    print_last(alloc, verified, from, address, &mut out)?;
+    finish(&mut out)
+}

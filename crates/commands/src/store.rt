@@ -1,0 +1,122 @@
+//! Stores in files, and the guests that they hold.
+
+ghost use Rattle.std.specs.Prelude.{◌≡◌, ◌<◌, ◌≤◌, [], IfErr, IfOk, List, OnOk, Some, false, length, slice_get, ℕ};
+ghost use Rattle.rrv_model.specs.Recovered.{IsRecovered, of_guest};
+ghost use Rattle.rrv_model.specs.StoreText.{IsStore};
+ghost use Rattle.rrv_model.specs.declared.record.Record.{Record};
+ghost use Rattle.recover.specs.Opened.{IsOpened, IsReady};
+ghost use Rattle.commands.specs.Stores.{IsFailed, RefusesRead, RefusesStore};
+
+use crate::refusal::Refusal;
+use recover::{Lists, open};
+use replayer::{ReadGuestFault, read_guest};
+use rrv_model::record::Record;
+use std::alloc::Global;
+use std::fs::File;
+use std::rt::Files;
+use trace_disk::{Disk, FileDisk};
+use trace_log::Log;
+
+/// A store that is only read: what it holds, and where.
+#[derive(Drop)]
+pub(crate) struct Store<D: Disk> {
+    pub(crate) lists: Lists,
+    pub(crate) disk: D,
+}
+
+/// Makes an empty store in a new file.
+pub(crate) fn make_store<R: Files<File = File>>(rt: &R, path: &str) -> Result<(), Refusal> {
+    let disk = FileDisk::create(rt, path)?;
+    match Log::create(disk) {
+        Ok(_) => Ok(()),
+        Err(_) => Err(Refusal::DeviceFailed),
+    }
+}
+
+/// Opens a store, which repairs it: its log, and what it holds.
+pub(crate) fn opened<D: Disk + Drop>(alloc: Global, disk: D) -> Result<(Log<D>, Lists), Refusal>
+    ensures opened { D.honest disk
+        → IfOk result (λ opened. IsOpened D.state (D.state disk).content opened.0 opened.1) }
+    ensures ready { IfOk result (λ opened. IsReady opened.0 opened.1) }
+    ensures refused { D.honest disk → IfErr result (RefusesStore (D.state disk).content) }
+    ensures sound { (bodies : List (List ℕ)) (records : List Record) → D.honest disk
+        → IsStore (D.state disk).content bodies → IsRecovered bodies records → IfErr result IsFailed }
+{
+    match open(alloc, disk) {
+        Ok(opened) => Ok(opened),
+        Err((_, fault)) => Err(Refusal::from(fault)),
+    }
+}
+
+/// Opens the store in a file to write it.
+pub(crate) fn open_log<R: Files<File = File> + AllocGlobal>(
+    rt: &R,
+    path: &str,
+) -> Result<Log<FileDisk>, Refusal>
+    ensures whole { IfOk result (λ log. log.is_broken ≡ false) }
+{
+    let disk = FileDisk::open(rt, path)?;
+    let (log, _) = opened(rt.alloc(), disk)?;
+    Ok(log)
+}
+
+/// Opens the store in a file to read it.
+pub(crate) fn open_store<R: Files<File = File> + AllocGlobal>(
+    rt: &R,
+    path: &str,
+) -> Result<Store<FileDisk>, Refusal> {
+    let disk = FileDisk::open(rt, path)?;
+    let (log, lists) = opened(rt.alloc(), disk)?;
+    Ok(Store {
+        lists,
+        disk: log.close(),
+    })
+}
+
+/// The guest of this number.
+pub(crate) fn guest_in(lists: &Lists, number: u64) -> Result<u32, Refusal>
+    ensures there { IfOk result (λ guest. (guest ≡ number) × (1 ≤ length (of_guest guest lists.now))) }
+    ensures none { IfErr result (λ e. (e ≡ Refusal.NoSuchGuest) × (of_guest number lists.now ≡ [])) }
+{
+    let guests = lists.guests();
+    let Ok(guest) = u32::try_from(number) else {
+        return Err(Refusal::NoSuchGuest);
+    };
+    if !guests.contains(&guest) {
+        return Err(Refusal::NoSuchGuest);
+    }
+    Ok(guest)
+}
+
+/// A record of a guest.
+pub(crate) fn record_in<D: Disk>(
+    alloc: Global,
+    lists: &Lists,
+    disk: &mut D,
+    guest: u32,
+    index: u32,
+) -> Result<Record, Refusal>
+    requires { index < length (of_guest guest lists.now) }
+    ensures record { IfOk result (λ r. slice_get (of_guest guest lists.now) index ≡ Some r) }
+    ensures refused { IfErr result (λ e. e ≡ Refusal.Memory) }
+{
+    match lists.item(alloc, disk, guest, index) {
+        Ok(entry) => Ok(entry),
+        Err(fault) => Err(Refusal::from(ReadGuestFault::of_item(index, fault))),
+    }
+}
+
+/// The records of the guest of this number.
+pub(crate) fn records_in<D: Disk>(
+    alloc: Global,
+    lists: &Lists,
+    disk: &mut D,
+    number: u64,
+) -> Result<Vec<Record>, Refusal>
+    ensures records { IfOk result (λ records. records.items ≡ of_guest number lists.now) }
+    ensures some { OnOk result (1 ≤ length (of_guest number lists.now)) }
+    ensures refused { IfErr result (λ e. RefusesRead e (of_guest number lists.now)) }
+{
+    let guest = guest_in(lists, number)?;
+    Ok(read_guest(alloc, lists, disk, guest)?)
+}
