@@ -1,48 +1,72 @@
-//! Goes through lines of the program, which come as lines of text: `WORDS = FILES` has the words of a line, and the
-//! files whose bytes, one behind the other, it has to print. Prints each line that does not hold, and last how many
-//! there were.
+//! Records guests, each in a store of its own in this folder, and compares what is told of them. A guest comes as a line
+//! of text: the files of its program, of its output, and of the lines of its records and its end. Prints each line that
+//! does not hold, and last how many there were.
 #![tactic(auto)]
 
 use commands::run;
-use std::fs;
-use std::io::{self, Read};
+use std::fs::File;
 use std::process::ExitCode;
 use std::rt::Files;
 use std::sync::Wait;
 use std::thread::Threads;
+use std::time::Clock;
+use std::{fs, io};
 
-/// What a line of the program prints; None where it is refused, tells errors, or finds no memory.
-fn printed<R: Files + AllocGlobal + Threads + Wait + Sync>(rt: &R, words: &str) -> Option<Vec<u8>> {
-    let words: Vec<&str> = words.split_whitespace().collect(rt.alloc()).ok()?;
+/// The store of a guest.
+const STORE: &str = "cases.store";
+
+/// What is told of a guest: its output as it was recorded, and as it is put out again, and the lines of its records and
+/// its end.
+#[derive(Drop)]
+struct Told {
+    recorded: Vec<u8>,
+    replayed: Vec<u8>,
+    lines: Vec<u8>,
+}
+
+/// What a line of the program prints, without its errors; None where it is refused.
+fn printed<R>(rt: &R, words: &[&str]) -> Option<Vec<u8>>
+where
+    R: Files<File = File> + AllocGlobal + Threads + Wait + Sync + Clock,
+{
     let mut out = Vec::new(rt.alloc());
     let mut err = Vec::new(rt.alloc());
-    let status = run(rt, words.as_slice(), &mut out, &mut err);
-    if status == 0 && err.is_empty() {
-        Some(out)
-    } else {
-        None
-    }
+    let status = run(rt, words, &mut out, &mut err);
+    if status == 0 { Some(out) } else { None }
 }
 
-/// The bytes of files, one behind the other; None where one can't be read.
-fn joined<R: Files + AllocGlobal>(rt: &R, files: &str) -> Option<Vec<u8>> {
-    let mut bytes = Vec::new(rt.alloc());
-    for name in files.split_whitespace() {
-        let mut file = fs::open(rt, name).ok()?;
-        file.read_to_end(&mut bytes).ok()?;
-    }
-    Some(bytes)
+/// Records a guest in a new store, and asks for all that is told of it.
+fn told<R>(rt: &R, guest: &str) -> Option<Told>
+where
+    R: Files<File = File> + AllocGlobal + Threads + Wait + Sync + Clock,
+{
+    printed(rt, &["new", STORE])?;
+    let recorded = printed(rt, &["record", STORE, guest])?;
+    let replayed = printed(rt, &["replay", STORE, "0"])?;
+    let mut lines = printed(rt, &["dump", STORE, "0"])?;
+    let end = printed(rt, &["verify", STORE, "0"])?;
+    lines.extend_from_slice(&end).ok()?;
+    Some(Told {
+        recorded,
+        replayed,
+        lines,
+    })
 }
 
-/// Whether a line of the program prints what it has to.
-fn holds<R: Files + AllocGlobal + Threads + Wait + Sync>(rt: &R, line: &str) -> bool {
-    let Some((words, files)) = line.split_once(" = ") else {
-        return false;
-    };
-    match (printed(rt, words), joined(rt, files)) {
-        (Some(found), Some(want)) => found == want,
-        _ => false,
-    }
+/// Whether what is told of a line's guest is what its files hold; None where something is refused.
+fn holds<R>(rt: &R, line: &str) -> Option<bool>
+where
+    R: Files<File = File> + AllocGlobal + Threads + Wait + Sync + Clock,
+{
+    let mut words = line.split_whitespace();
+    let (guest, output, lines) = (words.next()?, words.next()?, words.next()?);
+    let _ = fs::remove_file(rt, STORE);
+    let told = told(rt, guest);
+    let _ = fs::remove_file(rt, STORE);
+    let told = told?;
+    let output = fs::read(rt, output).ok()?;
+    let lines = fs::read(rt, lines).ok()?;
+    Some(told.recorded == output && told.replayed == output && told.lines == lines)
 }
 
 fn main(rt: HostRuntime) -> io::Result<ExitCode> {
@@ -51,7 +75,7 @@ fn main(rt: HostRuntime) -> io::Result<ExitCode> {
     for line in rt.lines(rt.alloc()) {
         let line = line?;
         lines = lines.saturating_add(1);
-        if !holds(&rt, line.as_str()) {
+        if holds(&rt, line.as_str()) != Some(true) {
             wrong = wrong.saturating_add(1);
             println!(rt; "does not hold: {}", line.as_str())?;
         }

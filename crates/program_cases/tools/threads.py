@@ -1,6 +1,6 @@
 #!/usr/bin/env python3
 """Makes guests that a compiler makes: one thread that sieves and sorts, and several threads. It writes each into ../data, with what it
-prints and with its records as `rrv try` has to print them: those are worked out here, by a restatement of the guest's rules that shares
+prints and with its records as `rrv dump` and `rrv verify` have to print them: those are worked out here, by a restatement of the guest's rules that shares
 nothing with rrv. It covers what these guests do: no faults.
 
 Needs riscv64-unknown-elf-gcc and qemu-riscv32. Run in this folder.

@@ -1,15 +1,17 @@
-//! Lines of the program as rows: the files that a line may read, its words, and what it answers. What plays a row is
-//! proved once; a row costs no proof.
+//! Lines of the program as scenes: files that are written, lines that are done over them, and what these answer and
+//! leave. What plays a scene is proved once; a step of one costs no proof.
 
 use commands::run;
 use std::alloc::Global;
 use std::fmt::{Debug, Display};
 use std::fs;
+use std::fs::File;
 use std::process::Abort;
 use std::rt::Files;
 use std::sync::Wait;
 use std::test::Fail;
 use std::thread::Threads;
+use std::time::Clock;
 use test_guests::files::file_of;
 
 /// What a file holds.
@@ -24,17 +26,40 @@ pub(crate) enum Content<'a> {
     Changed(&'a [u32], usize, u8),
     /// Its file, filled up with zeros to so many bytes.
     Filled(&'a [u32], usize),
+    /// So many zeros.
+    Zeros(usize),
 }
 
-/// A line of the program.
+/// A step of a scene.
 #[derive(Clone, Copy, Debug)]
-pub(crate) struct Row<'a> {
-    /// The name and the content of the file that it may read.
-    pub(crate) file: Option<(&'a str, Content<'a>)>,
-    pub(crate) words: &'a [&'a str],
-    pub(crate) status: u8,
-    pub(crate) out: &'a [u8],
-    pub(crate) err: &'a [u8],
+pub(crate) enum Step<'a> {
+    /// A file is written.
+    Write(&'a str, Content<'a>),
+    /// A file is cut to so many bytes.
+    Cut(&'a str, usize),
+    /// A byte of a file is changed.
+    Change(&'a str, usize, u8),
+    /// A file has this content.
+    Holds(&'a str, Content<'a>),
+    /// A line of the program is done, with this status, this output, and these errors.
+    Line(&'a str, u8, &'a [u8], &'a [u8]),
+    /// A line is done, with this status.
+    Ends(&'a str, u8),
+}
+
+/// A line that is done.
+pub(crate) fn done<'a>(words: &'a str, out: &'a [u8], err: &'a [u8]) -> Step<'a> {
+    Step::Line(words, 0, out, err)
+}
+
+/// A line that is refused, and puts nothing out.
+pub(crate) fn refused<'a>(words: &'a str, err: &'a [u8]) -> Step<'a> {
+    Step::Line(words, 1, b"", err)
+}
+
+/// A line that is none.
+pub(crate) fn bad<'a>(words: &'a str, err: &'a [u8]) -> Step<'a> {
+    Step::Line(words, 2, b"", err)
 }
 
 /// Ends the test where something else is found than wanted. An assertion costs its proof wherever it stands; this one
@@ -78,70 +103,117 @@ fn bytes_of(alloc: Global, content: &Content<'_>) -> Result<Vec<u8>, Fail> {
             elf.resize(*count, 0)?;
             Ok(elf)
         }
+        Content::Zeros(count) => Ok(Vec::from_elem(alloc, 0, *count)?),
     }
+}
+
+/// Does a line, and answers its status, its output and its errors.
+fn answers<R>(rt: &R, words: &str) -> Result<(u8, Vec<u8>, Vec<u8>), Fail>
+where
+    R: AllocGlobal + Files<File = File> + Threads + Wait + Sync + Clock,
+{
+    let list: Vec<&str> = words.split_whitespace().collect(rt.alloc())?;
+    let mut out = Vec::new(rt.alloc());
+    let mut err = Vec::new(rt.alloc());
+    let status = run(rt, list.as_slice(), &mut out, &mut err);
+    Ok((status, out, err))
 }
 
 /// Does a line, and ends the test where it answers or says something else.
-pub(crate) fn play<R>(rt: &R, row: &Row<'_>) -> Result<(), Fail>
+fn play_line<R>(rt: &R, words: &str, status: u8, out: &[u8], err: &[u8]) -> Result<(), Fail>
 where
-    R: Abort + AllocGlobal + Files + Threads + Wait + Sync,
+    R: Abort + AllocGlobal + Files<File = File> + Threads + Wait + Sync + Clock,
 {
-    if let Some((name, content)) = &row.file {
-        let bytes = bytes_of(rt.alloc(), content)?;
-        fs::write(rt, *name, bytes.as_slice())?;
-    }
-    let mut out = Vec::new(rt.alloc());
-    let mut err = Vec::new(rt.alloc());
-    let status = run(rt, row.words, &mut out, &mut err);
-    if let Some((name, _)) = &row.file {
-        fs::remove_file(rt, *name)?;
-    }
-    same(rt, row, status, row.status);
-    same(rt, row, out.as_slice(), row.out);
-    same(rt, row, err.as_slice(), row.err);
+    let (found, output, errors) = answers(rt, words)?;
+    same(
+        rt,
+        &words,
+        (found, output.as_slice(), errors.as_slice()),
+        (status, out, err),
+    );
     Ok(())
 }
 
-/// The same for lines one after another.
-pub(crate) fn play_all<R>(rt: &R, rows: &[Row<'_>]) -> Result<(), Fail>
+fn play_step<R>(rt: &R, step: &Step<'_>) -> Result<(), Fail>
 where
-    R: Abort + AllocGlobal + Files + Threads + Wait + Sync,
+    R: Abort + AllocGlobal + Files<File = File> + Threads + Wait + Sync + Clock,
 {
-    for row in rows {
-        play(rt, row)?;
+    match step {
+        Step::Write(name, content) => {
+            let bytes = bytes_of(rt.alloc(), content)?;
+            fs::write(rt, *name, bytes.as_slice())?;
+        }
+        Step::Cut(name, count) => {
+            let mut bytes = fs::read(rt, *name)?;
+            bytes.truncate(*count);
+            fs::write(rt, *name, bytes.as_slice())?;
+        }
+        Step::Change(name, place, byte) => {
+            let mut bytes = fs::read(rt, *name)?;
+            *bytes.get_mut(*place).ok_or("there are fewer bytes")? = *byte;
+            fs::write(rt, *name, bytes.as_slice())?;
+        }
+        Step::Holds(name, content) => {
+            let found = fs::read(rt, *name)?;
+            let want = bytes_of(rt.alloc(), content)?;
+            same(rt, name, found.as_slice(), want.as_slice());
+        }
+        Step::Line(words, status, out, err) => play_line(rt, words, *status, out, err)?,
+        Step::Ends(words, status) => {
+            let (found, _, _) = answers(rt, words)?;
+            same(rt, words, found, *status);
+        }
     }
     Ok(())
 }
 
-/// A trial of a program of these instructions, which is done and puts this out.
-pub(crate) fn done<'a>(program: &'a [u32], out: &'a [u8], err: &'a [u8]) -> Row<'a> {
-    Row {
-        file: Some(("guest", Content::Program(program))),
-        words: &["try", "guest"],
-        status: 0,
-        out,
-        err,
+/// Removes the store `s`, and the files that steps write.
+fn clear<R: Files<File = File>>(rt: &R, steps: &[Step<'_>]) {
+    let _ = fs::remove_file(rt, "s");
+    for step in steps {
+        if let Step::Write(name, _) = step {
+            let _ = fs::remove_file(rt, *name);
+        }
     }
 }
 
-/// A trial of a file, which is refused so.
-pub(crate) fn refused<'a>(content: Content<'a>, err: &'a [u8]) -> Row<'a> {
-    Row {
-        file: Some(("file", content)),
-        words: &["try", "file"],
-        status: 1,
-        out: b"",
-        err,
+/// Takes the steps of a scene, one after another. There are no files of it before and behind it.
+pub(crate) fn play<R>(rt: &R, steps: &[Step<'_>]) -> Result<(), Fail>
+where
+    R: Abort + AllocGlobal + Files<File = File> + Threads + Wait + Sync + Clock,
+{
+    clear(rt, steps);
+    for step in steps {
+        play_step(rt, step)?;
     }
+    clear(rt, steps);
+    Ok(())
 }
 
-/// A line without a file.
-pub(crate) fn bare<'a>(words: &'a [&'a str], status: u8, out: &'a [u8], err: &'a [u8]) -> Row<'a> {
-    Row {
-        file: None,
-        words,
-        status,
-        out,
-        err,
+/// The same behind the recording of a program `f` in a new store, which reports so.
+pub(crate) fn play_recorded<'a, R>(
+    rt: &R,
+    program: &'a [u32],
+    report: (&'a [u8], &'a [u8]),
+    steps: &[Step<'a>],
+) -> Result<(), Fail>
+where
+    R: Abort + AllocGlobal + Files<File = File> + Threads + Wait + Sync + Clock,
+{
+    let before = [
+        Step::Write("f", Content::Program(program)),
+        Step::Line("new s", 0, b"", b""),
+        Step::Line("record s f", 0, report.0, report.1),
+    ];
+    clear(rt, steps);
+    clear(rt, &before);
+    for step in &before {
+        play_step(rt, step)?;
     }
+    for step in steps {
+        play_step(rt, step)?;
+    }
+    clear(rt, steps);
+    clear(rt, &before);
+    Ok(())
 }

@@ -1,16 +1,19 @@
 //! How refusals are told: each has its text, and those of the layers below become the program's.
 
 use super::kit::shows;
+use command_line::BadSeed;
 use commands::Refusal;
 use elf_load::fault::ElfFault;
 use guest_calls::{SetPageFault, SetRestFault};
 use recover::{OpenFault, ReadFault};
-use replayer::{ReadGuestFault, VerifyFault};
+use replayer::{OutputFault, ReadGuestFault, VerifyFault};
+use reverse_step::SeekFault;
 use serial_sched::{FollowFault, SliceFault};
 use session::SessionFault;
 use std::fmt::Display;
 use std::process::Abort;
 use std::test::Fail;
+use trace_disk::CannotOpen;
 
 /// Ends the test where one of these is shown by another text than the one beside it.
 fn show<R: Abort + AllocGlobal, T: Display>(rt: &R, rows: &[(T, &str)]) -> Result<(), Fail> {
@@ -25,6 +28,8 @@ fn texts_of_refusals(rt: HostRuntime) -> Result<(), Fail> {
     show(
         &rt,
         &[
+            (Refusal::from(BadSeed), "bad seed"),
+            (Refusal::from(CannotOpen), "cannot open store"),
             (Refusal::CannotReadFile, "cannot read file"),
             (
                 Refusal::of_elf(0, ElfFault::Compressed),
@@ -44,7 +49,14 @@ fn texts_of_refusals(rt: HostRuntime) -> Result<(), Fail> {
             (Refusal::BadOpening, "bad opening"),
             (Refusal::NewerVersion, "newer version"),
             (Refusal::Unreadable { index: 1 }, "record 1 unreadable"),
+            (Refusal::NoSuchGuest, "no such guest"),
+            (Refusal::from(SeekFault::BeforeStart), "before the start"),
+            (Refusal::from(SeekFault::PastEnd), "past the end"),
+            (Refusal::from(SeekFault::Memory), "out of memory"),
+            (Refusal::NoClock, "cannot read clock"),
             (Refusal::OutputFailed, "output failed"),
+            (Refusal::from(OutputFault::SinkFailed), "output failed"),
+            (Refusal::from(OutputFault::Memory), "out of memory"),
             (Refusal::Memory, "out of memory"),
             (Refusal::DeviceFailed.of_trial(), "out of memory"),
             (
@@ -62,12 +74,11 @@ fn texts_of_refusals(rt: HostRuntime) -> Result<(), Fail> {
 
 #[test]
 fn refusals_of_a_session(rt: HostRuntime) -> Result<(), Fail> {
+    let sink = SessionFault::SinkFailed { guest: 2 };
+    shows(&rt, &sink, "guest 2: output failed")?;
+    shows(&rt, &Refusal::from(sink), "output failed")?;
     let faults = [
         (SessionFault::DeviceFailed, "device failed"),
-        (
-            SessionFault::SinkFailed { guest: 2 },
-            "guest 2: output failed",
-        ),
         (SessionFault::Held { guest: 3 }, "guest 3: held"),
         (SessionFault::Memory, "out of memory"),
         (SessionFault::TooManyGuests, "too many guests"),

@@ -1,21 +1,23 @@
 //! Readers that fail, and writers that take parts.
 
 use super::kit::same;
-use super::lines::HELLO;
+use super::programs::HELLO;
 use commands::{Refusal, read_program, report, report_unread, run};
 use std::alloc::{AllocError, Global};
 use std::fs;
+use std::fs::File;
 use std::io::{self, ErrorKind, Read, Write};
 use std::process::Abort;
 use std::rt::Files;
 use std::sync::Wait;
 use std::test::Fail;
 use std::thread::Threads;
+use std::time::Clock;
 use test_guests::files::{EXIT_FIVE, file_of};
 
-/// What is printed of a guest that writes `hi`.
-const HI: &[u8] = b"hi\n0 opening name=g0 elf=128\n1 call tid=1 count=8 result=00000003 written=0\n\
-    2 call tid=1 count=3 result=00000000 written=0\nok records=3 instructions=11 end exited 0\n";
+/// What is dumped of a guest that writes `hi`.
+const DUMP: &[u8] = b"0 opening name=g0 elf=128\n1 call tid=1 count=8 result=00000003 written=0\n\
+    2 call tid=1 count=3 result=00000000 written=0\n";
 
 /// A writer that takes so many bytes of a write, and fails where it has so many.
 #[derive(Drop)]
@@ -48,7 +50,7 @@ impl Write for Sink {
 /// many in all.
 fn printed<R>(rt: &R, words: &[&str], most: usize, room: usize) -> (u8, Vec<u8>, Vec<u8>)
 where
-    R: Abort + AllocGlobal + Files + Threads + Wait + Sync,
+    R: AllocGlobal + Files<File = File> + Threads + Wait + Sync + Clock,
 {
     let mut out = Sink {
         taken: Vec::new(rt.alloc()),
@@ -60,43 +62,88 @@ where
     (status, out.taken, err)
 }
 
-/// Ends the test where a guest that writes `hi` is printed otherwise by an output that takes so many bytes of a write,
-/// and so many in all.
-fn prints_hi<R>(rt: &R, rows: &[(usize, usize)], status: u8, errors: &[u8]) -> Result<(), Fail>
+/// Records the guest that writes `hi` in a new store.
+fn record_hi<R>(rt: &R) -> Result<(), Fail>
 where
-    R: Abort + AllocGlobal + Files + Threads + Wait + Sync,
+    R: AllocGlobal + Files<File = File> + Threads + Wait + Sync + Clock,
 {
+    let _ = fs::remove_file(rt, "s");
     let elf = file_of(rt.alloc(), &HELLO)?;
     fs::write(rt, "hello", elf.as_slice())?;
+    let _ = printed(rt, &["new", "s"], 0, 0);
+    let _ = printed(rt, &["record", "s", "hello"], 1000, 1000);
+    Ok(())
+}
+
+/// Ends the test where a line prints something else than the text, as far as its output takes it: so many bytes of a
+/// write, and so many in all.
+fn prints<R>(
+    rt: &R,
+    words: &[&str],
+    whole: &[u8],
+    rows: &[(usize, usize)],
+    wanted: (u8, &[u8]),
+) -> Result<(), Fail>
+where
+    R: Abort + AllocGlobal + Files<File = File> + Threads + Wait + Sync + Clock,
+{
+    record_hi(rt)?;
     for (most, room) in rows {
-        let (ended, out, err) = printed(rt, &["try", "hello"], *most, *room);
-        let front = HI.get(..*room).unwrap_or(HI);
+        let (ended, out, err) = printed(rt, words, *most, *room);
+        let front = whole.get(..*room).unwrap_or(whole);
         same(
             rt,
             &(*most, *room),
             (ended, out.as_slice(), err.as_slice()),
-            (status, front, errors),
+            (wanted.0, front, wanted.1),
         );
     }
     fs::remove_file(rt, "hello")?;
+    fs::remove_file(rt, "s")?;
     Ok(())
 }
 
 #[test]
 fn output_that_is_taken_in_parts_is_whole(rt: HostRuntime) -> Result<(), Fail> {
-    let whole = HI.len();
-    prints_hi(
-        &rt,
-        &[(1, whole), (2, whole), (7, whole), (1000, 1000)],
-        0,
-        b"",
-    )
+    let whole = DUMP.len();
+    let rows = [(1, whole), (2, whole), (7, whole), (1000, 1000)];
+    prints(&rt, &["dump", "s", "0"], DUMP, &rows, (0, b""))?;
+    let rows = [(1, 3), (2, 1000), (1000, 3)];
+    prints(&rt, &["replay", "s", "0"], b"hi\n", &rows, (0, b""))
 }
 
 #[test]
 fn output_that_fails_is_told(rt: HostRuntime) -> Result<(), Fail> {
+    let failed: (u8, &[u8]) = (1, b"rrv: output failed\n");
     let rows = [(1, 0), (1, 1), (1000, 0), (1000, 3), (1, 29), (1000, 100)];
-    prints_hi(&rt, &rows, 1, b"rrv: output failed\n")
+    prints(&rt, &["dump", "s", "0"], DUMP, &rows, failed)?;
+    let rows = [(1, 0), (1, 2), (1000, 0), (1000, 2)];
+    prints(&rt, &["replay", "s", "0"], b"hi\n", &rows, failed)?;
+    let list: &[u8] = b"0 g0 records=3 frames=2 instructions=11\n";
+    prints(&rt, &["list", "s"], list, &[(1, 0), (1000, 39)], failed)?;
+    let verified: &[u8] = b"ok records=3 instructions=11 end exited 0\n";
+    prints(
+        &rt,
+        &["verify", "s", "0"],
+        verified,
+        &[(1, 0), (1000, 41)],
+        failed,
+    )?;
+    let unchanged = ["last", "s", "0", "0", "0"];
+    prints(
+        &rt,
+        &unchanged,
+        b"unchanged\n",
+        &[(1, 0), (1000, 9)],
+        failed,
+    )
+}
+
+#[test]
+fn output_of_a_recorded_guest_that_fails_is_told(rt: HostRuntime) -> Result<(), Fail> {
+    let failed: (u8, &[u8]) = (1, b"rrv: output failed\n");
+    let words = ["record", "s", "hello"];
+    prints(&rt, &words, b"hi\n", &[(1, 0), (1, 1), (1000, 2)], failed)
 }
 
 /// A writer that fails.
@@ -116,8 +163,8 @@ impl Write for Closed {
 #[test]
 fn errors_that_fail_change_no_status(rt: HostRuntime) {
     let mut out = Vec::new(rt.alloc());
-    let refused = run(&rt, &["try", "missing"], &mut out, &mut Closed);
-    let bad = run(&rt, &["try"], &mut out, &mut Closed);
+    let refused = run(&rt, &["list", "missing"], &mut out, &mut Closed);
+    let bad = run(&rt, &["list"], &mut out, &mut Closed);
     same(
         &rt,
         &"errors fail",
