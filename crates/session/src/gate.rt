@@ -5,7 +5,7 @@ pub trait Gate {
     /// Whether the guest may step. Its worker asks before each step.
     fn may_step(&self, guest: u32) -> bool;
 
-    /// The guest's worker has sent so many frames. It tells this after each frame that it sent.
+    /// The guest's worker has sent so many frames, where a part of a checkpoint counts as one. It tells this whenever it sent some.
     fn submitted(&self, guest: u32, frames: u32);
 
     /// The guest's worker has sent so many records, and the guest has run so many instructions. It tells this whenever it sent some. An

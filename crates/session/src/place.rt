@@ -17,8 +17,8 @@ impl<G: Gate> Place<'_, G> {
         self.gate.may_step(self.guest)
     }
 
-    /// Tells the flusher and the gate of the records that were sent, and the gate of the frames among them. The first record is no
-    /// frame. `instructions` is how many the guest has run.
+    /// Tells the flusher and the gate of the records that were sent, and the gate of those behind the opening, which is the first.
+    /// `instructions` is how many the guest has run.
     pub(crate) fn tell_sent(&self, before: u32, sent: u32, instructions: u64) {
         if before < sent {
             self.pace.sent(sent - before);
