@@ -1,14 +1,13 @@
 -- Changes of a guest's threads, as changes of its state.
-use Rattle.std.proofs.Common.{◌≡◌, ◌≢◌, ◌↔◌, ℕ, ◌≤◌, Bool, true, false, cond, nat_eq, slice_set, List, [], ◌∷◌, fold, Option, Some, None, refl, sym, ◌∙◌, ap, subst, arith}
+use Rattle.std.proofs.Common.{◌≡◌, ◌≢◌, ◌↔◌, ℕ, ◌≤◌, cond, nat_eq, slice_set, Option, Some, None, sym, ◌∙◌, ap, subst, arith}
 use Rattle.std.proofs.lemmas.Bool.Decides.{Decides-eqb}
-use Rattle.std.specs.FinMap.{get, len}
-use Rattle.std.specs.Ordering.{nat_cmp, eq_by_cmp}
+use Rattle.std.specs.FinMap.{len}
 use Rattle.rrv_model.specs.declared.machine.Regs.{Regs}
 use Rattle.rrv_model.specs.declared.machine.Thread.{Thread}
 use Rattle.rrv_model.specs.State.{State, thread_at, with_register, with_thread, IsRunning}
-use Rattle.rrv_model.specs.CallRows.{change_thread, ends, leaves, waiters, wakes, woken}
+use Rattle.rrv_model.specs.CallRows.{change_thread, ends, leaves}
 use Rattle.guest_threads.specs.Threads.{ThreadsValue, alone, thread_map, with_threads, without_thread}
-use Rattle.rrv_model.proofs.ThreadRules.{changed_at, get-changed, resumed, unequal, same_tid, woken_is}
+use Rattle.rrv_model.proofs.ThreadRules.{unequal}
 use Rattle.guest_calls.proofs.Lift.{changed_there}
 
 -- ---- all threads

@@ -1,5 +1,5 @@
 -- What the parts of a checkpoint make of a guest.
-use Rattle.std.specs.Prelude.{◌≡◌, ℕ, ◌<◌, ◌≤◌, Option, None, false, map}
+use Rattle.std.specs.Prelude.{ℕ, ◌<◌, ◌≤◌, Option, None, map}
 use Rattle.std.specs.FinMap.{from_entries}
 use Rattle.std.specs.List.Sorted.{IsStrictlyIncreasing}
 use Rattle.rrv_model.specs.declared.limits.TheConstants.{MAX_PAGES}

@@ -11,13 +11,14 @@ use guest_pages::Space;
 use guest_threads::Threads;
 use rrv_model::machine::{GuestEnd, Reservation, Thread};
 use rrv_model::refusal::Memory;
+use rv_machine::CodeSpace;
 use std::alloc::Global;
 use std::marker::Model;
 
 /// A guest: its address space, its threads, and what has become of it.
 #[derive(Drop)]
 pub struct Guest {
-    pub(crate) space: Space,
+    pub(crate) space: CodeSpace,
     pub(crate) threads: Threads,
     pub(crate) opening_break: u32,
     pub(crate) program_break: u32,
@@ -99,7 +100,7 @@ impl Guest {
     pub fn space(&self) -> &Space
         ensures { result.now ≡ self.now.space }
     {
-        &self.space
+        self.space.space()
     }
 
     /// The guest's threads, with the waiting order and the next tid. That its state keeps the rules of one is told

@@ -41,11 +41,11 @@ impl Guest {
         if !self.space.is_readable(address, BUFFER_BYTES * count) {
             return Ok(self.answer(alloc, tid, failure(BAD_ADDRESS)));
         }
-        let buffers = list_buffers(alloc, &self.space, address, count)?;
+        let buffers = list_buffers(alloc, self.space.space(), address, count)?;
         if MAX_TOTAL < total_len(&buffers) {
             return Ok(self.answer(alloc, tid, failure(INVALID)));
         }
-        let Some(bytes) = join_buffers(alloc, &self.space, &buffers)? else {
+        let Some(bytes) = join_buffers(alloc, self.space.space(), &buffers)? else {
             return Ok(self.answer(alloc, tid, failure(BAD_ADDRESS)));
         };
         let record = self.answer(alloc, tid, bytes.len() as u32);

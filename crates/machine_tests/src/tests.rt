@@ -1,6 +1,7 @@
 //! What the tests share.
 
 mod buffers;
+mod code_space;
 mod decoding;
 mod files;
 mod hart;

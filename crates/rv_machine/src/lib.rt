@@ -4,14 +4,22 @@
 
 mod access;
 mod atomic;
+mod code_space;
+mod code_space_calls;
 mod compute;
+mod decoded;
+mod decoded_pages;
 mod execute;
 mod hart;
 mod memory;
+mod page_decoding;
+mod page_slots;
+mod perform;
 mod registers;
 mod run;
 mod values;
 
+pub use code_space::CodeSpace;
 pub use hart::step;
 use rrv_model::machine::FaultKind;
 pub use run::{Run, RunEnd, run_hart};

@@ -1,16 +1,23 @@
 //! Several instructions of a hart.
 
-ghost use Rattle.std.specs.Prelude.{◌≡◌};
+ghost use Rattle.std.specs.Prelude.{◌≡◌, ◌≤◌, ◌/◌, ◌%◌};
 ghost use Rattle.rrv_model.specs.State.{AreRegs};
 ghost use Rattle.guest_pages.specs.Space.{memory_of, snapshots_of};
 ghost use Rattle.rv_machine.specs.Outcome.{hart};
-ghost use Rattle.rv_machine.specs.HartRuns.{HartRuns};
+ghost use Rattle.rv_machine.specs.HartRuns.{HartRuns, HartRunsAtMost};
+ghost use Rattle.rv_machine.specs.DecodedPages.{IsDecodedPage};
 
 use crate::Stepped;
+use crate::code_space::CodeSpace;
+use crate::decoded_pages::DecodedPage;
 use crate::hart::step;
+use crate::perform::perform;
 use guest_pages::Space;
 use rrv_model::machine::{FaultKind, Regs, Reservation};
 use rrv_model::refusal::Memory;
+
+/// So many instructions are run undecoded at most before a decoded page is looked for again.
+const UNDECODED_STEPS: u32 = 256;
 
 /// Why a run of instructions stopped.
 #[derive(Clone, Copy, Debug, PartialEq, Eq)]
@@ -32,14 +39,69 @@ pub struct Run {
     pub end: RunEnd,
 }
 
-/// Does up to `limit` instructions from `pc` on: it stops behind a call's ECALL, before a fault, and before an instruction
-/// that finds no memory.
-pub fn run_hart(
+/// Up to limit instructions, as long as they stand in a decoded page.
+#[inline(always)]
+fn run_page(
     regs: &mut Regs,
     space: &mut Space,
     reservation: &mut Reservation,
+    page: &DecodedPage,
     limit: u32,
 ) -> Run
+    requires regs { AreRegs regs.old }
+    requires decoded { IsDecodedPage (memory_of space.old) page.now }
+    requires limit { 1 ≤ limit }
+    requires place { regs.old.pc / 4096 ≡ page.now.number }
+    requires aligned { regs.old.pc % 4 ≡ 0 }
+    ensures regs { AreRegs regs.new }
+    ensures runs { HartRunsAtMost result.end limit result.count (hart regs.old (memory_of space.old) reservation.old)
+        (hart regs.new (memory_of space.new) reservation.new) }
+    ensures within { result.count ≤ limit }
+    ensures some { result.end ≡ RunEnd.Limit → 1 ≤ result.count }
+    ensures snapshots { snapshots_of space.new ≡ snapshots_of space.old }
+{
+    let number = page.number;
+    let instrs = page.instrs.as_slice();
+    for count in 0..limit {
+        let pc = regs.pc;
+        if pc / 4096 != number {
+            return Run {
+                count,
+                end: RunEnd::Limit,
+            };
+        }
+        let decoded = &instrs[(pc % 4096 / 4) as usize];
+        match perform(regs, space, reservation, decoded) {
+            Ok(Stepped::Next) => {}
+            Ok(Stepped::Call) => {
+                return Run {
+                    count: count + 1,
+                    end: RunEnd::Call,
+                };
+            }
+            Ok(Stepped::Fault(kind)) => {
+                return Run {
+                    count: count + 1,
+                    end: RunEnd::Fault(kind),
+                };
+            }
+            Err(Memory) => {
+                return Run {
+                    count,
+                    end: RunEnd::Memory,
+                };
+            }
+        }
+    }
+    Run {
+        count: limit,
+        end: RunEnd::Limit,
+    }
+}
+
+/// Up to limit instructions, each decoded where it stands.
+#[inline(never)]
+fn run_steps(regs: &mut Regs, space: &mut Space, reservation: &mut Reservation, limit: u32) -> Run
     requires { AreRegs regs.old }
     ensures regs { AreRegs regs.new }
     ensures runs { HartRuns limit (hart regs.old (memory_of space.old) reservation.old) result
@@ -71,6 +133,103 @@ pub fn run_hart(
     }
     Run {
         count: limit,
+        end: RunEnd::Limit,
+    }
+}
+
+/// Some instructions, at least one, where no page is decoded: so many that looking for one again costs little.
+fn run_undecoded(
+    regs: &mut Regs,
+    space: &mut Space,
+    reservation: &mut Reservation,
+    limit: u32,
+) -> Run
+    requires regs { AreRegs regs.old }
+    requires limit { 1 ≤ limit }
+    ensures regs { AreRegs regs.new }
+    ensures runs { HartRunsAtMost result.end limit result.count (hart regs.old (memory_of space.old) reservation.old)
+        (hart regs.new (memory_of space.new) reservation.new) }
+    ensures within { result.count ≤ limit }
+    ensures some { result.end ≡ RunEnd.Limit → 1 ≤ result.count }
+    ensures snapshots { snapshots_of space.new ≡ snapshots_of space.old }
+{
+    run_steps(regs, space, reservation, limit.min(UNDECODED_STEPS))
+}
+
+/// Some instructions, at least one, where a page is decoded.
+#[inline(always)]
+fn run_decoded(
+    regs: &mut Regs,
+    space: &mut Space,
+    reservation: &mut Reservation,
+    page: &DecodedPage,
+    limit: u32,
+) -> Run
+    requires regs { AreRegs regs.old }
+    requires decoded { IsDecodedPage (memory_of space.old) page.now }
+    requires limit { 1 ≤ limit }
+    ensures regs { AreRegs regs.new }
+    ensures runs { HartRunsAtMost result.end limit result.count (hart regs.old (memory_of space.old) reservation.old)
+        (hart regs.new (memory_of space.new) reservation.new) }
+    ensures within { result.count ≤ limit }
+    ensures some { result.end ≡ RunEnd.Limit → 1 ≤ result.count }
+    ensures snapshots { snapshots_of space.new ≡ snapshots_of space.old }
+{
+    if regs.pc / 4096 != page.number || regs.pc % 4 != 0 {
+        return run_undecoded(regs, space, reservation, limit);
+    }
+    run_page(regs, space, reservation, page, limit)
+}
+
+impl CodeSpace {
+    /// Some instructions, at least one.
+    #[inline(always)]
+    fn run_some(&mut self, regs: &mut Regs, reservation: &mut Reservation, limit: u32) -> Run
+        requires regs { AreRegs regs.old }
+        requires limit { 1 ≤ limit }
+        ensures regs { AreRegs regs.new }
+        ensures runs { HartRunsAtMost result.end limit result.count (hart regs.old (memory_of self.old) reservation.old)
+            (hart regs.new (memory_of self.new) reservation.new) }
+        ensures within { result.count ≤ limit }
+        ensures some { result.end ≡ RunEnd.Limit → 1 ≤ result.count }
+        ensures snapshots { snapshots_of self.new ≡ snapshots_of self.old }
+    {
+        let number = regs.pc / 4096;
+        self.pages.ready(&self.space, number);
+        let Some(page) = self.pages.find(number) else {
+            return run_undecoded(regs, &mut self.space, reservation, limit);
+        };
+        run_decoded(regs, &mut self.space, reservation, page, limit)
+    }
+}
+
+/// Does up to `limit` instructions from `pc` on: it stops behind a call's ECALL, before a fault, and before an instruction
+/// that finds no memory.
+pub fn run_hart(
+    regs: &mut Regs,
+    space: &mut CodeSpace,
+    reservation: &mut Reservation,
+    limit: u32,
+) -> Run
+    requires { AreRegs regs.old }
+    ensures regs { AreRegs regs.new }
+    ensures runs { HartRuns limit (hart regs.old (memory_of space.old) reservation.old) result
+        (hart regs.new (memory_of space.new) reservation.new) }
+    ensures snapshots { snapshots_of space.new ≡ snapshots_of space.old }
+{
+    let mut done = 0;
+    while done < limit {
+        let run = space.run_some(regs, reservation, limit - done);
+        done += run.count;
+        match run.end {
+            RunEnd::Limit => {}
+            end => {
+                return Run { count: done, end };
+            }
+        }
+    }
+    Run {
+        count: done,
         end: RunEnd::Limit,
     }
 }

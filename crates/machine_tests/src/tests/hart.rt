@@ -6,7 +6,7 @@ use super::rows::{DONE, Deed, Row, play_on};
 use super::same;
 use guest_pages::Space;
 use rrv_model::machine::{FaultKind, Permissions, Regs, Reservation};
-use rv_machine::{Run, RunEnd, Stepped, run_hart, step};
+use rv_machine::{CodeSpace, Run, RunEnd, Stepped, run_hart, step};
 use std::process::Abort;
 use std::test::Fail;
 use test_guests::harts::regs_with;
@@ -72,7 +72,7 @@ fn reserves_and_stores(rt: HostRuntime) -> Result<(), Fail> {
 }
 
 /// Runs so many instructions at most.
-fn run_up_to(regs: &mut Regs, space: &mut Space, limit: u32) -> Ran
+fn run_up_to(regs: &mut Regs, space: &mut CodeSpace, limit: u32) -> Ran
     requires { AreRegs regs.old }
     ensures { AreRegs regs.new }
 {
@@ -83,7 +83,8 @@ fn run_up_to(regs: &mut Regs, space: &mut Space, limit: u32) -> Ran
 #[test]
 fn runs_to_a_call_and_a_fault(rt: HostRuntime) {
     // addi a0, a0, 1, twice, then ecall, and then no instruction
-    let mut space = space_with(&rt, [0x0015_0513, 0x0015_0513, 0x0000_0073], 0);
+    let space = space_with(&rt, [0x0015_0513, 0x0015_0513, 0x0000_0073], 0);
+    let mut space = CodeSpace::new(rt.alloc(), space);
     let mut regs = regs_with(CODE, [5, 0, 0, 0]);
     let found = run_up_to(&mut regs, &mut space, 1);
     let end = RunEnd::Limit;

@@ -1,5 +1,6 @@
 //! Growths that may be refused, as under `rt try --test --fail-alloc N`.
 
+use super::code_space::{answers, space_of_code};
 use super::rows::{Row, play_on};
 use super::{CODE, DATA, same, same_numbers};
 use guest_pages::{PageFault, Space};
@@ -60,5 +61,13 @@ fn a_refused_snapshot_leaves_all_as_before(rt: HostRuntime) -> Result<(), Fail> 
     same_numbers(&rt, &"since the first", &changed, &[1, 2]);
     space.drop_snapshot(first);
     space.drop_snapshot(second);
+    Ok(())
+}
+
+#[test]
+fn a_refused_decoding_is_told_by_nothing(rt: HostRuntime) -> Result<(), Fail> {
+    let mut space = space_of_code(rt.alloc())?;
+    answers(&rt, "at first", &mut space, 1);
+    answers(&rt, "once more", &mut space, 1);
     Ok(())
 }

@@ -1,4 +1,4 @@
-use Rattle.std.proofs.Common.{◌≡◌, ◌≢◌, ◌∙◌, ℕ, ◌≤◌, true, List, length, ap, subst, arith}
+use Rattle.std.proofs.Common.{◌≡◌, ◌∙◌, ℕ, ◌≤◌, true, List, length, ap, subst, arith}
 use Rattle.rrv_model.specs.Memory.{writable}
 use Rattle.guest_calls.specs.Guest.{state_of}
 use Rattle.guest_calls.specs.Requests.{Takes, asking_row, requested_row, IsClockOf, IsRequest, IsRequested, NamesClock}

@@ -22,10 +22,12 @@ returns-clause-makes c =
     let t = c.args.thread.now in
     let count = c.answer-record.result.result in
     let bytes : List ℕ = c.in-Some.bytes.items in
-    let found = rw c.in-Some.is at c.in_ok-bytes.ensures.bytes in
+    let joined_there = rw c.in-Some.is at c.in_ok-bytes.ensures.bytes in
+    let found = rw c.space-2.ensures at joined_there in
+    let read = rw c.space.ensures at c.in_ok-buffers.ensures.buffers in
     let len : count ≡ length bytes = c.answer-record.ensures.value ∙ c.len.ensures ∙ c.in-Some.bytes.ok.0 in
     let counted : count ≡ min (total_len c.deref-2.result.now) 65_536 = c.answer-record.ensures.value ∙ c.len.ensures ∙ found.2 in
-    let listed : c.deref-2.result.now ≡ buffers_at m (argument t 1) (argument t 2) = c.deref-2.ensures.value ∙ c.in_ok-buffers.ensures.buffers in
+    let listed : c.deref-2.result.now ≡ buffers_at m (argument t 1) (argument t 2) = c.deref-2.ensures.value ∙ read in
     let most : count ≤ 65_536 = omega (arith, counted) in
     let are = joined_are m c.deref-2.result.now (argument t 1) (argument t 2) count bytes listed found.1 counted in
     record {
