@@ -36,7 +36,7 @@ where
 }
 
 /// Records a guest in a new store, and asks for all that is told of it.
-fn told<R>(rt: &R, guest: &str) -> Option<Told>
+fn told_of<R>(rt: &R, guest: &str) -> Option<Told>
 where
     R: Files<File = File> + AllocGlobal + Threads + Wait + Sync + Clock,
 {
@@ -61,7 +61,7 @@ where
     let mut words = line.split_whitespace();
     let (guest, output, lines) = (words.next()?, words.next()?, words.next()?);
     let _ = fs::remove_file(rt, STORE);
-    let told = told(rt, guest);
+    let told = told_of(rt, guest);
     let _ = fs::remove_file(rt, STORE);
     let told = told?;
     let output = fs::read(rt, output).ok()?;
