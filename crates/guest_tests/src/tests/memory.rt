@@ -1,5 +1,5 @@
 //! Calls of which a growth may be refused, as under `rt try --test --fail-alloc N -- a_refused`. Each test opens two guests first, so
-//! the growths of its call are those behind these.
+//! the growths of its call are those behind these. Between them stand those for decoded pages, of which nothing tells.
 
 use crate::tests::rows::{Row, play, same, trial_of};
 use guest_calls::RunEnd;
@@ -44,8 +44,8 @@ const A3_PLAIN: u32 = 0x0220_0693;
 /// `li a3, 0x32`: PRIVATE, ANONYMOUS and FIXED.
 const A3_FIXED: u32 = 0x0320_0693;
 
-/// A guest behind the ECALL of its code, whose clear address is that of the last word on its stack.
-fn behind_call(rt: &impl Abort, alloc: Global, code: &[u32]) -> Result<Trial<'static>, Fail> {
+/// A guest before its code, whose clear address is that of the last word on its stack.
+fn before_code(rt: &impl Abort, alloc: Global, code: &[u32]) -> Result<Trial<'static>, Fail> {
     let mut trial = trial_of(alloc, code, &[])?;
     let mut address = STACK;
     for word in ON_THE_STACK {
@@ -54,9 +54,13 @@ fn behind_call(rt: &impl Abort, alloc: Global, code: &[u32]) -> Result<Trial<'st
     }
     let rows = [Row::Call(1, 96, [STACK + 16, 0, 0, 0, 0], 1)];
     play(rt, alloc, &mut trial, &rows)?;
+    Ok(trial)
+}
+
+/// Runs the code up to behind its ECALL.
+fn run_code(rt: &impl Abort, trial: &mut Trial<'_>) {
     let end = trial.run(1, 64).map(|run| run.end);
     same(rt, &"up to the call", end, Some(RunEnd::Call));
-    Ok(trial)
 }
 
 /// Makes the call of thread 1, and gives its result. Where a growth is refused, the guest is as it was before and nothing was asked,
@@ -86,8 +90,10 @@ fn check(
     want: u32,
     rows: &[Row],
 ) -> Result<(), Fail> {
-    let before = behind_call(rt, alloc, code)?;
-    let mut trial = behind_call(rt, alloc, code)?;
+    let mut before = before_code(rt, alloc, code)?;
+    let mut trial = before_code(rt, alloc, code)?;
+    run_code(rt, &mut before);
+    run_code(rt, &mut trial);
     let answered = call_again(rt, alloc, &mut trial, &before)?;
     same(rt, &"the result", answered, Some(want));
     play(rt, alloc, &mut trial, rows)

@@ -14,6 +14,7 @@ use test_guests::harts::regs_with;
 
 /// The code's page, and where it begins.
 const PAGE: u32 = 0x10;
+
 const START: u32 = 0x1_0000;
 
 /// What may be read, written and executed.
@@ -29,6 +30,7 @@ const LI_1: u32 = 0x0010_0513;
 const LI_2: u32 = 0x0020_0513;
 /// `sw a2, 0(a1)`
 const SW: u32 = 0x00C5_A023;
+
 const ECALL: u32 = 0x0000_0073;
 
 /// A run that ends so after so many instructions.
@@ -38,20 +40,26 @@ const fn ran(count: u32, end: RunEnd) -> Run {
 
 /// Runs from the code's first instruction on, with the address of its second one in a1 and `li a0, 2` in a2. Tells how the run
 /// went, and a0.
-pub(crate) fn run_code(space: &mut CodeSpace) -> (Run, u32) {
+fn run_code(space: &mut CodeSpace) -> (Run, u32)
+    ensures { snapshots_of space.new ≡ snapshots_of space.old }
+{
     let mut regs = regs_with(START, [0, START + 4, LI_2, 0]);
     let run = run_hart(&mut regs, space, &mut None, 9);
     (run, regs.registers[10])
 }
 
 /// Ends the test where the code doesn't put this number into a0 and then call.
-pub(crate) fn answers(rt: &impl Abort, what: &str, space: &mut CodeSpace, number: u32) {
+pub(crate) fn answers(rt: &impl Abort, what: &str, space: &mut CodeSpace, number: u32)
+    ensures { snapshots_of space.new ≡ snapshots_of space.old }
+{
     let found = run_code(space);
     same(rt, &what, found, (ran(2, RunEnd::Call), number));
 }
 
 /// Puts two instructions into the code's page, which may be executed then and not written.
-fn put_code(space: &mut CodeSpace, words: [u32; 2]) -> Result<(), Fail> {
+fn put_code(space: &mut CodeSpace, words: [u32; 2]) -> Result<(), Fail>
+    ensures { snapshots_of space.new ≡ snapshots_of space.old }
+{
     space.protect(PAGE, 1, DATA)?;
     space.store_word(START, words[0])?;
     space.store_word(START + 4, words[1])?;
