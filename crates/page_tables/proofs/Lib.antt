@@ -1,0 +1,4 @@
+pub mod Tables
+pub mod Bytes
+pub mod Sharing
+pub mod Values

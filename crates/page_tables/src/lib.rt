@@ -1,0 +1,8 @@
+//! Pages of a guest under two-level tables that share them: a page is counted, and copied before it is written where it is shared.
+#![tactic(auto)]
+
+mod page_tables;
+mod pool;
+mod table;
+
+pub use page_tables::{PageTables, PageView};
