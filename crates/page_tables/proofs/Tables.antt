@@ -146,3 +146,11 @@ blank n at = elim (cases_lt at n) [
   | inl w ↦ get_or-replicate n at NO_PAGE NO_PAGE w
   | inr w ↦ get_or_past (replicate n NO_PAGE) at NO_PAGE (omega (arith, length-replicate n NO_PAGE))
 ]
+
+-- where there is a page, there is room
+pub mapped_leaf : (t : Table) (n : ℕ) → (entry_at t n).mapped ≡ true → has_leaf t n ≡ true
+unfolding entry_at has_leaf
+mapped_leaf t n m = by_leaf (leaf_in t.directory.items n) m where
+  by_leaf : (o : Option Leaf) → (entry_in o (n % 1024)).mapped ≡ true → is_leaf o ≡ true
+  by_leaf None e = e
+  by_leaf (Some leaf) e = refl

@@ -18,6 +18,7 @@ use Rattle.page_tables.specs.declared.pool.Page.{Page}
 use Rattle.page_tables.specs.Table.{entry_at}
 use Rattle.page_tables.specs.Contents.{PageValue, Contents, TablesValue, contents_of, value_of, with_entry, gathered}
 use Rattle.page_tables.specs.Sharing.{slot_at, slot_entry, IsTableOf, AreShared, page_in, value_in, pages_in, counts_in, kept_in, contents_in}
+use Rattle.page_tables.specs.Changes.{IsNext}
 use Rattle.page_tables.proofs.Sharing.{found}
 
 -- ---- functions as data
@@ -142,3 +143,23 @@ not_false false e = absurd (false≢true (sym e))
 
 pub gathered_none : {X : Type 0} (n : ℕ) (f : ℕ → Option X) → ((q : ℕ) → f q ≡ None) → (q : ℕ) → get (gathered n f) q ≡ None
 gathered_none n f all q = elim (cases_lt q n) [ inl w ↦ gathered_below n f q w ∙ all q | inr w ↦ gathered_above n f q w ]
+
+-- a live snapshot has a slot
+pub slot_there : (pool : Slab Page) (table : Table) (kept : List (Option Table)) (v : TablesValue) → AreShared (slab_get pool) (entry_at table) kept → value_of (contents_in pool table kept) ≡ v →
+    (i : ℕ) → IsSome ((contents_of v).kept i) → IsSome (get_or kept i None)
+slot_there pool table kept v h view i live = by_slot (get_or kept i None) (subst (λ (c : Contents). IsSome (c.kept i)) (seen pool table kept v h view) live) where
+  by_slot : (o : Option Table) → IsSome (option_map (λ t. pages_in (slab_get pool) (entry_at t)) o) → IsSome o
+  by_slot None e = e
+  by_slot (Some t) e = refl
+
+-- what comes next
+pub next_some : (pool : ℕ → Option Page) (t : ℕ → Entry) (least n : ℕ) → IsTableOf pool t → least ≤ n → n < 0x80000 → (t n).mapped ≡ true → ((q : ℕ) → least ≤ q → q < n → (t q).mapped ≡ false) → IsNext (pages_in pool t) least (Some n)
+next_some pool t least n h low high here free =
+    let f = found pool t n h here in
+    (low, high, subst IsSome (sym (page_mapped pool t n f.0 here f.1)) refl, λ q a b. page_unmapped pool t q (free q a b))
+
+pub next_none : (pool : ℕ → Option Page) (t : ℕ → Entry) (least : ℕ) → IsTableOf pool t → ((q : ℕ) → least ≤ q → q < 0x80000 → (t q).mapped ≡ false) → IsNext (pages_in pool t) least None
+next_none pool t least h free q l = elim (cases_lt q 0x80000) [
+  | inl w ↦ page_unmapped pool t q (free q l w)
+  | inr w ↦ ap (option_map (value_in (t q))) (high pool t h q w)
+]

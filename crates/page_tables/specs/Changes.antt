@@ -1,5 +1,5 @@
 -- How calls change what page tables contain.
-use Rattle.std.specs.Prelude.{◌≡◌, ◌≢◌, ℕ, ◌+◌, ◌-◌, ◌<◌, ◌≤◌, ◌==◌, Bool, true, false, if◌then◌else◌, List, [], ◌∷◌, Option, Some, None, slice_set}
+use Rattle.std.specs.Prelude.{◌≡◌, ◌≢◌, ℕ, ◌+◌, ◌-◌, ◌<◌, ◌≤◌, ◌==◌, Bool, true, false, if◌then◌else◌, List, [], ◌∷◌, Option, Some, None, IsSome, slice_set}
 use Rattle.std.specs.Option.{option_map}
 use Rattle.rrv_model.specs.declared.machine.Permissions.{Permissions}
 use Rattle.page_tables.specs.declared.pool.Page.{Page}
@@ -75,6 +75,13 @@ pub record IsPlaced (n : ℕ) (page : PageValue) (old new : Contents) : Type 0 w
   pub rest : KeepsOthers n old new
   pub live : new.live ≡ old.live + added (old.counts n)
 
+-- number n, which had none, has this page
+pub record IsAttached (n : ℕ) (page : PageValue) (old new : Contents) : Type 0 where
+  pub here : new.pages n ≡ Some page
+  pub own : IsOwn new n
+  pub rest : KeepsOthers n old new
+  pub live : new.live ≡ old.live + 1
+
 -- number n has no page
 pub record IsRemoved (n : ℕ) (old new : Contents) : Type 0 where
   pub here : new.pages n ≡ None
@@ -113,3 +120,9 @@ pub record IsReleased (number : ℕ) (old new : Contents) : Type 0 where
 abbrev pub shown : Option PageView → Option PageValue
 shown None = None
 shown (Some v) = Some (record { permissions = v.permissions; bytes = v.bytes.now })
+
+-- the least number from this one on that has a page
+abbrev pub IsNext : (ℕ → Option PageValue) → ℕ → Option ℕ → Type 0
+IsNext pages least None = (q : ℕ) → least ≤ q → pages q ≡ None
+IsNext pages least (Some n) =
+    (least ≤ n) × (n < 0x80000) × (IsSome (pages n)) × ((q : ℕ) → least ≤ q → q < n → pages q ≡ None)

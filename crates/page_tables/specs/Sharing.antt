@@ -1,6 +1,6 @@
 -- Tables that share the pages of a pool: a key stands in a table only at its page's own number, a page's count is the
 -- number of tables that have it there, and no count is 0.
-use Rattle.std.specs.Prelude.{◌≡◌, ℕ, zero, suc, ◌+◌, ◌-◌, ◌<◌, ◌≤◌, ◌^◌, ◌==◌, Bool, true, false, ◌&&◌, nat_lt, if◌then◌else◌, List, length, Option, Some, None, IfSome, IsSomeAnd, slice_index_or, count_by}
+use Rattle.std.specs.Prelude.{◌≡◌, ◌≢◌, ℕ, zero, suc, ◌+◌, ◌-◌, ◌<◌, ◌≤◌, ◌^◌, ◌==◌, Bool, true, false, ◌&&◌, nat_lt, if◌then◌else◌, List, length, Option, Some, None, IfSome, IsSomeAnd, slice_index_or, count_by}
 use Rattle.std.specs.Option.{option_map}
 use Rattle.slab.specs.Slab.{Slab, get, slab_len}
 use Rattle.rrv_model.specs.declared.machine.Permissions.{Permissions}
@@ -103,3 +103,13 @@ raised_by t n k (Some p) = if has_below t n k p.number then raised (Some p) else
 abbrev pub lowered_by : (ℕ → Entry) → ℕ → ℕ → Option Page → Option Page
 lowered_by t n k None = None
 lowered_by t n k (Some p) = if has_below t n k p.number then lowered (Some p) else Some p
+
+-- ---- the slots of snapshots
+
+-- slot i has this; the others stay
+pub record IsSlotSet (i : ℕ) (slot : Option Table) (kept new : List (Option Table)) : Type 0 where
+  pub here : slice_index_or new i None ≡ slot
+  pub others : (j : ℕ) → j ≢ i → slice_index_or new j None ≡ slice_index_or kept j None
+  pub shares : (n k : ℕ) →
+      count_by (λ s. has (slot_entry s) n k) new + (if has (slot_at kept i) n k then 1 else 0)
+      ≡ count_by (λ s. has (slot_entry s) n k) kept + (if has (slot_entry slot) n k then 1 else 0)

@@ -1,10 +1,15 @@
 //! The current table, those of live snapshots, and the pool of the pages that they share.
 
-ghost use Rattle.std.specs.Prelude.{◌≡◌, ◌≢◌, ℕ, ◌+◌, ◌<◌, ◌≤◌, OnOk, OnErr, IfOk, IsSome, IsTrue, Some, None, true, false, length, option_copied, ◌↔◌};
+ghost use Rattle.std.specs.Prelude.{◌≡◌, ◌≢◌, ℕ, ◌+◌, ◌<◌, ◌≤◌, OnOk, OnErr, IfOk, IsSome, IsSomeAnd, IsTrue, Some, None, true, false, length, option_copied, ◌↔◌};
 ghost use Rattle.page_tables.specs.Contents.{contents_of};
-ghost use Rattle.page_tables.specs.Changes.{IsOwn, allows_read, allows_execute, bytes_if, IsWritten, IsPlaced, IsRemoved, IsProtected, IsKept, IsReleased, shown};
+ghost use Rattle.page_tables.specs.Changes.{IsOwn, allows_read, allows_execute, bytes_if, IsWritten, IsPlaced, IsRemoved, IsProtected, IsKept, IsReleased, IsNext, shown};
+ghost use Rattle.page_tables.specs.Sharing.{IsTableOf, pages_in};
+ghost use Rattle.page_tables.specs.Table.{entry_at};
+ghost use Rattle.slab.specs.Slab.{get};
 
-use crate::pool::Page;
+use crate::entries::detach;
+use crate::pool::{Page, lower_all, raise_all};
+use crate::snapshots::{free_number, kept_under, store, take};
 use crate::table::Table;
 use rrv_model::machine::Permissions;
 use slab::Slab;
@@ -113,4 +118,85 @@ impl PageTables {
         let page = &self.pool[entry.key as usize];
         Some(&page.bytes)
     }
+
+    /// The least number from this one on that has a page. It takes no memory.
+    pub fn next(&self, least: u32) -> Option<u32>
+        ensures { IsNext (contents_of self.now).pages least result }
+    {
+        next_in(&self.pool, &self.table, least)
+    }
+
+    /// Takes the page at a number out of the current table, where there is one; snapshots keep theirs. It takes no memory.
+    pub fn remove(&mut self, number: u32)
+        ensures { IsRemoved number (contents_of self.old) (contents_of self.new) }
+    {
+        detach(&mut self.pool, &mut self.table, number);
+    }
+
+    /// Keeps the current pages as a snapshot, under the least number that none has; each page is then shared. Refused where a
+    /// growth is.
+    pub fn keep(&mut self) -> Result<usize, AllocError>
+        ensures kept { IfOk result (λ number. IsKept number (contents_of self.old) (contents_of self.new)) }
+        ensures err { OnErr result (self.new ≡ self.old) }
+    {
+        if self.kept.len() >= 0xFFFF_FFFD {
+            return Err(AllocError);
+        }
+        let copy = self.table.copy(self.alloc)?;
+        let number = free_number(&self.kept);
+        store(&mut self.kept, number, copy)?;
+        raise_all(&mut self.pool, &self.table);
+        Ok(number)
+    }
+
+    /// Lets a snapshot go. It takes no memory.
+    pub fn release(&mut self, number: usize)
+        requires { IsSome ((contents_of self.old).kept number) }
+        ensures { IsReleased number (contents_of self.old) (contents_of self.new) }
+    {
+        let table = take(&mut self.kept, number);
+        lower_all(&mut self.pool, &table);
+    }
+
+    /// The page that a snapshot has at a number.
+    pub fn kept_page(&self, snapshot: usize, number: u32) -> Option<PageView<'_>>
+        requires { IsSome ((contents_of self.now).kept snapshot) }
+        ensures { IsSomeAnd ((contents_of self.now).kept snapshot) (λ pages. shown result ≡ pages number) }
+    {
+        view_in(&self.pool, kept_under(&self.kept, snapshot), number)
+    }
+
+    /// The least number from this one on at which a snapshot has a page. It takes no memory.
+    pub fn kept_next(&self, snapshot: usize, least: u32) -> Option<u32>
+        requires { IsSome ((contents_of self.now).kept snapshot) }
+        ensures { IsSomeAnd ((contents_of self.now).kept snapshot) (λ pages. IsNext pages least result) }
+    {
+        next_in(&self.pool, kept_under(&self.kept, snapshot), least)
+    }
+}
+
+/// The page that a table has at a number.
+fn view_in<'a>(pool: &'a Slab<Page>, table: &Table, number: u32) -> Option<PageView<'a>>
+    requires { IsTableOf (get pool.now) (entry_at table.now) }
+    ensures { shown result ≡ pages_in (get pool.now) (entry_at table.now) number }
+{
+    let entry = table.entry(number);
+    if !entry.mapped {
+        return None;
+    }
+    let page = &pool[entry.key as usize];
+    Some(PageView {
+        permissions: entry.permissions,
+        bytes: &page.bytes,
+    })
+}
+
+/// The least number from this one on at which a table has a page. The pool is for the proof alone.
+fn next_in(pool: &Slab<Page>, table: &Table, least: u32) -> Option<u32>
+    requires { IsTableOf (get pool.now) (entry_at table.now) }
+    ensures { IsNext (pages_in (get pool.now) (entry_at table.now)) least result }
+{
+    let _ = pool;
+    let number = table.next_or_end(least);
+    if number < 0x80000 { Some(number) } else { None }
 }

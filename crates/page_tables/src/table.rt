@@ -104,6 +104,7 @@ impl Table {
     /// The least number from this one on that has a page, else the end of all pages, 0x80000.
     pub(crate) fn next_or_end(&self, least: u32) -> u32
         ensures low { least ≤ 0x80000 → least ≤ result }
+        ensures from { result < 0x80000 → least ≤ result }
         ensures high { result ≤ 0x80000 }
         ensures free { (n : ℕ) → least ≤ n → n < result → (entry_at self.now n).mapped ≡ false }
         ensures here { result < 0x80000 → (entry_at self.now result).mapped ≡ true }
