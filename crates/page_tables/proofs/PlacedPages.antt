@@ -1,5 +1,5 @@
 -- A page that is taken out of the current table, and one that is put into it.
-use Rattle.std.proofs.Common.{◌≡◌, ◌≢◌, ℕ, zero, suc, ◌+◌, ◌<◌, ◌≤◌, ◌^◌, ◌-◌, ◌==◌, ◌&&◌, Bool, true, false, List, [], ◌∷◌, length, get_or, Option, Some, None, IfSome, IsSome, is_some, ◌⊎◌, IsSomeAnd, refl, ap, ◌∙◌, sym, subst, arith, inl, inr, if◌then◌else◌, count_by}
+use Rattle.std.proofs.Common.{◌≡◌, ◌≢◌, ℕ, zero, suc, ◌+◌, ◌<◌, ◌≤◌, ◌^◌, ◌-◌, ◌==◌, ◌&&◌, Bool, true, false, List, [], ◌∷◌, length, get_or, Option, Some, None, IfSome, IsSome, is_some, ◌⊎◌, Result, Ok, Err, OnErr, OnOk, IsSomeAnd, refl, ap, ◌∙◌, sym, subst, arith, inl, inr, if◌then◌else◌, count_by}
 use Rattle.std.proofs.lemmas.Bool.{false≢true, cases_eq, eq-eqb}
 use Rattle.std.proofs.lemmas.Bool.Decides.{eqb_tells}
 use Rattle.std.proofs.lemmas.List.Sums.{sum_by-cons}
@@ -10,10 +10,12 @@ use Rattle.page_tables.specs.declared.table.Entry.{Entry}
 use Rattle.page_tables.specs.declared.table.Table.{Table}
 use Rattle.page_tables.specs.declared.pool.Page.{Page}
 use Rattle.page_tables.specs.Table.{entry_at, AreAlike}
-use Rattle.page_tables.specs.Contents.{PageValue, Contents}
-use Rattle.page_tables.specs.Changes.{IsRemoved, IsPlaced, IsAttached, KeepsOthers, IsOwn, freed, added}
+use Rattle.page_tables.specs.Contents.{PageValue, Contents, TablesValue, contents_of, value_of}
+use Rattle.page_tables.specs.Changes.{IsRemoved, IsPlaced, IsAttached, KeepsOthers, IsOwn, IsUnshared, IsWritten, IsRewritten, written, with_bytes, freed, added, allows_write}
 use Rattle.page_tables.specs.Sharing.{entry_has, has, slot_entry, slot_at, sharers, IsTableOf, AreShared, page_in, value_in, pages_in, counts_in, kept_in, contents_in, lowered, at_count}
-use Rattle.page_tables.proofs.Sharing.{one_if, Settles, settled, pages_stay, shared_after, count_is, counted_page, current_shares, slot_shares, kept_pages_stay, has_own, has_key, found}
+use Rattle.page_tables.proofs.Sharing.{one_if, Settles, settled, pages_stay, shared_after, count_is, counted_page, current_shares, slot_shares, kept_pages_stay, has_own, has_key, found, alone}
+use Rattle.page_tables.proofs.Values.{page_of, seen, allowed_mapped, page_mapped, present}
+use Rattle.page_tables.proofs.KeptTables.{transport}
 
 module _ (pool new : Slab Page) (table later : Table) (kept : List (Option Table)) (n : ℕ) (h : AreShared (get pool) (entry_at table) kept)
     (gone : (entry_at later n).mapped ≡ false) (none : (entry_at later n).permissions ≡ NO_PAGE.permissions)
@@ -231,3 +233,169 @@ module _ (pool new : Slab Page) (table later : Table) (kept : List (Option Table
 
   pub roomy_contents : slab_len new ≡ slab_len pool → contents_in new later kept ≡ contents_in pool table kept
   roomy_contents len = λ i. record { pages = pages_in (pools i) (tables i); counts = counts_in (pools i) (tables i); kept = kept_in (pools i) kept; live = len i }
+
+-- ---- bytes that are written into a page that no snapshot shares
+
+module _ (pool new : Slab Page) (table : Table) (kept : List (Option Table)) (n at key : ℕ) (bs : List ℕ) (h : AreShared (get pool) (entry_at table) kept)
+    (m : (entry_at table n).mapped ≡ true) (keyed : (entry_at table n).key ≡ key) (p q : Page) (there : get pool key ≡ Some p) (one : p.count ≡ 1)
+    (page : get new key ≡ Some q) (is : IsRewritten (written p.bytes.value at bs) p q)
+    (rest : (k : ℕ) → k ≢ key → get new k ≡ get pool k) where
+  numbered : p.number ≡ n
+  numbered = let f = found (get pool) (entry_at table) n h.current m in let same : Some f.0 ≡ Some p = sym f.1 ∙ ap (get pool) keyed ∙ there in cc (same, f.2)
+
+  -- a table that has the page has it at its number
+  at_number : (t : ℕ → Entry) → IsTableOf (get pool) t → (i : ℕ) → (t i).mapped ≡ true → (t i).key ≡ key → i ≡ n
+  at_number t j i w e = let f = found (get pool) t i j w in let same : Some f.0 ≡ Some p = sym f.1 ∙ ap (get pool) e ∙ there in let number : f.0.number ≡ p.number = cc (same) in sym f.2 ∙ number ∙ numbered
+
+  stays-written : (t : ℕ → Entry) → IsTableOf (get pool) t → IsTableOf (get new) t
+  stays-written t j = record {
+    low = j.low;
+    own = λ i w. elim (cases_eq (t i).key key) [
+      | inl e ↦ subst (λ (o : Option Page). IsSomeAnd o (λ p. p.number ≡ i)) (sym (ap (get new) e ∙ page)) (is.number ∙ numbered ∙ sym (at_number t j i w e))
+      | inr e ↦ subst (λ (o : Option Page). IsSomeAnd o (λ p. p.number ≡ i)) (sym (rest (t i).key e)) (j.own i w)
+    ];
+    none = j.none;
+  }
+
+  pub written_shared : AreShared (get new) (entry_at table) kept
+  written_shared = record { current = stays-written (entry_at table) h.current; slots = λ i. stays-written (slot_at kept i) (h.slots i); counted = counted; few = h.few } where
+    counted : (k : ℕ) → IfSome (get new k) (λ p. (p.count ≡ sharers (entry_at table) kept p.number k) × (1 ≤ p.count))
+    counted k = elim (cases_eq k key) [
+      | inl e ↦
+          let c = count_is (get pool) (entry_at table) kept h key p there in
+          let same : q.count ≡ sharers (entry_at table) kept q.number k = is.count ∙ c.0 ∙ sym (ap (λ (i : ℕ). sharers (entry_at table) kept i k) is.number ∙ ap (λ (i : ℕ). sharers (entry_at table) kept p.number i) e) in
+          subst (λ (o : Option Page). IfSome o (λ p. (p.count ≡ sharers (entry_at table) kept p.number k) × (1 ≤ p.count))) (sym (ap (get new) e ∙ page)) (same, omega (arith, is.count, c.1))
+      | inr e ↦ subst (λ (o : Option Page). IfSome o (λ p. (p.count ≡ sharers (entry_at table) kept p.number k) × (1 ≤ p.count))) (sym (rest k e)) (h.counted k)
+    ]
+
+  unmoved : (t : ℕ → Entry) (i : ℕ) → ((t i).mapped ≡ true → (t i).key ≢ key) → page_in (get new) (t i) ≡ page_in (get pool) (t i)
+  unmoved t i apart = by_test (t i).mapped refl where
+    by_test : (b : Bool) → (t i).mapped ≡ b → (if b then get new (t i).key else None) ≡ (if b then get pool (t i).key else None)
+    by_test false w = refl
+    by_test true w = rest (t i).key (apart w)
+
+  -- no snapshot has it
+  kept_apart : (j i : ℕ) → (slot_at kept j i).mapped ≡ true → (slot_at kept j i).key ≢ key
+  kept_apart j i w e =
+      let count : sharers (entry_at table) kept n key ≡ 1 = ap (λ (i : ℕ). sharers (entry_at table) kept i key) (sym numbered) ∙ sym (count_is (get pool) (entry_at table) kept h key p there).0 ∙ one in
+      let mine : has (entry_at table) n key ≡ true = ap (λ (k : ℕ). has (entry_at table) n k) (sym keyed) ∙ has_own (entry_at table) n m in
+      let none = alone (entry_at table) kept n key count mine j in
+      let has_it : has (slot_at kept j) i key ≡ true = ap (λ (k : ℕ). has (slot_at kept j) i k) (sym e) ∙ has_own (slot_at kept j) i w in
+      false≢true (sym none ∙ ap (λ (i : ℕ). has (slot_at kept j) i key) (sym (at_number (slot_at kept j) (h.slots j) i w e)) ∙ has_it)
+
+  page-new : page_in (get new) (entry_at table n) ≡ Some q
+  page-new = ap (λ (b : Bool). if b then get new (entry_at table n).key else None) m ∙ ap (get new) keyed ∙ page
+
+  page-old : page_in (get pool) (entry_at table n) ≡ Some p
+  page-old = ap (λ (b : Bool). if b then get pool (entry_at table n).key else None) m ∙ ap (get pool) keyed ∙ there
+
+  pub written_contents : slab_len new ≡ slab_len pool → IsWritten n at bs (contents_in pool table kept) (contents_in new table kept)
+  written_contents len = record {
+    page = ap (option_map (value_in (entry_at table n))) page-new ∙ ap (λ (bytes : List ℕ). Some (page_of (entry_at table n) bytes)) is.bytes_are
+        ∙ sym (ap (λ (o : Option Page). option_map (with_bytes at bs) (option_map (value_in (entry_at table n)) o)) page-old);
+    own = ap (option_map (λ (p : Page). p.count)) page-new ∙ ap Some (is.count ∙ one);
+    rest = record {
+      pages = λ i apart. ap (option_map (value_in (entry_at table i))) (unmoved (entry_at table) i (λ w e. apart (at_number (entry_at table) h.current i w e)));
+      counts = λ i apart. ap (option_map (λ (p : Page). p.count)) (unmoved (entry_at table) i (λ w e. apart (at_number (entry_at table) h.current i w e)));
+      kept = λ i j. kept_pages_stay (get pool) (get new) kept kept j refl (λ w. ap (option_map (value_in (slot_at kept j w))) (unmoved (slot_at kept j) w (kept_apart j w))) i;
+    };
+    live = let none : added (option_map (λ (p : Page). p.count) (page_in (get pool) (entry_at table n))) ≡ 0 = ap (λ (o : Option Page). added (option_map (λ (p : Page). p.count) o)) page-old ∙ ap (λ (c : ℕ). added (Some c)) one in omega (arith, len, none);
+  }
+
+pub on_err : {T E : Type 0} (r : Result T E) (P : Type 0) → P → OnErr r P
+on_err (Ok x) P p = tt
+on_err (Err e) P p = p
+
+pub on_ok : {T E : Type 0} (r : Result T E) (P : Type 0) → P → OnOk r P
+on_ok (Ok x) P p = p
+on_ok (Err e) P p = tt
+
+-- ---- the same for values
+
+pub unchanged : (n : ℕ) (c : Contents) → c.counts n ≡ Some 1 → IsUnshared n c c
+unchanged n c one = record {
+  here = refl;
+  own = one;
+  rest = record { pages = λ q w. refl; counts = λ q w. refl; kept = refl };
+  live = let none : added (c.counts n) ≡ 0 = ap added one in omega (arith, none);
+}
+
+pub placed_again : (n : ℕ) (page : PageValue) (old new : Contents) → Some page ≡ old.pages n → IsPlaced n page old new → IsUnshared n old new
+placed_again n page old new e i = record { here = i.here ∙ e; own = i.own; rest = i.rest; live = i.live }
+
+module _ (pool : Slab Page) (table : Table) (kept : List (Option Table)) (v : TablesValue) (h : AreShared (get pool) (entry_at table) kept) (view : value_of (contents_in pool table kept) ≡ v) (n : ℕ) where
+  pub live_mapped : IsSome ((contents_of v).pages n) → (entry_at table n).mapped ≡ true
+  live_mapped live = by_test (entry_at table n).mapped (subst (λ (c : Contents). IsSome (c.pages n)) (seen pool table kept v h view) live) where
+    by_test : (b : Bool) → IsSome (option_map (value_in (entry_at table n)) (if b then get pool (entry_at table n).key else None)) → b ≡ true
+    by_test true i = refl
+    by_test false i = i
+
+  pub own_mapped : (contents_of v).counts n ≡ Some 1 → (entry_at table n).mapped ≡ true
+  own_mapped one = by_test (entry_at table n).mapped (sym (ap (λ (c : Contents). c.counts n) (seen pool table kept v h view)) ∙ one) where
+    by_test : (b : Bool) → option_map (λ (p : Page). p.count) (if b then get pool (entry_at table n).key else None) ≡ Some 1 → b ≡ true
+    by_test true i = refl
+    by_test false i = ap is_some i
+
+  pub count_at : (p : Page) → (entry_at table n).mapped ≡ true → get pool (entry_at table n).key ≡ Some p → (contents_of v).counts n ≡ Some p.count
+  count_at p m e = ap (λ (c : Contents). c.counts n) (seen pool table kept v h view) ∙ ap (λ (b : Bool). option_map (λ (p : Page). p.count) (if b then get pool (entry_at table n).key else None)) m ∙ ap (option_map (λ (p : Page). p.count)) e
+
+  module _ (new : Slab Page) (at : ℕ) (bs : List ℕ) (e : Entry) (is : e ≡ entry_at table n) (own : (contents_of v).counts n ≡ Some 1)
+      (here : IfSome (get pool e.key) (λ p. IsSomeAnd (get new e.key) (IsRewritten (written p.bytes.value at bs) p))) (rest : (k : ℕ) → k ≢ e.key → get new k ≡ get pool k) where
+    rewritten : (p : Page) → get pool e.key ≡ Some p → (q : Page) × (get new e.key ≡ Some q) × IsRewritten (written p.bytes.value at bs) p q
+    rewritten p there = by_page (get new e.key) refl (subst (λ (o : Option Page). IfSome o (λ p. IsSomeAnd (get new e.key) (IsRewritten (written p.bytes.value at bs) p))) there here) where
+      by_page : (o : Option Page) → get new e.key ≡ o → IsSomeAnd o (IsRewritten (written p.bytes.value at bs) p) → (q : Page) × (get new e.key ≡ Some q) × IsRewritten (written p.bytes.value at bs) p q
+      by_page None w i = absurd i
+      by_page (Some q) w i = (q, w, i)
+
+    keyed : (entry_at table n).key ≡ e.key
+    keyed = ap (λ (d : Entry). d.key) (sym is)
+
+    old-page : (p : Page) × (get pool (entry_at table n).key ≡ Some p) × (p.number ≡ n)
+    old-page = found (get pool) (entry_at table) n h.current (own_mapped own)
+
+    there : get pool e.key ≡ Some old-page.0
+    there = ap (get pool) (sym keyed) ∙ old-page.1
+
+    alone-page : old-page.0.count ≡ 1
+    alone-page = let same : Some old-page.0.count ≡ Some 1 = sym (count_at old-page.0 (own_mapped own) old-page.1) ∙ own in cc (same)
+
+    pub write_shared : AreShared (get new) (entry_at table) kept
+    write_shared = let r = rewritten old-page.0 there in written_shared pool new table kept n at e.key bs h (own_mapped own) keyed old-page.0 r.0 there alone-page r.1 r.2 rest
+
+    pub write_contents : slab_len new ≡ slab_len pool → (w : TablesValue) → value_of (contents_in new table kept) ≡ w → IsWritten n at bs (contents_of v) (contents_of w)
+    write_contents len w view-new =
+        let r = rewritten old-page.0 there in
+        transport (IsWritten n at bs) (contents_in pool table kept) (contents_in new table kept) (contents_of v) (contents_of w) (seen pool table kept v h view) (seen new table kept w write_shared view-new)
+        (written_contents pool new table kept n at e.key bs h (own_mapped own) keyed old-page.0 r.0 there alone-page r.1 r.2 rest len)
+
+-- a page is unshared, and then written
+pub written_after : (n at : ℕ) (bs : List ℕ) (old mid new : Contents) → IsUnshared n old mid → IsWritten n at bs mid new → IsWritten n at bs old new
+written_after n at bs old mid new u w = record {
+  page = w.page ∙ ap (option_map (with_bytes at bs)) u.here;
+  own = w.own;
+  rest = record { pages = λ q a. w.rest.pages q a ∙ u.rest.pages q a; counts = λ q a. w.rest.counts q a ∙ u.rest.counts q a; kept = w.rest.kept ∙ u.rest.kept };
+  live = let none : added (mid.counts n) ≡ 0 = ap added u.own in omega (arith, w.live, u.live, none);
+}
+
+pub writable_there : (o : Option PageValue) → allows_write o ≡ true → IsSome o
+writable_there None e = e
+writable_there (Some p) e = refl
+
+module _ (pool : Slab Page) (table : Table) (kept : List (Option Table)) (v : TablesValue) (h : AreShared (get pool) (entry_at table) kept) (view : value_of (contents_in pool table kept) ≡ v) (n : ℕ)
+    (e : Entry) (is : e ≡ entry_at table n) (allowed : e.permissions.write ≡ true) where
+  writes_mapped : (entry_at table n).mapped ≡ true
+  writes_mapped = allowed_mapped (get pool) (entry_at table) n (λ p. p.write) h.current refl (ap (λ (d : Entry). d.permissions.write) (sym is) ∙ allowed)
+
+  pub writable_page : allows_write ((contents_of v).pages n) ≡ true
+  writable_page =
+      let f = found (get pool) (entry_at table) n h.current writes_mapped in
+      ap (λ (c : Contents). allows_write (c.pages n)) (seen pool table kept v h view) ∙ ap allows_write (page_mapped (get pool) (entry_at table) n f.0 writes_mapped f.1) ∙ ap (λ (d : Entry). d.permissions.write) (sym is) ∙ allowed
+
+  pub writable_present : IsSome (get pool e.key)
+  writable_present = subst (λ (d : Entry). IsSome (get pool d.key)) (sym is) (present (get pool) (entry_at table) n h.current writes_mapped)
+
+  pub own_if : (p : Page) → get pool e.key ≡ Some p → p.count ≤ 1 → (contents_of v).counts n ≡ Some 1
+  own_if p there few =
+      let at : get pool (entry_at table n).key ≡ Some p = ap (λ (d : Entry). get pool d.key) (sym is) ∙ there in
+      let one : p.count ≡ 1 = omega (arith, few, (count_is (get pool) (entry_at table) kept h (entry_at table n).key p at).1) in
+      count_at pool table kept v h view n p writes_mapped at ∙ ap Some one

@@ -4,6 +4,8 @@ use Rattle.std.specs.Option.{option_map}
 use Rattle.rrv_model.specs.declared.machine.Permissions.{Permissions}
 use Rattle.page_tables.specs.declared.pool.Page.{Page}
 use Rattle.page_tables.specs.declared.page_tables.PageView.{PageView}
+use Rattle.page_tables.specs.declared.page_tables.PutError.{PutError}
+use Rattle.page_tables.specs.declared.page_tables.PutError.TheVariants as errors
 use Rattle.page_tables.specs.Contents.{PageValue, Contents}
 
 -- the current table alone has page n: to write it takes no memory
@@ -82,6 +84,13 @@ pub record IsAttached (n : ℕ) (page : PageValue) (old new : Contents) : Type 0
   pub rest : KeepsOthers n old new
   pub live : new.live ≡ old.live + 1
 
+-- page n is as it was, and no snapshot shares it
+pub record IsUnshared (n : ℕ) (old new : Contents) : Type 0 where
+  pub here : new.pages n ≡ old.pages n
+  pub own : IsOwn new n
+  pub rest : KeepsOthers n old new
+  pub live : new.live ≡ old.live + added (old.counts n)
+
 -- number n has no page
 pub record IsRemoved (n : ℕ) (old new : Contents) : Type 0 where
   pub here : new.pages n ≡ None
@@ -126,3 +135,9 @@ abbrev pub IsNext : (ℕ → Option PageValue) → ℕ → Option ℕ → Type 0
 IsNext pages least None = (q : ℕ) → least ≤ q → pages q ≡ None
 IsNext pages least (Some n) =
     (least ≤ n) × (n < 0x80000) × (IsSome (pages n)) × ((q : ℕ) → least ≤ q → q < n → pages q ≡ None)
+
+-- a write into this page is refused so
+abbrev pub IsPutRefusal : Option PageValue → PutError → Type 0
+IsPutRefusal page errors.NotMapped = page ≡ None
+IsPutRefusal page errors.NotAllowed = IsSome page × (allows_write page ≡ false)
+IsPutRefusal page errors.Memory = allows_write page ≡ true

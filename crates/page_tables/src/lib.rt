@@ -7,4 +7,4 @@ mod pool;
 mod snapshots;
 mod table;
 
-pub use page_tables::{PageTables, PageView};
+pub use page_tables::{PageTables, PageView, PutError};

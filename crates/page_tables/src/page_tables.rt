@@ -1,14 +1,17 @@
 //! The current table, those of live snapshots, and the pool of the pages that they share.
 
-ghost use Rattle.std.specs.Prelude.{◌≡◌, ◌≢◌, ℕ, ◌+◌, ◌<◌, ◌≤◌, OnOk, OnErr, IfOk, IsSome, IsSomeAnd, IsTrue, Some, None, true, false, length, option_copied, ◌↔◌};
+ghost use Rattle.std.specs.Prelude.{◌≡◌, ◌≢◌, ℕ, ◌+◌, ◌<◌, ◌≤◌, OnOk, OnErr, IfOk, IfErr, IsSome, IsSomeAnd, IsTrue, Some, None, true, false, length, option_copied, ◌↔◌};
+ghost use Rattle.std.specs.Int.{w8, w16, w32, to_le_bytes};
 ghost use Rattle.page_tables.specs.Contents.{contents_of};
-ghost use Rattle.page_tables.specs.Changes.{IsOwn, allows_read, allows_execute, bytes_if, IsWritten, IsPlaced, IsRemoved, IsProtected, IsKept, IsReleased, IsNext, shown};
+ghost use Rattle.page_tables.specs.Changes.{IsOwn, allows_read, allows_write, allows_execute, IsPutRefusal, bytes_if, IsWritten, IsPlaced, IsRemoved, IsProtected, IsKept, IsReleased, IsNext, IsUnshared, shown};
 ghost use Rattle.page_tables.specs.Sharing.{IsTableOf, pages_in};
 ghost use Rattle.page_tables.specs.Table.{entry_at};
 ghost use Rattle.slab.specs.Slab.{get};
 
-use crate::entries::detach;
-use crate::pool::{Page, lower_all, raise_all};
+use crate::entries::{attach, detach};
+use crate::pool::{
+    Page, copy_bytes, lower_all, put_byte, put_bytes, put_half, put_word, raise_all, reserve_pages,
+};
 use crate::snapshots::{free_number, kept_under, store, take};
 use crate::table::Table;
 use rrv_model::machine::Permissions;
@@ -23,6 +26,17 @@ pub struct PageView<'a> {
     pub permissions: Permissions,
     /// Its bytes, by their place in the page.
     pub bytes: &'a [u8; 4096],
+}
+
+/// Why a page was not written. All is then as before.
+#[derive(Clone, Copy, Debug, PartialEq, Eq)]
+pub enum PutError {
+    /// There is no page.
+    NotMapped,
+    /// It may not be written.
+    NotAllowed,
+    /// A growth was refused.
+    Memory,
 }
 
 /// The pages of a guest and of its live snapshots. Page numbers lie below 0x80000. A snapshot shares its pages with the current
@@ -124,6 +138,167 @@ impl PageTables {
         ensures { IsNext (contents_of self.now).pages least result }
     {
         next_in(&self.pool, &self.table, least)
+    }
+
+    /// Puts a page of its own at a number, in place of what was there; snapshots keep theirs. Refused where a growth is.
+    pub fn place(
+        &mut self,
+        number: u32,
+        permissions: Permissions,
+        bytes: &[u8; 4096],
+    ) -> Result<(), AllocError>
+        requires { number < 0x80000 }
+        ensures placed { OnOk result (IsPlaced number (record { permissions = permissions; bytes = bytes.now })
+            (contents_of self.old) (contents_of self.new)) }
+        ensures err { OnErr result (self.new ≡ self.old) }
+    {
+        let copy = copy_bytes(self.alloc, bytes)?;
+        self.install(number, permissions, copy)
+    }
+
+    /// Makes the page at a number one of its own, by a copy where snapshots share it: to write it then takes no memory. Refused
+    /// where a growth is, which is only where it is shared.
+    pub fn unshare(&mut self, number: u32) -> Result<(), AllocError>
+        requires { IsSome ((contents_of self.old).pages number) }
+        ensures unshared { OnOk result (IsUnshared number (contents_of self.old) (contents_of self.new)) }
+        ensures err { OnErr result (self.new ≡ self.old) }
+        ensures shared { OnErr result (IsOwn (contents_of self.old) number → ⊥) }
+    {
+        let entry = self.table.entry(number);
+        let page = &self.pool[entry.key as usize];
+        if page.count == 1 {
+            return Ok(());
+        }
+        let copy = copy_bytes(self.alloc, &page.bytes)?;
+        self.install(number, entry.permissions, copy)?;
+        Ok(())
+    }
+
+    /// Puts these bytes at a number as a page of its own.
+    fn install(
+        &mut self,
+        number: u32,
+        permissions: Permissions,
+        bytes: Box<[u8; 4096]>,
+    ) -> Result<(), AllocError>
+        requires { number < 0x80000 }
+        ensures placed { OnOk result (IsPlaced number (record { permissions = permissions; bytes = bytes.value })
+            (contents_of self.old) (contents_of self.new)) }
+        ensures err { OnErr result (self.new ≡ self.old) }
+    {
+        self.table.make_room(self.alloc, number)?;
+        reserve_pages(&mut self.pool, 1)?;
+        detach(&mut self.pool, &mut self.table, number);
+        attach(&mut self.pool, &mut self.table, number, permissions, bytes);
+        Ok(())
+    }
+
+    /// Writes a byte at a place in a page. The page is copied first where snapshots share it. Refused with
+    /// NotMapped where there is no page, with NotAllowed where it may not be written, with Memory where a growth is refused.
+    #[inline(always)]
+    pub fn put_byte(&mut self, number: u32, at: usize, value: u8) -> Result<(), PutError>
+        requires { at + 1 ≤ 4096 }
+        ensures allowed { OnOk result (allows_write ((contents_of self.old).pages number) ≡ true) }
+        ensures written { OnOk result (IsWritten number at (to_le_bytes w8 value)
+            (contents_of self.old) (contents_of self.new)) }
+        ensures refused { IfErr result (IsPutRefusal ((contents_of self.old).pages number)) }
+        ensures err { OnErr result (self.new ≡ self.old) }
+    {
+        let entry = self.table.entry(number);
+        if !entry.permissions.write {
+            return Err(self.refusal(number));
+        }
+        let page = &self.pool[entry.key as usize];
+        if page.count > 1 {
+            return self.put_shared(number, at, &value.to_le_bytes());
+        }
+        put_byte(&mut self.pool, entry.key as usize, at, value);
+        Ok(())
+    }
+
+    /// Writes a half-word at a place in a page, its low byte first. The page is copied first where snapshots share it. Refused with
+    /// NotMapped where there is no page, with NotAllowed where it may not be written, with Memory where a growth is refused.
+    #[inline(always)]
+    pub fn put_half(&mut self, number: u32, at: usize, value: u16) -> Result<(), PutError>
+        requires { at + 2 ≤ 4096 }
+        ensures allowed { OnOk result (allows_write ((contents_of self.old).pages number) ≡ true) }
+        ensures written { OnOk result (IsWritten number at (to_le_bytes w16 value)
+            (contents_of self.old) (contents_of self.new)) }
+        ensures refused { IfErr result (IsPutRefusal ((contents_of self.old).pages number)) }
+        ensures err { OnErr result (self.new ≡ self.old) }
+    {
+        let entry = self.table.entry(number);
+        if !entry.permissions.write {
+            return Err(self.refusal(number));
+        }
+        let page = &self.pool[entry.key as usize];
+        if page.count > 1 {
+            return self.put_shared(number, at, &value.to_le_bytes());
+        }
+        put_half(&mut self.pool, entry.key as usize, at, value);
+        Ok(())
+    }
+
+    /// Writes a word at a place in a page, its low byte first. The page is copied first where snapshots share it. Refused with
+    /// NotMapped where there is no page, with NotAllowed where it may not be written, with Memory where a growth is refused.
+    #[inline(always)]
+    pub fn put_word(&mut self, number: u32, at: usize, value: u32) -> Result<(), PutError>
+        requires { at + 4 ≤ 4096 }
+        ensures allowed { OnOk result (allows_write ((contents_of self.old).pages number) ≡ true) }
+        ensures written { OnOk result (IsWritten number at (to_le_bytes w32 value)
+            (contents_of self.old) (contents_of self.new)) }
+        ensures refused { IfErr result (IsPutRefusal ((contents_of self.old).pages number)) }
+        ensures err { OnErr result (self.new ≡ self.old) }
+    {
+        let entry = self.table.entry(number);
+        if !entry.permissions.write {
+            return Err(self.refusal(number));
+        }
+        let page = &self.pool[entry.key as usize];
+        if page.count > 1 {
+            return self.put_shared(number, at, &value.to_le_bytes());
+        }
+        put_word(&mut self.pool, entry.key as usize, at, value);
+        Ok(())
+    }
+
+    /// Why a page may not be written.
+    #[cold]
+    fn refusal(&self, number: u32) -> PutError
+        requires { allows_write ((contents_of self.now).pages number) ≡ false }
+        ensures { IsPutRefusal ((contents_of self.now).pages number) result }
+    {
+        match self.page(number) {
+            Some(_) => PutError::NotAllowed,
+            None => PutError::NotMapped,
+        }
+    }
+
+    /// Writes into a page that snapshots share: the copy comes first.
+    #[cold]
+    #[inline(never)]
+    fn put_shared(&mut self, number: u32, at: usize, bytes: &[u8]) -> Result<(), PutError>
+        requires allowed { allows_write ((contents_of self.old).pages number) ≡ true }
+        requires fits { at + length bytes.now ≤ 4096 }
+        ensures written { OnOk result (IsWritten number at bytes.now (contents_of self.old) (contents_of self.new)) }
+        ensures refused { IfErr result (IsPutRefusal ((contents_of self.old).pages number)) }
+        ensures err { OnErr result (self.new ≡ self.old) }
+    {
+        let Ok(()) = self.unshare(number) else {
+            return Err(PutError::Memory);
+        };
+        self.write(number, at, bytes);
+        Ok(())
+    }
+
+    /// Writes bytes from a place in a page on that no snapshot shares, whatever its permissions. It takes no memory.
+    pub fn write(&mut self, number: u32, at: usize, bytes: &[u8])
+        requires own { IsOwn (contents_of self.old) number }
+        requires fits { at + length bytes.now ≤ 4096 }
+        ensures { IsWritten number at bytes.now (contents_of self.old) (contents_of self.new) }
+    {
+        let entry = self.table.entry(number);
+        put_bytes(&mut self.pool, entry.key as usize, at, bytes);
     }
 
     /// Takes the page at a number out of the current table, where there is one; snapshots keep theirs. It takes no memory.

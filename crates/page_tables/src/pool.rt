@@ -182,7 +182,7 @@ fn write_bytes(bytes: &mut [u8; 4096], at: usize, from: &[u8])
 }
 
 /// Makes room for so many more pages, which changes none of them. Refused where a growth is, or a key would be too great for an entry.
-pub(crate) fn make_room(pool: &mut Slab<Page>, count: usize) -> Result<(), AllocError>
+pub(crate) fn reserve_pages(pool: &mut Slab<Page>, count: usize) -> Result<(), AllocError>
     ensures same { (k : ℕ) → get pool.new k ≡ get pool.old k }
     ensures len { slab_len pool.new ≡ slab_len pool.old }
     ensures room { OnOk result (HasRoomFor pool.new count) }
