@@ -1,6 +1,6 @@
 -- A snapshot that is made, and one that goes.
-use Rattle.std.proofs.Common.{◌≡◌, ◌≢◌, ℕ, ◌+◌, ◌<◌, ◌≤◌, ◌^◌, ◌-◌, Bool, true, false, List, length, get_or, Option, Some, None, IfSome, is_some, IsSome, IsSomeAnd, refl, ap, ◌∙◌, sym, subst, arith, inl, inr, if◌then◌else◌, count_by}
-use Rattle.std.proofs.lemmas.Bool.{false≢true, cases_eq, cases_lt}
+use Rattle.std.proofs.Common.{◌≡◌, ℕ, ◌+◌, ◌<◌, ◌≤◌, ◌^◌, ◌-◌, Bool, true, false, List, length, get_or, Option, Some, None, IfSome, refl, ap, ◌∙◌, sym, subst, arith, inl, inr, if◌then◌else◌}
+use Rattle.std.proofs.lemmas.Bool.{false≢true, cases_eq}
 use Rattle.std.proofs.lemmas.List.Sums.{count_by-le-length}
 use Rattle.std.specs.Option.{option_map}
 use Rattle.slab.specs.Slab.{Slab, get, slab_len}
@@ -8,9 +8,9 @@ use Rattle.page_tables.specs.declared.table.Entry.{Entry}
 use Rattle.page_tables.specs.declared.table.Table.{Table}
 use Rattle.page_tables.specs.declared.pool.Page.{Page}
 use Rattle.page_tables.specs.Table.{entry_at, AreAlike}
-use Rattle.page_tables.specs.Contents.{PageValue, Contents}
+use Rattle.page_tables.specs.Contents.{Contents}
 use Rattle.page_tables.specs.Changes.{IsKept, IsReleased}
-use Rattle.page_tables.specs.Sharing.{has, slot_entry, slot_at, sharers, IsTableOf, AreShared, page_in, value_in, pages_in, counts_in, kept_in, contents_in, raised, raised_by, lowered_by, at_count, IsSlotSet}
+use Rattle.page_tables.specs.Sharing.{has, slot_entry, slot_at, sharers, IsTableOf, AreShared, pages_in, counts_in, contents_in, raised, raised_by, lowered_by, IsSlotSet}
 use Rattle.page_tables.proofs.Sharing.{one_if, Settles, settled, pages_stay, shared_after, count_is, raised_settles, lowered_settles, current_shares, slot_shares, kept_pages_stay, has_own, found, below_end}
 
 pub transport : (R : Contents → Contents → Type 0) (a b c d : Contents) → c ≡ a → d ≡ b → R a b → R c d

@@ -1,17 +1,18 @@
 -- A page that is taken out of the current table, and one that is put into it.
-use Rattle.std.proofs.Common.{◌≡◌, ◌≢◌, ℕ, zero, suc, ◌+◌, ◌<◌, ◌≤◌, ◌^◌, ◌-◌, ◌==◌, ◌&&◌, Bool, true, false, List, [], ◌∷◌, length, get_or, Option, Some, None, IfSome, IsSome, is_some, ◌⊎◌, Result, Ok, Err, OnErr, OnOk, IsSomeAnd, refl, ap, ◌∙◌, sym, subst, arith, inl, inr, if◌then◌else◌, count_by}
+use Rattle.std.proofs.Common.{◌≡◌, ◌≢◌, ℕ, suc, ◌+◌, ◌<◌, ◌≤◌, ◌-◌, ◌==◌, ◌&&◌, Bool, true, false, List, [], ◌∷◌, Option, Some, None, IfSome, IsSome, is_some, ◌⊎◌, Result, Ok, Err, OnErr, OnOk, IsSomeAnd, refl, ap, ◌∙◌, sym, subst, arith, inl, inr, if◌then◌else◌, count_by}
 use Rattle.std.proofs.lemmas.Bool.{false≢true, cases_eq, eq-eqb}
 use Rattle.std.proofs.lemmas.Bool.Decides.{eqb_tells}
 use Rattle.std.proofs.lemmas.List.Sums.{sum_by-cons}
 use Rattle.std.specs.Option.{option_map}
 use Rattle.slab.specs.Slab.{Slab, get, slab_len}
+use Rattle.rrv_model.specs.declared.machine.Permissions.{Permissions}
 use Rattle.page_tables.specs.declared.table.TheConstants.{NO_PAGE}
 use Rattle.page_tables.specs.declared.table.Entry.{Entry}
 use Rattle.page_tables.specs.declared.table.Table.{Table}
 use Rattle.page_tables.specs.declared.pool.Page.{Page}
 use Rattle.page_tables.specs.Table.{entry_at, AreAlike}
 use Rattle.page_tables.specs.Contents.{PageValue, Contents, TablesValue, contents_of, value_of}
-use Rattle.page_tables.specs.Changes.{IsRemoved, IsPlaced, IsAttached, KeepsOthers, IsOwn, IsUnshared, IsWritten, IsRewritten, written, with_bytes, freed, added, allows_write}
+use Rattle.page_tables.specs.Changes.{IsRemoved, IsPlaced, IsAttached, IsProtected, with_permissions, IsUnshared, IsWritten, IsRewritten, written, with_bytes, freed, added, allows_write}
 use Rattle.page_tables.specs.Sharing.{entry_has, has, slot_entry, slot_at, sharers, IsTableOf, AreShared, page_in, value_in, pages_in, counts_in, kept_in, contents_in, lowered, at_count}
 use Rattle.page_tables.proofs.Sharing.{one_if, Settles, settled, pages_stay, shared_after, count_is, counted_page, current_shares, slot_shares, kept_pages_stay, has_own, has_key, found, alone}
 use Rattle.page_tables.proofs.Values.{page_of, seen, allowed_mapped, page_mapped, present}
@@ -399,3 +400,71 @@ module _ (pool : Slab Page) (table : Table) (kept : List (Option Table)) (v : Ta
       let at : get pool (entry_at table n).key ≡ Some p = ap (λ (d : Entry). get pool d.key) (sym is) ∙ there in
       let one : p.count ≡ 1 = omega (arith, few, (count_is (get pool) (entry_at table) kept h (entry_at table n).key p at).1) in
       count_at pool table kept v h view n p writes_mapped at ∙ ap Some one
+
+-- ---- permissions that are set
+
+module _ (pool : Slab Page) (table later : Table) (kept : List (Option Table)) (n : ℕ) (permissions : Permissions) (h : AreShared (get pool) (entry_at table) kept)
+    (m : (entry_at table n).mapped ≡ true) (key : ℕ) (keyed : (entry_at table n).key ≡ key)
+    (here : entry_at later n ≡ record { key = key; mapped = true; permissions = permissions }) (others : (q : ℕ) → q ≢ n → entry_at later q ≡ entry_at table q) where
+  same-mapped : (q : ℕ) → (entry_at later q).mapped ≡ (entry_at table q).mapped
+  same-mapped q = elim (cases_eq q n) [
+    | inl w ↦ ap (λ (i : ℕ). (entry_at later i).mapped) w ∙ ap (λ (d : Entry). d.mapped) here ∙ sym (ap (λ (i : ℕ). (entry_at table i).mapped) w ∙ m)
+    | inr w ↦ ap (λ (d : Entry). d.mapped) (others q w)
+  ]
+
+  same-key : (q : ℕ) → (entry_at later q).key ≡ (entry_at table q).key
+  same-key q = elim (cases_eq q n) [
+    | inl w ↦ ap (λ (i : ℕ). (entry_at later i).key) w ∙ ap (λ (d : Entry). d.key) here ∙ sym (ap (λ (i : ℕ). (entry_at table i).key) w ∙ keyed)
+    | inr w ↦ ap (λ (d : Entry). d.key) (others q w)
+  ]
+
+  same-page : (q : ℕ) → page_in (get pool) (entry_at later q) ≡ page_in (get pool) (entry_at table q)
+  same-page q = λ i. if same-mapped q i then get pool (same-key q i) else None
+
+  pub protected_shared : AreShared (get pool) (entry_at later) kept
+  protected_shared = record { current = current; slots = h.slots; counted = counted; few = h.few } where
+    current : IsTableOf (get pool) (entry_at later)
+    current = record {
+      low = λ q w. h.current.low q (sym (same-mapped q) ∙ w);
+      own = λ q w. subst (λ (k : ℕ). IsSomeAnd (get pool k) (λ p. p.number ≡ q)) (sym (same-key q)) (h.current.own q (sym (same-mapped q) ∙ w));
+      none = λ q w. elim (cases_eq q n) [
+        | inl e ↦ absurd (false≢true (sym (sym (same-mapped q) ∙ w) ∙ ap (λ (i : ℕ). (entry_at table i).mapped) e ∙ m))
+        | inr e ↦ ap (λ (d : Entry). d.permissions) (others q e) ∙ h.current.none q (sym (same-mapped q) ∙ w)
+      ];
+    }
+
+    same-shares : (q k : ℕ) → sharers (entry_at later) kept q k ≡ sharers (entry_at table) kept q k
+    same-shares q k = λ i. one_if (same-mapped q i && (same-key q i == k)) + count_by (λ s. has (slot_entry s) q k) kept
+
+    by_page : (k : ℕ) (o : Option Page) → IfSome o (λ p. (p.count ≡ sharers (entry_at table) kept p.number k) × (1 ≤ p.count)) → IfSome o (λ p. (p.count ≡ sharers (entry_at later) kept p.number k) × (1 ≤ p.count))
+    by_page k None i = tt
+    by_page k (Some p) i = (i.0 ∙ sym (same-shares p.number k), i.1)
+
+    counted : (k : ℕ) → IfSome (get pool k) (λ p. (p.count ≡ sharers (entry_at later) kept p.number k) × (1 ≤ p.count))
+    counted k = by_page k (get pool k) (h.counted k)
+
+  pub protected_contents : IsProtected n permissions (contents_in pool table kept) (contents_in pool later kept)
+  protected_contents = record {
+    page =
+        ap (λ (d : Entry). option_map (value_in d) (page_in (get pool) (entry_at later n))) here ∙ ap (option_map (value_in (record { key = key; mapped = true; permissions = permissions }))) (same-page n)
+        ∙ by_page (page_in (get pool) (entry_at table n));
+    count = ap (option_map (λ (p : Page). p.count)) (same-page n);
+    rest = record {
+      pages = λ q w. ap (λ (d : Entry). option_map (value_in d) (page_in (get pool) d)) (others q w);
+      counts = λ q w. ap (option_map (λ (p : Page). p.count)) (same-page q);
+      kept = refl;
+    };
+    live = refl;
+  } where
+    by_page : (o : Option Page) → option_map (value_in (record { key = key; mapped = true; permissions = permissions })) o ≡ option_map (with_permissions permissions) (option_map (value_in (entry_at table n)) o)
+    by_page None = refl
+    by_page (Some p) = refl
+
+-- where there is no page, nothing is protected
+pub none_protected : (n : ℕ) (permissions : Permissions) (c : Contents) → c.pages n ≡ None → IsProtected n permissions c c
+none_protected n permissions c none = record {
+  page = none ∙ sym (ap (option_map (with_permissions permissions)) none);
+  count = refl;
+  rest = record { pages = λ q w. refl; counts = λ q w. refl; kept = refl };
+  live = refl;
+}

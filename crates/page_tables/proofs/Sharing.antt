@@ -1,18 +1,16 @@
 -- Tables that share pages: what stays so when counts change.
-use Rattle.std.proofs.Common.{◌≡◌, ◌≢◌, ℕ, zero, suc, ◌+◌, ◌-◌, ◌<◌, ◌≤◌, ◌^◌, ◌==◌, Bool, true, false, ◌&&◌, cond, if◌then◌else◌, nat_lt, List, [], ◌∷◌, ◌++◌, length, get_or, set, get_or-set_same, get_or-set_other, Option, Some, None, IfSome, IsSomeAnd, refl, ap, ◌∙◌, sym, subst, arith, inl, inr, count_by}
-use Rattle.std.proofs.lemmas.Bool.{false≢true, eq-eqb, cases_eq, cases_lt, and_parts}
+use Rattle.std.proofs.Common.{◌≡◌, ◌≢◌, ℕ, zero, suc, ◌+◌, ◌-◌, ◌<◌, ◌≤◌, ◌^◌, ◌==◌, Bool, true, false, ◌&&◌, if◌then◌else◌, nat_lt, List, [], ◌∷◌, ◌++◌, length, get_or, set, get_or-set_same, get_or-set_other, Option, Some, None, IfSome, IsSomeAnd, refl, ap, ◌∙◌, sym, subst, arith, inl, inr}
+use Rattle.std.proofs.lemmas.Bool.{false≢true, eq-eqb, cases_lt, and_parts}
 use Rattle.std.proofs.lemmas.Bool.Decides.{eqb_tells, nat_tests}
 use Rattle.std.proofs.Math.ListN.{get_or-append}
 use Rattle.std.proofs.Math.Seq.{get_or-append_right, get_or-append_seam}
 use Rattle.std.proofs.lemmas.List.{get_or_past}
 use Rattle.std.proofs.lemmas.List.Sums.{sum_by-set, sum_by_push, get_or-le-sum_by}
 use Rattle.std.specs.Option.{option_map}
-use Rattle.page_tables.specs.declared.table.TheConstants.{NO_PAGE}
 use Rattle.page_tables.specs.declared.table.Entry.{Entry}
 use Rattle.page_tables.specs.declared.table.Table.{Table}
 use Rattle.page_tables.specs.declared.pool.Page.{Page}
-use Rattle.page_tables.specs.Contents.{PageValue}
-use Rattle.page_tables.specs.Sharing.{entry_has, has, slot_entry, slot_at, sharers, IsTableOf, AreShared, page_in, value_in, pages_in, counts_in, kept_in, at_count, has_below, raised, raised_by, lowered, lowered_by, IsSlotSet}
+use Rattle.page_tables.specs.Sharing.{has, slot_entry, slot_at, sharers, IsTableOf, AreShared, value_in, pages_in, kept_in, at_count, has_below, raised, raised_by, lowered, lowered_by, IsSlotSet}
 use Rattle.page_tables.specs.Table.{entry_at}
 
 abbrev pub one_if : Bool → ℕ

@@ -1,5 +1,5 @@
 -- What page tables contain, and the value that stands for it.
-use Rattle.std.proofs.Common.{◌≡◌, ℕ, zero, suc, ◌+◌, ◌<◌, ◌≤◌, ◌^◌, ◌-◌, Bool, true, false, not, cond, List, length, get_or, Option, Some, None, IfSome, IsSome, is_some, IsSomeAnd, refl, ap, ◌∙◌, sym, subst, arith, inl, inr, if◌then◌else◌}
+use Rattle.std.proofs.Common.{◌≡◌, ℕ, zero, suc, ◌<◌, ◌≤◌, ◌^◌, Bool, true, false, not, cond, List, get_or, Option, Some, None, IfSome, IsSome, is_some, refl, ap, ◌∙◌, sym, subst, arith, inl, inr, if◌then◌else◌}
 use Rattle.std.proofs.lemmas.Bool.{false≢true, cases_lt}
 use Rattle.std.proofs.lemmas.Bool.Decides.{eqb_tells}
 use Rattle.std.proofs.lemmas.List.{get_or_past}
@@ -7,7 +7,7 @@ use Rattle.std.proofs.Math.Dec.{eqb}
 use Rattle.std.specs.Option.{option_map}
 use Rattle.std.specs.Ordering.{nat_cmp}
 use Rattle.std.specs.Cmp.{nat_cmp_total}
-use Rattle.std.specs.FinMap.{FinMap, empty, get, get-empty, get-insert}
+use Rattle.std.specs.FinMap.{FinMap, get, get-empty, get-insert}
 use Rattle.slab.specs.Slab.{Slab, get as slab_get}
 use Rattle.rrv_model.proofs.Threads.{is_at_nat}
 use Rattle.rrv_model.specs.declared.machine.Permissions.{Permissions}
@@ -17,7 +17,7 @@ use Rattle.page_tables.specs.declared.table.Table.{Table}
 use Rattle.page_tables.specs.declared.pool.Page.{Page}
 use Rattle.page_tables.specs.Table.{entry_at}
 use Rattle.page_tables.specs.Contents.{PageValue, Contents, TablesValue, contents_of, value_of, with_entry, gathered}
-use Rattle.page_tables.specs.Sharing.{slot_at, slot_entry, IsTableOf, AreShared, page_in, value_in, pages_in, counts_in, kept_in, contents_in}
+use Rattle.page_tables.specs.Sharing.{slot_at, slot_entry, IsTableOf, AreShared, page_in, value_in, pages_in, kept_in, contents_in}
 use Rattle.page_tables.specs.Changes.{IsNext}
 use Rattle.page_tables.proofs.Sharing.{found}
 

@@ -1,5 +1,5 @@
 -- How calls change what page tables contain.
-use Rattle.std.specs.Prelude.{◌≡◌, ◌≢◌, ℕ, ◌+◌, ◌-◌, ◌<◌, ◌≤◌, ◌==◌, Bool, true, false, if◌then◌else◌, List, [], ◌∷◌, Option, Some, None, IsSome, slice_set}
+use Rattle.std.specs.Prelude.{◌≡◌, ◌≢◌, ℕ, ◌+◌, ◌<◌, ◌≤◌, ◌==◌, Bool, true, false, if◌then◌else◌, List, [], ◌∷◌, Option, Some, None, IsSome, slice_set}
 use Rattle.std.specs.Option.{option_map}
 use Rattle.rrv_model.specs.declared.machine.Permissions.{Permissions}
 use Rattle.page_tables.specs.declared.pool.Page.{Page}

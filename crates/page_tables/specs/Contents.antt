@@ -1,5 +1,5 @@
 -- What page tables contain, as functions from page numbers.
-use Rattle.std.specs.Prelude.{◌≡◌, ℕ, zero, suc, ◌^◌, Bool, List, Option, Some, None, refl}
+use Rattle.std.specs.Prelude.{ℕ, zero, suc, ◌^◌, Bool, List, Option, Some, None, refl}
 use Rattle.std.specs.Ordering.{nat_cmp}
 use Rattle.std.specs.Option.{option_map}
 use Rattle.std.specs.FinMap.{FinMap, empty, get, insert, code}

@@ -13,7 +13,7 @@ use crate::pool::{
     Page, copy_bytes, lower_all, put_byte, put_bytes, put_half, put_word, raise_all, reserve_pages,
 };
 use crate::snapshots::{free_number, kept_under, store, take};
-use crate::table::Table;
+use crate::table::{Entry, Table};
 use rrv_model::machine::Permissions;
 use slab::Slab;
 use std::alloc::{AllocError, Global};
@@ -301,6 +301,49 @@ impl PageTables {
         put_bytes(&mut self.pool, entry.key as usize, at, bytes);
     }
 
+    /// Sets the permissions of the page at a number, where there is one; snapshots keep theirs. It takes no memory.
+    pub fn set_permissions(&mut self, number: u32, permissions: Permissions)
+        ensures { IsProtected number permissions (contents_of self.old) (contents_of self.new) }
+    {
+        let entry = self.table.entry(number);
+        if !entry.mapped {
+            return;
+        }
+        let key = entry.key;
+        self.table.set(
+            number,
+            Entry {
+                key,
+                mapped: true,
+                permissions,
+            },
+        );
+    }
+
+    /// Whether two guests have the same page at a number, or neither has one.
+    pub fn same_page(&self, other: &PageTables, number: u32) -> bool
+        ensures same { result ≡ true → (contents_of self.now).pages number ≡ (contents_of other.now).pages number }
+        ensures differ { result ≡ false → (contents_of self.now).pages number ≢ (contents_of other.now).pages number }
+    {
+        same_view(self.page(number), other.page(number))
+    }
+
+    /// Whether a snapshot has the same page at a number, or neither has one. The bytes of a page that they share are not compared.
+    pub fn same_as_kept(&self, snapshot: usize, number: u32) -> bool
+        requires { IsSome ((contents_of self.now).kept snapshot) }
+        ensures same { result ≡ true → IsSomeAnd ((contents_of self.now).kept snapshot)
+            (λ pages. (contents_of self.now).pages number ≡ pages number) }
+        ensures differ { result ≡ false → IsSomeAnd ((contents_of self.now).kept snapshot)
+            (λ pages. (contents_of self.now).pages number ≢ pages number) }
+    {
+        same_in(
+            &self.pool,
+            &self.table,
+            kept_under(&self.kept, snapshot),
+            number,
+        )
+    }
+
     /// Takes the page at a number out of the current table, where there is one; snapshots keep theirs. It takes no memory.
     pub fn remove(&mut self, number: u32)
         ensures { IsRemoved number (contents_of self.old) (contents_of self.new) }
@@ -374,4 +417,33 @@ fn next_in(pool: &Slab<Page>, table: &Table, least: u32) -> Option<u32>
     let _ = pool;
     let number = table.next_or_end(least);
     if number < 0x80000 { Some(number) } else { None }
+}
+
+/// Whether two tables have the same page at a number, or neither has one. The bytes of a page that they share are not compared.
+fn same_in(pool: &Slab<Page>, table: &Table, other: &Table, number: u32) -> bool
+    requires table { IsTableOf (get pool.now) (entry_at table.now) }
+    requires other { IsTableOf (get pool.now) (entry_at other.now) }
+    ensures same { result ≡ true →
+        pages_in (get pool.now) (entry_at table.now) number ≡ pages_in (get pool.now) (entry_at other.now) number }
+    ensures differ { result ≡ false →
+        pages_in (get pool.now) (entry_at table.now) number ≢ pages_in (get pool.now) (entry_at other.now) number }
+{
+    if table.entry(number) == other.entry(number) {
+        return true;
+    }
+    same_view(view_in(pool, table, number), view_in(pool, other, number))
+}
+
+/// Whether two readers see the same.
+fn same_view(view: Option<PageView<'_>>, other: Option<PageView<'_>>) -> bool
+    ensures same { result ≡ true → shown view.entry ≡ shown other.entry }
+    ensures differ { result ≡ false → shown view.entry ≢ shown other.entry }
+{
+    let Some(view) = view else {
+        return other.is_none();
+    };
+    let Some(other) = other else {
+        return false;
+    };
+    view.permissions == other.permissions && view.bytes.as_slice() == other.bytes.as_slice()
 }

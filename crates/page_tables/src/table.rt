@@ -7,7 +7,7 @@ use rrv_model::machine::Permissions;
 use std::alloc::{AllocError, Global};
 
 /// What a table has at a page number.
-#[derive(Clone, Copy)]
+#[derive(Clone, Copy, PartialEq, Eq)]
 pub struct Entry {
     /// The page's key in the pool, where there is a page.
     pub key: u32,

@@ -1,4 +1,4 @@
-use Rattle.std.proofs.Common.{◌≡◌, ◌∙◌, sym, ap}
+use Rattle.std.proofs.Common.{◌∙◌, sym, ap}
 use Rattle.page_tables.specs.declared.table.Entry.{Entry}
 use Rattle.page_tables.proofs.Tables.{mapped_leaf}
 use Rattle.page_tables.proofs.Values.{not_false}

@@ -2,7 +2,6 @@ use Rattle.slab.specs.Slab.{get}
 use Rattle.page_tables.specs.Table.{entry_at}
 use Rattle.page_tables.proofs.Values.{next_some}
 use Rattle.page_tables.proofs.page_tables.next_in.Goals as goal
-use Rattle.std.proofs.Common.{arith}
 
 pub returns-then-number-lt524288 : goal.returns-then-number-lt524288
 returns-then-number-lt524288 c =

@@ -1,4 +1,4 @@
-use Rattle.std.proofs.Common.{◌≡◌, ◌∙◌, sym, ap, Some, List, ℕ}
+use Rattle.std.proofs.Common.{◌∙◌, sym, ap, Some, List, ℕ}
 use Rattle.slab.specs.Slab.{get}
 use Rattle.page_tables.specs.declared.table.Entry.{Entry}
 use Rattle.page_tables.specs.Table.{entry_at}

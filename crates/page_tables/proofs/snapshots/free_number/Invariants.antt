@@ -1,4 +1,4 @@
-use Rattle.std.proofs.Common.{ℕ, ◌≤◌, length}
+use Rattle.std.proofs.Common.{◌≤◌, length}
 use Rattle.page_tables.proofs.snapshots.free_number.Given as goal
 
 abbrev pub invariant-loop-number : goal.invariant-loop-number

@@ -1,7 +1,7 @@
 use Rattle.std.proofs.Common.{arith, subst, sym, Some, List, Option}
 use Rattle.page_tables.specs.declared.table.Table.{Table}
 use Rattle.page_tables.specs.Sharing.{IsSlotSet}
-use Rattle.page_tables.proofs.Sharing.{slot_set, slot_pushed}
+use Rattle.page_tables.proofs.Sharing.{slot_pushed}
 use Rattle.page_tables.proofs.snapshots.store.Goals as goal
 
 pub returns-clause-stored : goal.returns-clause-stored

@@ -1,4 +1,4 @@
-use Rattle.std.proofs.Common.{◌≡◌, ◌∙◌, ℕ, ap, None, get_or}
+use Rattle.std.proofs.Common.{◌∙◌, ap, None, get_or}
 use Rattle.page_tables.proofs.Tables.{push_same}
 use Rattle.page_tables.proofs.table.extend.Goals as goal
 

@@ -1,11 +1,11 @@
-use Rattle.std.proofs.Common.{◌≡◌, ◌∙◌, sym, ap, refl, Bool, Option, Some, None}
+use Rattle.std.proofs.Common.{◌∙◌, sym, ap, refl, Bool, Option, Some}
 use Rattle.slab.specs.Slab.{get}
 use Rattle.std.specs.FinMap.{get as get_page}
 use Rattle.page_tables.specs.declared.table.Entry.{Entry}
 use Rattle.page_tables.specs.Table.{entry_at}
 use Rattle.page_tables.specs.Contents.{PageValue}
-use Rattle.page_tables.specs.Changes.{allows_read, allows_execute, bytes_if}
-use Rattle.page_tables.proofs.Values.{shown_page, shown_none, shown_not, allowed_mapped, page_of, not_true, not_false}
+use Rattle.page_tables.specs.Changes.{allows_execute, bytes_if}
+use Rattle.page_tables.proofs.Values.{shown_page, shown_not, allowed_mapped, page_of, not_true, not_false}
 use Rattle.page_tables.proofs.page_tables.PageTables.executable.Goals as goal
 
 pub returns-then-not-entry : goal.returns-then-not-entry

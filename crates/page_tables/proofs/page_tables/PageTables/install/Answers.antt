@@ -1,12 +1,11 @@
-use Rattle.std.proofs.Common.{◌≡◌, ◌∙◌, sym, ap, refl, subst, arith, Option, Some, IsSome, ℕ}
+use Rattle.std.proofs.Common.{◌∙◌, sym, ap, refl}
 use Rattle.slab.specs.Slab.{get}
 use Rattle.page_tables.specs.declared.table.Entry.{Entry}
-use Rattle.page_tables.specs.declared.table.Table.{Table}
 use Rattle.page_tables.specs.declared.pool.Page.{Page}
-use Rattle.page_tables.specs.Table.{entry_at, AreAlike}
-use Rattle.page_tables.specs.Contents.{Contents, contents_of, value_of, PageValue}
-use Rattle.page_tables.specs.Sharing.{contents_in, AreShared, value_in}
-use Rattle.page_tables.specs.Changes.{IsPlaced, IsUnshared, IsWritten}
+use Rattle.page_tables.specs.Table.{entry_at}
+use Rattle.page_tables.specs.Contents.{value_of, PageValue}
+use Rattle.page_tables.specs.Sharing.{contents_in}
+use Rattle.page_tables.specs.Changes.{IsPlaced}
 use Rattle.page_tables.proofs.Values.{seen}
 use Rattle.page_tables.proofs.KeptTables.{transport, positive}
 use Rattle.std.proofs.Common.{true}

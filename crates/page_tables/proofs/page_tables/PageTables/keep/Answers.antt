@@ -1,10 +1,9 @@
-use Rattle.std.proofs.Common.{◌≡◌, ◌∙◌, sym, ap, refl, subst, arith, Option, Some, IsSome, IsSomeAnd, IfSome, ℕ, List}
+use Rattle.std.proofs.Common.{sym, refl, subst, arith, Option, List}
 use Rattle.page_tables.specs.declared.table.Table.{Table}
 use Rattle.slab.specs.Slab.{get}
 use Rattle.page_tables.specs.Table.{entry_at}
-use Rattle.page_tables.specs.Contents.{Contents, TablesValue, contents_of, PageValue}
-use Rattle.page_tables.specs.Sharing.{pages_in, kept_in, contents_in, IsTableOf, AreShared}
-use Rattle.page_tables.specs.Changes.{IsKept, IsReleased, IsNext, shown}
+use Rattle.page_tables.specs.Sharing.{contents_in, AreShared}
+use Rattle.page_tables.specs.Changes.{IsKept}
 use Rattle.page_tables.proofs.Values.{seen}
 use Rattle.page_tables.proofs.KeptTables.{transport, small, kept_shared, kept_contents}
 use Rattle.page_tables.proofs.page_tables.PageTables.keep.Goals as goal

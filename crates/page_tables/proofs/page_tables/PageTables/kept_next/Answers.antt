@@ -1,9 +1,9 @@
-use Rattle.std.proofs.Common.{◌≡◌, ◌∙◌, sym, ap, refl, subst, arith, Option, Some, IsSome, IsSomeAnd, IfSome, ℕ}
+use Rattle.std.proofs.Common.{◌∙◌, sym, ap, subst, Option, IsSomeAnd, ℕ}
 use Rattle.slab.specs.Slab.{get}
 use Rattle.page_tables.specs.Table.{entry_at}
-use Rattle.page_tables.specs.Contents.{Contents, TablesValue, contents_of, PageValue}
-use Rattle.page_tables.specs.Sharing.{pages_in, kept_in, contents_in, IsTableOf}
-use Rattle.page_tables.specs.Changes.{IsKept, IsReleased, IsNext, shown}
+use Rattle.page_tables.specs.Contents.{Contents, PageValue}
+use Rattle.page_tables.specs.Sharing.{pages_in, IsTableOf}
+use Rattle.page_tables.specs.Changes.{IsNext}
 use Rattle.page_tables.proofs.Values.{seen}
 use Rattle.page_tables.specs.declared.table.Table.{Table}
 use Rattle.std.specs.Option.{option_map}

@@ -1,4 +1,4 @@
-use Rattle.std.proofs.Common.{◌≡◌, ℕ, ap, List, get_or, Option, None}
+use Rattle.std.proofs.Common.{ap, List, Option}
 use Rattle.std.specs.Option.{option_map}
 use Rattle.slab.specs.Slab.{get}
 use Rattle.std.specs.FinMap.{get as get_page}

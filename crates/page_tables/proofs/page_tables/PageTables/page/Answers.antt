@@ -1,9 +1,5 @@
-use Rattle.std.proofs.Common.{◌≡◌, ◌∙◌, sym, ap, refl, Bool, Option, Some, None}
-use Rattle.slab.specs.Slab.{get}
-use Rattle.page_tables.specs.Table.{entry_at}
-use Rattle.page_tables.specs.Contents.{PageValue}
-use Rattle.page_tables.specs.Changes.{allows_read, allows_execute, bytes_if}
-use Rattle.page_tables.proofs.Values.{shown_page, shown_none, shown_not, allowed_mapped, page_of, not_true, not_false}
+use Rattle.std.proofs.Common.{sym}
+use Rattle.page_tables.proofs.Values.{shown_page, shown_none, not_true, not_false}
 use Rattle.page_tables.proofs.page_tables.PageTables.page.Goals as goal
 
 pub returns-then-not-entry : goal.returns-then-not-entry

@@ -1,15 +1,4 @@
-use Rattle.std.proofs.Common.{◌≡◌, ◌∙◌, sym, ap, refl, subst, arith, Option, Some, IsSome, ℕ}
-use Rattle.slab.specs.Slab.{get}
-use Rattle.page_tables.specs.declared.table.Entry.{Entry}
-use Rattle.page_tables.specs.declared.table.Table.{Table}
-use Rattle.page_tables.specs.declared.pool.Page.{Page}
-use Rattle.page_tables.specs.Table.{entry_at, AreAlike}
-use Rattle.page_tables.specs.Contents.{Contents, contents_of, value_of, PageValue}
-use Rattle.page_tables.specs.Sharing.{contents_in, AreShared, value_in}
-use Rattle.page_tables.specs.Changes.{IsPlaced, IsUnshared, IsWritten}
-use Rattle.page_tables.proofs.Values.{seen}
-use Rattle.page_tables.proofs.KeptTables.{transport, positive}
-use Rattle.std.proofs.Common.{Bool}
+use Rattle.std.proofs.Common.{refl, arith}
 use Rattle.std.specs.Int.{w16, to_le_bytes}
 use Rattle.page_tables.specs.Changes.{allows_write}
 use Rattle.page_tables.proofs.Values.{shown_not, not_true, not_false}

@@ -1,11 +1,10 @@
-use Rattle.std.proofs.Common.{◌≡◌, ◌∙◌, sym, ap, refl, subst, arith, Option, Some, IsSome, IsSomeAnd, IfSome, ℕ}
+use Rattle.std.proofs.Common.{refl, subst}
 use Rattle.slab.specs.Slab.{get}
 use Rattle.page_tables.specs.Table.{entry_at}
-use Rattle.page_tables.specs.Contents.{Contents, TablesValue, contents_of, PageValue}
-use Rattle.page_tables.specs.Sharing.{pages_in, kept_in, contents_in, IsTableOf, slot_entry}
-use Rattle.page_tables.specs.Changes.{IsKept, IsReleased, IsNext, shown}
+use Rattle.page_tables.specs.Sharing.{contents_in, IsTableOf, slot_entry}
+use Rattle.page_tables.specs.Changes.{IsReleased}
 use Rattle.page_tables.proofs.Values.{seen}
-use Rattle.page_tables.proofs.KeptTables.{transport, positive, gone_table, released_shared, released_contents}
+use Rattle.page_tables.proofs.KeptTables.{transport, positive, released_shared, released_contents}
 use Rattle.page_tables.proofs.Values.{slot_there}
 use Rattle.page_tables.proofs.page_tables.PageTables.release.Goals as goal
 

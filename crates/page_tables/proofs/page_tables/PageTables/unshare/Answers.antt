@@ -1,14 +1,8 @@
-use Rattle.std.proofs.Common.{◌≡◌, ◌∙◌, sym, ap, refl, subst, arith, Option, Some, IsSome, ℕ}
+use Rattle.std.proofs.Common.{◌≡◌, ◌∙◌, sym, ap, subst, Some, IsSome}
 use Rattle.slab.specs.Slab.{get}
 use Rattle.page_tables.specs.declared.table.Entry.{Entry}
-use Rattle.page_tables.specs.declared.table.Table.{Table}
-use Rattle.page_tables.specs.declared.pool.Page.{Page}
-use Rattle.page_tables.specs.Table.{entry_at, AreAlike}
-use Rattle.page_tables.specs.Contents.{Contents, contents_of, value_of, PageValue}
-use Rattle.page_tables.specs.Sharing.{contents_in, AreShared, value_in}
-use Rattle.page_tables.specs.Changes.{IsPlaced, IsUnshared, IsWritten}
-use Rattle.page_tables.proofs.Values.{seen}
-use Rattle.page_tables.proofs.KeptTables.{transport, positive}
+use Rattle.page_tables.specs.Table.{entry_at}
+use Rattle.page_tables.specs.Contents.{contents_of}
 use Rattle.page_tables.proofs.Values.{present, shown_page, page_of}
 use Rattle.page_tables.proofs.PlacedPages.{live_mapped, count_at, unchanged, placed_again, on_err}
 use Rattle.page_tables.proofs.page_tables.PageTables.unshare.Goals as goal

@@ -1,4 +1,4 @@
-use Rattle.std.proofs.Common.{◌≡◌, ◌∙◌, ℕ, ◌<◌, ◌≤◌, ◌+◌, List, [], ◌∷◌, length, length-append, sym, ap, arith, get_or, Option, None}
+use Rattle.std.proofs.Common.{◌≡◌, ◌∙◌, ℕ, ◌<◌, ◌+◌, List, [], ◌∷◌, length, length-append, sym, ap, arith, get_or, Option, None}
 use Rattle.page_tables.specs.Table.{entry_in}
 use Rattle.page_tables.specs.declared.table.Leaf.{Leaf}
 use Rattle.page_tables.specs.declared.table.Table.{Table}

@@ -1,5 +1,5 @@
 use Rattle.std.proofs.lemmas.Grind.{common_steps}
-use Rattle.std.proofs.Common.{rules, arith}
+use Rattle.std.proofs.Common.{arith}
 use Rattle.page_tables.specs.Table.{entry_at, has_leaf}
 use Rattle.page_tables.proofs.table.Table.entry.Goals as goal
 

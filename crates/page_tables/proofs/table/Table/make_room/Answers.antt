@@ -1,7 +1,6 @@
-use Rattle.std.proofs.Common.{◌≡◌, ◌∙◌, ℕ, ◌+◌, ◌/◌, ◌<◌, length, get_or, refl, sym, ap, arith, Some, None, Bool}
+use Rattle.std.proofs.Common.{◌∙◌, ◌/◌, ◌<◌, length, refl, arith, Some}
 use Rattle.std.specs.Vec.{with_item}
 use Rattle.page_tables.specs.declared.table.Table.{Table}
-use Rattle.page_tables.specs.Table.{leaf_in, is_leaf}
 use Rattle.page_tables.proofs.Tables.{same_row, same_room, fresh, fresh_room, fresh_here, no_leaf_here}
 use Rattle.page_tables.proofs.table.Table.make_room.Goals as goal
 

@@ -1,4 +1,4 @@
-use Rattle.std.proofs.Common.{◌≡◌, ◌∙◌, ℕ, ◌/◌, ◌%◌, ◌<◌, length, get_or, set, refl, sym, ap, arith, Some, None}
+use Rattle.std.proofs.Common.{◌∙◌, ◌/◌, ◌%◌, length, set, refl, sym, ap, arith, Some, None}
 use Rattle.std.specs.Box.{with_value}
 use Rattle.std.specs.Vec.{with_item}
 use Rattle.page_tables.specs.declared.table.Leaf.{Leaf}
