@@ -1,0 +1,143 @@
+-- How calls change what page tables contain.
+use Rattle.std.specs.Prelude.{◌≡◌, ◌≢◌, ℕ, ◌+◌, ◌<◌, ◌≤◌, ◌==◌, Bool, true, false, if◌then◌else◌, List, [], ◌∷◌, Option, Some, None, IsSome, slice_set}
+use Rattle.std.specs.Option.{option_map}
+use Rattle.rrv_model.specs.declared.machine.Permissions.{Permissions}
+use Rattle.page_tables.specs.declared.pool.Page.{Page}
+use Rattle.page_tables.specs.declared.page_tables.PageView.{PageView}
+use Rattle.page_tables.specs.declared.page_tables.PutError.{PutError}
+use Rattle.page_tables.specs.declared.page_tables.PutError.TheVariants as errors
+use Rattle.page_tables.specs.Contents.{PageValue, Contents}
+
+-- the current table alone has page n: to write it takes no memory
+abbrev pub IsOwn : Contents → ℕ → Type 0
+IsOwn c n = c.counts n ≡ Some 1
+
+-- bytes written into a list, from a place on
+abbrev pub written : List ℕ → ℕ → List ℕ → List ℕ
+written bytes at [] = bytes
+written bytes at (b ∷ bs) = written (slice_set bytes at b) (at + 1) bs
+
+abbrev pub with_bytes : ℕ → List ℕ → PageValue → PageValue
+with_bytes at bs p = record p { bytes = written p.bytes at bs }
+
+-- the same page of the pool, but for its bytes
+pub record IsRewritten (bytes : List ℕ) (p q : Page) : Type 0 where
+  pub number : q.number ≡ p.number
+  pub count : q.count ≡ p.count
+  pub bytes_are : q.bytes.value ≡ bytes
+
+-- nothing changes but page n of the current table, and how many pages there are
+pub record KeepsOthers (n : ℕ) (old new : Contents) : Type 0 where
+  pub pages : (q : ℕ) → q ≢ n → new.pages q ≡ old.pages q
+  pub counts : (q : ℕ) → q ≢ n → new.counts q ≡ old.counts q
+  pub kept : new.kept ≡ old.kept
+
+-- ---- permissions that are asked for
+
+abbrev pub allows_read : Option PageValue → Bool
+allows_read None = false
+allows_read (Some p) = p.permissions.read
+
+abbrev pub allows_write : Option PageValue → Bool
+allows_write None = false
+allows_write (Some p) = p.permissions.write
+
+abbrev pub allows_execute : Option PageValue → Bool
+allows_execute None = false
+allows_execute (Some p) = p.permissions.execute
+
+abbrev pub bytes_if : Bool → Option PageValue → Option (List ℕ)
+bytes_if allowed page = if allowed then option_map (λ p. p.bytes) page else None
+
+-- ---- how many pages a change adds or takes away
+
+-- a page of its own for a number that has these sharers
+abbrev pub added : Option ℕ → ℕ
+added None = 1
+added (Some count) = if count == 1 then 0 else 1
+
+-- the page of a number goes
+abbrev pub freed : Option ℕ → ℕ
+freed None = 0
+freed (Some count) = if count == 1 then 1 else 0
+
+-- ---- the changes
+
+-- page n is there, and has these bytes from a place on; nothing else changes
+pub record IsWritten (n at : ℕ) (bs : List ℕ) (old new : Contents) : Type 0 where
+  pub page : new.pages n ≡ option_map (with_bytes at bs) (old.pages n)
+  pub own : IsOwn new n
+  pub rest : KeepsOthers n old new
+  pub live : new.live ≡ old.live + added (old.counts n)
+
+-- number n has this page, which no snapshot shares
+pub record IsPlaced (n : ℕ) (page : PageValue) (old new : Contents) : Type 0 where
+  pub here : new.pages n ≡ Some page
+  pub own : IsOwn new n
+  pub rest : KeepsOthers n old new
+  pub live : new.live ≡ old.live + added (old.counts n)
+
+-- number n, which had none, has this page
+pub record IsAttached (n : ℕ) (page : PageValue) (old new : Contents) : Type 0 where
+  pub here : new.pages n ≡ Some page
+  pub own : IsOwn new n
+  pub rest : KeepsOthers n old new
+  pub live : new.live ≡ old.live + 1
+
+-- page n is as it was, and no snapshot shares it
+pub record IsUnshared (n : ℕ) (old new : Contents) : Type 0 where
+  pub here : new.pages n ≡ old.pages n
+  pub own : IsOwn new n
+  pub rest : KeepsOthers n old new
+  pub live : new.live ≡ old.live + added (old.counts n)
+
+-- number n has no page
+pub record IsRemoved (n : ℕ) (old new : Contents) : Type 0 where
+  pub here : new.pages n ≡ None
+  pub count : new.counts n ≡ None
+  pub rest : KeepsOthers n old new
+  pub live : new.live + freed (old.counts n) ≡ old.live
+
+abbrev pub with_permissions : Permissions → PageValue → PageValue
+with_permissions permissions p = record p { permissions = permissions }
+
+-- page n has these permissions
+pub record IsProtected (n : ℕ) (permissions : Permissions) (old new : Contents) : Type 0 where
+  pub page : new.pages n ≡ option_map (with_permissions permissions) (old.pages n)
+  pub count : new.counts n ≡ old.counts n
+  pub rest : KeepsOthers n old new
+  pub live : new.live ≡ old.live
+
+-- the pages are kept under a number that was free, and shared
+pub record IsKept (number : ℕ) (old new : Contents) : Type 0 where
+  pub free : old.kept number ≡ None
+  pub here : new.kept number ≡ Some old.pages
+  pub others : (i : ℕ) → i ≢ number → new.kept i ≡ old.kept i
+  pub pages : new.pages ≡ old.pages
+  pub counts : (n : ℕ) → new.counts n ≡ option_map (λ count. count + 1) (old.counts n)
+  pub live : new.live ≡ old.live
+
+-- nothing is kept under a number any more
+pub record IsReleased (number : ℕ) (old new : Contents) : Type 0 where
+  pub gone : new.kept number ≡ None
+  pub others : (i : ℕ) → i ≢ number → new.kept i ≡ old.kept i
+  pub pages : new.pages ≡ old.pages
+  pub own : (n : ℕ) → IsOwn old n → IsOwn new n
+  pub live : new.live ≤ old.live
+
+-- what a reader sees
+abbrev pub shown : Option PageView → Option PageValue
+shown None = None
+shown (Some v) = Some (record { permissions = v.permissions; bytes = v.bytes.now })
+
+-- the least number from this one on that has a page
+abbrev pub IsNext : (ℕ → Option PageValue) → ℕ → Option ℕ → Type 0
+IsNext pages least None = (q : ℕ) → least ≤ q → pages q ≡ None
+IsNext pages least (Some n) =
+    (least ≤ n) × (n < 0x80000) × (IsSome (pages n)) × ((q : ℕ) → least ≤ q → q < n → pages q ≡ None)
+
+-- a write into this page is refused so
+abbrev pub IsPutRefusal : Option PageValue → PutError → Type 0
+IsPutRefusal page errors.NotMapped = page ≡ None
+IsPutRefusal page errors.NotAllowed = IsSome page × (allows_write page ≡ false)
+IsPutRefusal page errors.Memory = allows_write page ≡ true

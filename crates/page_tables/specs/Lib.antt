@@ -1,0 +1,4 @@
+pub mod Table
+pub mod Contents
+pub mod Sharing
+pub mod Changes

@@ -1,0 +1,10 @@
+//! Pages of a guest under two-level tables that share them: a page is counted, and copied before it is written where it is shared.
+#![tactic(auto)]
+
+mod entries;
+mod page_tables;
+mod pool;
+mod snapshots;
+mod table;
+
+pub use page_tables::{PageTables, PageView, PutError};

@@ -1,0 +1,449 @@
+//! The current table, those of live snapshots, and the pool of the pages that they share.
+
+ghost use Rattle.std.specs.Prelude.{◌≡◌, ◌≢◌, ℕ, ◌+◌, ◌<◌, ◌≤◌, OnOk, OnErr, IfOk, IfErr, IsSome, IsSomeAnd, IsTrue, Some, None, true, false, length, option_copied, ◌↔◌};
+ghost use Rattle.std.specs.Int.{w8, w16, w32, to_le_bytes};
+ghost use Rattle.page_tables.specs.Contents.{contents_of};
+ghost use Rattle.page_tables.specs.Changes.{IsOwn, allows_read, allows_write, allows_execute, IsPutRefusal, bytes_if, IsWritten, IsPlaced, IsRemoved, IsProtected, IsKept, IsReleased, IsNext, IsUnshared, shown};
+ghost use Rattle.page_tables.specs.Sharing.{IsTableOf, pages_in};
+ghost use Rattle.page_tables.specs.Table.{entry_at};
+ghost use Rattle.slab.specs.Slab.{get};
+
+use crate::entries::{attach, detach};
+use crate::pool::{
+    Page, copy_bytes, lower_all, put_byte, put_bytes, put_half, put_word, raise_all, reserve_pages,
+};
+use crate::snapshots::{free_number, kept_under, store, take};
+use crate::table::{Entry, Table};
+use rrv_model::machine::Permissions;
+use slab::Slab;
+use std::alloc::{AllocError, Global};
+use std::marker::Model;
+
+/// A page as a reader sees it.
+#[derive(Clone, Copy)]
+pub struct PageView<'a> {
+    /// What may be done with its bytes.
+    pub permissions: Permissions,
+    /// Its bytes, by their place in the page.
+    pub bytes: &'a [u8; 4096],
+}
+
+/// Why a page was not written. All is then as before.
+#[derive(Clone, Copy, Debug, PartialEq, Eq)]
+pub enum PutError {
+    /// There is no page.
+    NotMapped,
+    /// It may not be written.
+    NotAllowed,
+    /// A growth was refused.
+    Memory,
+}
+
+/// The pages of a guest and of its live snapshots. Page numbers lie below 0x80000. A snapshot shares its pages with the current
+/// table; a shared page is copied before it is written.
+#[derive(Drop)]
+pub struct PageTables {
+    alloc: Global,
+    pool: Slab<Page>,
+    table: Table,
+    kept: Vec<Option<Table>>,
+}
+
+impl Model for PageTables {
+    ghost use Rattle.std.specs.Prelude.{◌≡◌};
+    ghost use Rattle.slab.specs.Slab.{get};
+    ghost use Rattle.page_tables.specs.Contents.{TablesValue, value_code, value_of};
+
+    ghost Value = { TablesValue };
+
+    ghost coded = { value_code };
+
+    ghost use Rattle.page_tables.specs.Table.{entry_at};
+    ghost use Rattle.page_tables.specs.Sharing.{contents_in, AreShared};
+
+    ghost view = { λ s. value_of (contents_in s.pool s.table s.kept.items) };
+
+    ghost invariant = { λ s. AreShared (get s.pool) (entry_at s.table) s.kept.items };
+}
+
+impl PageTables {
+    /// No page and no snapshot, which takes no memory.
+    pub fn new(alloc: Global) -> PageTables
+        ensures pages { (n : ℕ) → (contents_of result).pages n ≡ None }
+        ensures counts { (n : ℕ) → (contents_of result).counts n ≡ None }
+        ensures kept { (i : ℕ) → (contents_of result).kept i ≡ None }
+        ensures live { (contents_of result).live ≡ 0 }
+    {
+        PageTables {
+            alloc,
+            pool: Slab::new(alloc),
+            table: Table::new(alloc),
+            kept: Vec::new(alloc),
+        }
+    }
+
+    /// How many pages there are in all, a shared one counted once. It takes no memory.
+    pub fn live(&self) -> usize
+        ensures { result ≡ (contents_of self.now).live }
+    {
+        self.pool.len()
+    }
+
+    /// The page at a number.
+    #[inline(always)]
+    pub fn page(&self, number: u32) -> Option<PageView<'_>>
+        ensures { shown result ≡ (contents_of self.now).pages number }
+    {
+        let entry = self.table.entry(number);
+        if !entry.mapped {
+            return None;
+        }
+        let page = &self.pool[entry.key as usize];
+        Some(PageView {
+            permissions: entry.permissions,
+            bytes: &page.bytes,
+        })
+    }
+
+    /// The bytes of the page at a number, where they may be read.
+    #[inline(always)]
+    pub fn readable(&self, number: u32) -> Option<&[u8; 4096]>
+        ensures { option_copied result
+            ≡ bytes_if (allows_read ((contents_of self.now).pages number)) ((contents_of self.now).pages number) }
+    {
+        let entry = self.table.entry(number);
+        if !entry.permissions.read {
+            return None;
+        }
+        let page = &self.pool[entry.key as usize];
+        Some(&page.bytes)
+    }
+
+    /// The bytes of the page at a number, where they may be executed.
+    #[inline(always)]
+    pub fn executable(&self, number: u32) -> Option<&[u8; 4096]>
+        ensures { option_copied result
+            ≡ bytes_if (allows_execute ((contents_of self.now).pages number)) ((contents_of self.now).pages number) }
+    {
+        let entry = self.table.entry(number);
+        if !entry.permissions.execute {
+            return None;
+        }
+        let page = &self.pool[entry.key as usize];
+        Some(&page.bytes)
+    }
+
+    /// The least number from this one on that has a page. It takes no memory.
+    pub fn next(&self, least: u32) -> Option<u32>
+        ensures { IsNext (contents_of self.now).pages least result }
+    {
+        next_in(&self.pool, &self.table, least)
+    }
+
+    /// Puts a page of its own at a number, in place of what was there; snapshots keep theirs. Refused where a growth is.
+    pub fn place(
+        &mut self,
+        number: u32,
+        permissions: Permissions,
+        bytes: &[u8; 4096],
+    ) -> Result<(), AllocError>
+        requires { number < 0x80000 }
+        ensures placed { OnOk result (IsPlaced number (record { permissions = permissions; bytes = bytes.now })
+            (contents_of self.old) (contents_of self.new)) }
+        ensures err { OnErr result (self.new ≡ self.old) }
+    {
+        let copy = copy_bytes(self.alloc, bytes)?;
+        self.install(number, permissions, copy)
+    }
+
+    /// Makes the page at a number one of its own, by a copy where snapshots share it: to write it then takes no memory. Refused
+    /// where a growth is, which is only where it is shared.
+    pub fn unshare(&mut self, number: u32) -> Result<(), AllocError>
+        requires { IsSome ((contents_of self.old).pages number) }
+        ensures unshared { OnOk result (IsUnshared number (contents_of self.old) (contents_of self.new)) }
+        ensures err { OnErr result (self.new ≡ self.old) }
+        ensures shared { OnErr result (IsOwn (contents_of self.old) number → ⊥) }
+    {
+        let entry = self.table.entry(number);
+        let page = &self.pool[entry.key as usize];
+        if page.count == 1 {
+            return Ok(());
+        }
+        let copy = copy_bytes(self.alloc, &page.bytes)?;
+        self.install(number, entry.permissions, copy)?;
+        Ok(())
+    }
+
+    /// Puts these bytes at a number as a page of its own.
+    fn install(
+        &mut self,
+        number: u32,
+        permissions: Permissions,
+        bytes: Box<[u8; 4096]>,
+    ) -> Result<(), AllocError>
+        requires { number < 0x80000 }
+        ensures placed { OnOk result (IsPlaced number (record { permissions = permissions; bytes = bytes.value })
+            (contents_of self.old) (contents_of self.new)) }
+        ensures err { OnErr result (self.new ≡ self.old) }
+    {
+        self.table.make_room(self.alloc, number)?;
+        reserve_pages(&mut self.pool, 1)?;
+        detach(&mut self.pool, &mut self.table, number);
+        attach(&mut self.pool, &mut self.table, number, permissions, bytes);
+        Ok(())
+    }
+
+    /// Writes a byte at a place in a page. The page is copied first where snapshots share it. Refused with
+    /// NotMapped where there is no page, with NotAllowed where it may not be written, with Memory where a growth is refused.
+    #[inline(always)]
+    pub fn put_byte(&mut self, number: u32, at: usize, value: u8) -> Result<(), PutError>
+        requires { at + 1 ≤ 4096 }
+        ensures allowed { OnOk result (allows_write ((contents_of self.old).pages number) ≡ true) }
+        ensures written { OnOk result (IsWritten number at (to_le_bytes w8 value)
+            (contents_of self.old) (contents_of self.new)) }
+        ensures refused { IfErr result (IsPutRefusal ((contents_of self.old).pages number)) }
+        ensures err { OnErr result (self.new ≡ self.old) }
+    {
+        let entry = self.table.entry(number);
+        if !entry.permissions.write {
+            return Err(self.refusal(number));
+        }
+        let page = &self.pool[entry.key as usize];
+        if page.count > 1 {
+            return self.put_shared(number, at, &value.to_le_bytes());
+        }
+        put_byte(&mut self.pool, entry.key as usize, at, value);
+        Ok(())
+    }
+
+    /// Writes a half-word at a place in a page, its low byte first. The page is copied first where snapshots share it. Refused with
+    /// NotMapped where there is no page, with NotAllowed where it may not be written, with Memory where a growth is refused.
+    #[inline(always)]
+    pub fn put_half(&mut self, number: u32, at: usize, value: u16) -> Result<(), PutError>
+        requires { at + 2 ≤ 4096 }
+        ensures allowed { OnOk result (allows_write ((contents_of self.old).pages number) ≡ true) }
+        ensures written { OnOk result (IsWritten number at (to_le_bytes w16 value)
+            (contents_of self.old) (contents_of self.new)) }
+        ensures refused { IfErr result (IsPutRefusal ((contents_of self.old).pages number)) }
+        ensures err { OnErr result (self.new ≡ self.old) }
+    {
+        let entry = self.table.entry(number);
+        if !entry.permissions.write {
+            return Err(self.refusal(number));
+        }
+        let page = &self.pool[entry.key as usize];
+        if page.count > 1 {
+            return self.put_shared(number, at, &value.to_le_bytes());
+        }
+        put_half(&mut self.pool, entry.key as usize, at, value);
+        Ok(())
+    }
+
+    /// Writes a word at a place in a page, its low byte first. The page is copied first where snapshots share it. Refused with
+    /// NotMapped where there is no page, with NotAllowed where it may not be written, with Memory where a growth is refused.
+    #[inline(always)]
+    pub fn put_word(&mut self, number: u32, at: usize, value: u32) -> Result<(), PutError>
+        requires { at + 4 ≤ 4096 }
+        ensures allowed { OnOk result (allows_write ((contents_of self.old).pages number) ≡ true) }
+        ensures written { OnOk result (IsWritten number at (to_le_bytes w32 value)
+            (contents_of self.old) (contents_of self.new)) }
+        ensures refused { IfErr result (IsPutRefusal ((contents_of self.old).pages number)) }
+        ensures err { OnErr result (self.new ≡ self.old) }
+    {
+        let entry = self.table.entry(number);
+        if !entry.permissions.write {
+            return Err(self.refusal(number));
+        }
+        let page = &self.pool[entry.key as usize];
+        if page.count > 1 {
+            return self.put_shared(number, at, &value.to_le_bytes());
+        }
+        put_word(&mut self.pool, entry.key as usize, at, value);
+        Ok(())
+    }
+
+    /// Why a page may not be written.
+    #[cold]
+    fn refusal(&self, number: u32) -> PutError
+        requires { allows_write ((contents_of self.now).pages number) ≡ false }
+        ensures { IsPutRefusal ((contents_of self.now).pages number) result }
+    {
+        match self.page(number) {
+            Some(_) => PutError::NotAllowed,
+            None => PutError::NotMapped,
+        }
+    }
+
+    /// Writes into a page that snapshots share: the copy comes first.
+    #[cold]
+    #[inline(never)]
+    fn put_shared(&mut self, number: u32, at: usize, bytes: &[u8]) -> Result<(), PutError>
+        requires allowed { allows_write ((contents_of self.old).pages number) ≡ true }
+        requires fits { at + length bytes.now ≤ 4096 }
+        ensures written { OnOk result (IsWritten number at bytes.now (contents_of self.old) (contents_of self.new)) }
+        ensures refused { IfErr result (IsPutRefusal ((contents_of self.old).pages number)) }
+        ensures err { OnErr result (self.new ≡ self.old) }
+    {
+        let Ok(()) = self.unshare(number) else {
+            return Err(PutError::Memory);
+        };
+        self.write(number, at, bytes);
+        Ok(())
+    }
+
+    /// Writes bytes from a place in a page on that no snapshot shares, whatever its permissions. It takes no memory.
+    pub fn write(&mut self, number: u32, at: usize, bytes: &[u8])
+        requires own { IsOwn (contents_of self.old) number }
+        requires fits { at + length bytes.now ≤ 4096 }
+        ensures { IsWritten number at bytes.now (contents_of self.old) (contents_of self.new) }
+    {
+        let entry = self.table.entry(number);
+        put_bytes(&mut self.pool, entry.key as usize, at, bytes);
+    }
+
+    /// Sets the permissions of the page at a number, where there is one; snapshots keep theirs. It takes no memory.
+    pub fn set_permissions(&mut self, number: u32, permissions: Permissions)
+        ensures { IsProtected number permissions (contents_of self.old) (contents_of self.new) }
+    {
+        let entry = self.table.entry(number);
+        if !entry.mapped {
+            return;
+        }
+        let key = entry.key;
+        self.table.set(
+            number,
+            Entry {
+                key,
+                mapped: true,
+                permissions,
+            },
+        );
+    }
+
+    /// Whether two guests have the same page at a number, or neither has one.
+    pub fn same_page(&self, other: &PageTables, number: u32) -> bool
+        ensures same { result ≡ true → (contents_of self.now).pages number ≡ (contents_of other.now).pages number }
+        ensures differ { result ≡ false → (contents_of self.now).pages number ≢ (contents_of other.now).pages number }
+    {
+        same_view(self.page(number), other.page(number))
+    }
+
+    /// Whether a snapshot has the same page at a number, or neither has one. The bytes of a page that they share are not compared.
+    pub fn same_as_kept(&self, snapshot: usize, number: u32) -> bool
+        requires { IsSome ((contents_of self.now).kept snapshot) }
+        ensures same { result ≡ true → IsSomeAnd ((contents_of self.now).kept snapshot)
+            (λ pages. (contents_of self.now).pages number ≡ pages number) }
+        ensures differ { result ≡ false → IsSomeAnd ((contents_of self.now).kept snapshot)
+            (λ pages. (contents_of self.now).pages number ≢ pages number) }
+    {
+        same_in(
+            &self.pool,
+            &self.table,
+            kept_under(&self.kept, snapshot),
+            number,
+        )
+    }
+
+    /// Takes the page at a number out of the current table, where there is one; snapshots keep theirs. It takes no memory.
+    pub fn remove(&mut self, number: u32)
+        ensures { IsRemoved number (contents_of self.old) (contents_of self.new) }
+    {
+        detach(&mut self.pool, &mut self.table, number);
+    }
+
+    /// Keeps the current pages as a snapshot, under the least number that none has; each page is then shared. Refused where a
+    /// growth is.
+    pub fn keep(&mut self) -> Result<usize, AllocError>
+        ensures kept { IfOk result (λ number. IsKept number (contents_of self.old) (contents_of self.new)) }
+        ensures err { OnErr result (self.new ≡ self.old) }
+    {
+        if self.kept.len() >= 0xFFFF_FFFD {
+            return Err(AllocError);
+        }
+        let copy = self.table.copy(self.alloc)?;
+        let number = free_number(&self.kept);
+        store(&mut self.kept, number, copy)?;
+        raise_all(&mut self.pool, &self.table);
+        Ok(number)
+    }
+
+    /// Lets a snapshot go. It takes no memory.
+    pub fn release(&mut self, number: usize)
+        requires { IsSome ((contents_of self.old).kept number) }
+        ensures { IsReleased number (contents_of self.old) (contents_of self.new) }
+    {
+        let table = take(&mut self.kept, number);
+        lower_all(&mut self.pool, &table);
+    }
+
+    /// The page that a snapshot has at a number.
+    pub fn kept_page(&self, snapshot: usize, number: u32) -> Option<PageView<'_>>
+        requires { IsSome ((contents_of self.now).kept snapshot) }
+        ensures { IsSomeAnd ((contents_of self.now).kept snapshot) (λ pages. shown result ≡ pages number) }
+    {
+        view_in(&self.pool, kept_under(&self.kept, snapshot), number)
+    }
+
+    /// The least number from this one on at which a snapshot has a page. It takes no memory.
+    pub fn kept_next(&self, snapshot: usize, least: u32) -> Option<u32>
+        requires { IsSome ((contents_of self.now).kept snapshot) }
+        ensures { IsSomeAnd ((contents_of self.now).kept snapshot) (λ pages. IsNext pages least result) }
+    {
+        next_in(&self.pool, kept_under(&self.kept, snapshot), least)
+    }
+}
+
+/// The page that a table has at a number.
+fn view_in<'a>(pool: &'a Slab<Page>, table: &Table, number: u32) -> Option<PageView<'a>>
+    requires { IsTableOf (get pool.now) (entry_at table.now) }
+    ensures { shown result ≡ pages_in (get pool.now) (entry_at table.now) number }
+{
+    let entry = table.entry(number);
+    if !entry.mapped {
+        return None;
+    }
+    let page = &pool[entry.key as usize];
+    Some(PageView {
+        permissions: entry.permissions,
+        bytes: &page.bytes,
+    })
+}
+
+/// The least number from this one on at which a table has a page. The pool is for the proof alone.
+fn next_in(pool: &Slab<Page>, table: &Table, least: u32) -> Option<u32>
+    requires { IsTableOf (get pool.now) (entry_at table.now) }
+    ensures { IsNext (pages_in (get pool.now) (entry_at table.now)) least result }
+{
+    let _ = pool;
+    let number = table.next_or_end(least);
+    if number < 0x80000 { Some(number) } else { None }
+}
+
+/// Whether two tables have the same page at a number, or neither has one. The bytes of a page that they share are not compared.
+fn same_in(pool: &Slab<Page>, table: &Table, other: &Table, number: u32) -> bool
+    requires table { IsTableOf (get pool.now) (entry_at table.now) }
+    requires other { IsTableOf (get pool.now) (entry_at other.now) }
+    ensures same { result ≡ true →
+        pages_in (get pool.now) (entry_at table.now) number ≡ pages_in (get pool.now) (entry_at other.now) number }
+    ensures differ { result ≡ false →
+        pages_in (get pool.now) (entry_at table.now) number ≢ pages_in (get pool.now) (entry_at other.now) number }
+{
+    if table.entry(number) == other.entry(number) {
+        return true;
+    }
+    same_view(view_in(pool, table, number), view_in(pool, other, number))
+}
+
+/// Whether two readers see the same.
+fn same_view(view: Option<PageView<'_>>, other: Option<PageView<'_>>) -> bool
+    ensures same { result ≡ true → shown view.entry ≡ shown other.entry }
+    ensures differ { result ≡ false → shown view.entry ≢ shown other.entry }
+{
+    let Some(view) = view else {
+        return other.is_none();
+    };
+    let Some(other) = other else {
+        return false;
+    };
+    view.permissions == other.permissions && view.bytes.as_slice() == other.bytes.as_slice()
+}
