@@ -127,7 +127,7 @@ module _ {O : Type 0} {gives : O → Question → Answer → O → Type 0} {row 
 -- room for some bytes is room for fewer
 pub fill_within : (s : SpaceValue) (a count less : ℕ) → CanFill s a count → less ≤ count → CanFill s a less
 fill_within s a count less ready within =
-    all_pass is_some (memory_of s) a less (λ k below. one_of_all is_some (memory_of s) a count k ready (omega arith))
+    (all_pass is_some (memory_of s) a less (λ k below. one_of_all is_some (memory_of s) a count k ready.0 (omega arith)), λ k below. ready.1 k (omega (arith, below, within)))
 
 pub at_room : (tid value a : ℕ) (bytes : List ℕ) (old mid new : State) → mid ≡ old → new ≡ results tid value (with_memory (stored a bytes mid.memory) mid) →
     new ≡ results tid value (with_memory (stored a bytes old.memory) old)

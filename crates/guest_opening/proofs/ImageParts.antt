@@ -1,11 +1,9 @@
 -- Parts of an image: some of its loads, some of their pages.
-use Rattle.std.proofs.Common.{◌≡◌, ℕ, ◌/◌, ◌≤◌, true, not, ◌&&◌, if◌then◌else◌, List, [], ◌∷◌, length, Some, None}
+use Rattle.std.proofs.Common.{ℕ, ◌/◌, ◌&&◌, if◌then◌else◌, List, [], Some}
 use Rattle.std.specs.Prelude.{nat_le, nat_lt}
-use Rattle.std.specs.List.{list_any}
 use Rattle.rrv_model.specs.declared.machine.Permissions.{Permissions}
 use Rattle.rrv_model.specs.Memory.{Memory, stored, page_bytes}
-use Rattle.rrv_model.specs.Elf.{Header, touches, touched_below, loads, is_empty_load}
-use Rattle.rrv_model.specs.Opening.{loaded_byte, page_permissions}
+use Rattle.rrv_model.specs.Elf.{Header, loads}
 use Rattle.guest_pages.specs.Mapping.{covered_cell}
 use Rattle.guest_opening.specs.Loading.{covered_load, file_bytes}
 

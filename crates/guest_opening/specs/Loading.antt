@@ -1,9 +1,9 @@
 -- What the loading of an image does to a memory.
-use Rattle.std.specs.Prelude.{ℕ, true, false, ◌+◌, ◌/◌, ◌<◌, ◌≤◌, ◌||◌, if◌then◌else◌, List, length, take, drop, Some}
+use Rattle.std.specs.Prelude.{ℕ, true, false, ◌/◌, ◌||◌, if◌then◌else◌, List, take, drop, Some}
 use Rattle.rrv_model.specs.declared.machine.Permissions.{Permissions}
 use Rattle.rrv_model.specs.Memory.{Memory, mapped, page_bytes}
 use Rattle.rrv_model.specs.CallRows.{has_flag}
-use Rattle.rrv_model.specs.Elf.{Header, touches, load_end}
+use Rattle.rrv_model.specs.Elf.{Header, touches}
 use Rattle.guest_pages.specs.Mapping.{covered_cell}
 
 -- what a load's flags allow: X 1, W 2, R 4, and R with W

@@ -1,5 +1,5 @@
 -- The pages on which two memories differ.
-use Rattle.std.proofs.Common.{◌≡◌, ◌≢◌, ◌⊎◌, ℕ, zero, suc, ◌+◌, ◌*◌, ◌/◌, ◌%◌, ◌<◌, ◌≤◌, List, [], ◌∷◌, ◌++◌, length, Option, Some, None, IfSome, is_some, false, ap, ◌∙◌, sym, subst, arith, slice_index, Contains, inl, inr, length-append}
+use Rattle.std.proofs.Common.{refl, ◌≡◌, ◌≢◌, ◌⊎◌, ℕ, zero, suc, ◌+◌, ◌*◌, ◌%◌, ◌<◌, ◌≤◌, List, [], ◌∷◌, ◌++◌, length, Option, Some, None, IfSome, IsSomeAnd, is_some, false, ap, ◌∙◌, sym, subst, arith, slice_index, Contains, inl, inr, length-append}
 use Rattle.std.proofs.lemmas.Bool.{false≢true, cases_lt}
 use Rattle.std.proofs.lemmas.Bool.Decides.{eqb_tells}
 use Rattle.std.proofs.lemmas.List.{get_or_append_left}
@@ -8,13 +8,13 @@ use Rattle.std.proofs.Math.Seq.{get_or-append_seam}
 use Rattle.std.proofs.lemmas.Grind.{same_number_lists}
 use Rattle.std.specs.Option.{option_map}
 use Rattle.std.specs.List.Sorted.{IsStrictlyIncreasing}
-use Rattle.rrv_model.specs.Memory.{byte_or_zero, is_mapped}
-use Rattle.guest_pages.specs.declared.page.Page.{Page}
-use Rattle.guest_pages.specs.Space.{page_at, memory_in, cell_in, IsPage, ArePages}
-use Rattle.guest_pages.specs.Mapping.{SamePage, SameAt, ListsOthers}
+use Rattle.rrv_model.specs.Memory.{byte_or_zero}
+use Rattle.page_tables.specs.Contents.{PageValue}
+use Rattle.guest_pages.specs.Space.{PageMap, page_at, memory_in, snapshots_in, cell_in, IsPage, AreEachPage}
+use Rattle.guest_pages.specs.Mapping.{SameAt, ListsOthers}
 use Rattle.guest_pages.specs.Snapshots.{SameOn, DifferOn, AreChanges}
-use Rattle.guest_pages.proofs.Facts.{none_high, is_mapped_in}
-use Rattle.guest_pages.proofs.SameMemory.{in_page, same_cell, permissions_or}
+use Rattle.guest_pages.proofs.Facts.{none_high}
+use Rattle.guest_pages.proofs.SameMemory.{in_page, same_page, pages_of_same, permissions_or}
 
 -- ---- a list of the numbers that don't have a property
 
@@ -48,17 +48,6 @@ more_pass P n m xs h on pass = record {
     | inr w ↦ pass q (omega (arith, w)) l
   ];
 }
-
--- a page that neither has is the same
-unmapped_same : (p q : Option Page) → is_some p ≡ false → is_some q ≡ false → SamePage p q
-unmapped_same None None h i = tt
-unmapped_same None (Some q) h i = absurd (false≢true (sym i))
-unmapped_same (Some p) q h i = absurd (false≢true (sym h))
-
-pub same_unmapped : (pages others : List (ℕ × Page)) (q : ℕ) → is_mapped (memory_in pages) q ≡ false → is_mapped (memory_in others) q ≡ false →
-    SameAt pages others q
-same_unmapped pages others q h i =
-    unmapped_same (page_at pages q) (page_at others q) (sym (is_mapped_in pages q) ∙ h) (sym (is_mapped_in others q) ∙ i)
 
 only_one : (n q : ℕ) → Contains (n ∷ []) q → n ≡ q
 only_one n q (zero, l, e) = e
@@ -113,32 +102,31 @@ first_difference (suc n) f g = elim (eqb_tells (f n) (g n)) [
   | inr w ↦ inr (n, omega arith, w.1)
 ]
 
-differ_in_page : (n : ℕ) (p q : Option Page) → IfSome p (IsPage n) → IfSome q (IsPage n) → (SamePage p q → ⊥) →
+differ_in_page : (n : ℕ) (p q : Option PageValue) → IfSome p (IsPage n) → IfSome q (IsPage n) → (p ≡ q → ⊥) →
     (k : ℕ) × (k < 4096) × (option_map (cell_in k) p ≢ option_map (cell_in k) q)
-differ_in_page n None None hp hq apart = absurd (apart tt)
+differ_in_page n None None hp hq apart = absurd (apart refl)
 differ_in_page n None (Some q) hp hq apart = (0, omega arith, λ e. false≢true (ap is_some e))
 differ_in_page n (Some p) None hp hq apart = (0, omega arith, λ e. false≢true (sym (ap is_some e)))
-differ_in_page n (Some p) (Some q) hp hq apart = elim (first_difference 4096 (slice_index p.bytes.value) (slice_index q.bytes.value)) [
+differ_in_page n (Some p) (Some q) hp hq apart = elim (first_difference 4096 (slice_index p.bytes) (slice_index q.bytes)) [
   | inl same ↦
-      let bytes : p.bytes.value ≡ q.bytes.value = same_number_lists p.bytes.value q.bytes.value (hp.full ∙ sym hq.full) (λ k l. same k (omega (arith, l, hp.full))) in
-      (0, omega arith, λ e. apart (ap (permissions_or p.permissions) e, bytes))
+      let bytes : p.bytes ≡ q.bytes = same_number_lists p.bytes q.bytes (hp.full ∙ sym hq.full) (λ k l. same k (omega (arith, l, hp.full))) in
+      (0, omega arith, λ e. apart (ap Some (same_page p q (ap (permissions_or p.permissions) e) bytes)))
   | inr d ↦ (d.0, d.1, λ e. d.2 (ap byte_or_zero e))
 ]
 
 -- ---- the changes between two memories in pages
 
-differ_on : (a b : List (ℕ × Page)) → ArePages a → ArePages b → (n : ℕ) → (SamePage (page_at a n) (page_at b n) → ⊥) →
+differ_on : (a b : PageMap) → AreEachPage a → AreEachPage b → (n : ℕ) → (SameAt a b n → ⊥) →
     DifferOn n (memory_in a) (memory_in b)
 differ_on a b ha hb n apart =
-    let d = differ_in_page n (page_at a n) (page_at b n) (ha.each n) (hb.each n) apart in
+    let d = differ_in_page n (page_at a n) (page_at b n) (ha n) (hb n) apart in
     (n * 4096 + d.0, omega (arith, d.1), λ e. d.2 (sym (in_page a n d.0 d.1) ∙ e ∙ in_page b n d.0 d.1))
 
-same_on : (a b : List (ℕ × Page)) (n : ℕ) → SamePage (page_at a n) (page_at b n) → SameOn n (memory_in a) (memory_in b)
+same_on : (a b : PageMap) (n : ℕ) → SameAt a b n → SameOn n (memory_in a) (memory_in b)
 unfolding memory_in
-same_on a b n same x place =
-    same_cell (page_at a (x / 4096)) (page_at b (x / 4096)) (x % 4096) (subst (λ (q : ℕ). SamePage (page_at a q) (page_at b q)) (sym place) same)
+same_on a b n same x place = ap (option_map (cell_in (x % 4096))) (subst (λ (q : ℕ). SameAt a b q) (sym place) same)
 
-pub lists_changes : (a b : List (ℕ × Page)) → ArePages a → ArePages b → (xs : List ℕ) → ListsOthers (SameAt a b) 0x80000 xs →
+pub lists_changes : (a b : PageMap) → AreEachPage a → AreEachPage b → (xs : List ℕ) → ListsOthers (SameAt a b) 0x80000 xs →
     AreChanges (memory_in a) (memory_in b) xs
 lists_changes a b ha hb xs h = record {
   rising = h.rising;
@@ -148,3 +136,37 @@ lists_changes a b ha hb xs h = record {
     | inr w ↦ λ x place. none_high a ha x (omega (arith, place)) ∙ sym (none_high b hb x (omega (arith, place)))
   ];
 }
+
+-- ---- the changes since a snapshot
+
+pub kept_changes : (kept : ℕ → Option PageMap) (pages : PageMap) (n : ℕ) (xs : List ℕ) → ((i : ℕ) → IfSome (kept i) AreEachPage) → AreEachPage pages →
+    IsSomeAnd (kept n) (λ before. ListsOthers (SameAt before pages) 0x80000 xs) → IsSomeAnd (snapshots_in kept n) (λ before. AreChanges before (memory_in pages) xs)
+unfolding snapshots_in
+kept_changes kept pages n xs each h listed = by_slot (kept n) (each n) listed where
+  by_slot : (o : Option PageMap) → IfSome o AreEachPage → IsSomeAnd o (λ before. ListsOthers (SameAt before pages) 0x80000 xs) →
+      IsSomeAnd (option_map memory_in o) (λ before. AreChanges before (memory_in pages) xs)
+  by_slot None i l = l
+  by_slot (Some before) i l = lists_changes before pages i h xs l
+
+pub differs : (kept : ℕ → Option PageMap) (pages : PageMap) (n : ℕ) → ((i : ℕ) → IfSome (kept i) AreEachPage) → AreEachPage pages →
+    IsSomeAnd (kept n) (λ before. (q : ℕ) × (SameAt before pages q → ⊥)) → snapshots_in kept n ≡ Some (memory_in pages) → ⊥
+unfolding snapshots_in
+differs kept pages n each h apart same = by_slot (kept n) (each n) apart same where
+  by_slot : (o : Option PageMap) → IfSome o AreEachPage → IsSomeAnd o (λ before. (q : ℕ) × (SameAt before pages q → ⊥)) → option_map memory_in o ≡ Some (memory_in pages) → ⊥
+  by_slot None i a e = a
+  by_slot (Some before) i a e = a.1 (pages_of_same before pages i h (cc (e)) a.0)
+
+-- one number further, and on to the next at which either has a page
+pub same_then_on : (kept : Option PageMap) (pages : PageMap) (n next : ℕ) (xs : List ℕ) → n + 1 ≤ next → IsSomeAnd kept (λ before. ListsOthers (SameAt before pages) n xs)
+    → IsSomeAnd kept (λ before. pages n ≡ before n) → IsSomeAnd kept (λ before. (q : ℕ) → n + 1 ≤ q → q < next → SameAt before pages q)
+    → IsSomeAnd kept (λ before. ListsOthers (SameAt before pages) next xs)
+same_then_on None pages n next xs on listed here rest = absurd listed
+same_then_on (Some before) pages n next xs on listed here rest =
+    more_pass (SameAt before pages) (n + 1) next xs (one_passes (SameAt before pages) n xs listed (sym here)) on rest
+
+pub differ_then_on : (kept : Option PageMap) (pages : PageMap) (n next : ℕ) (xs : List ℕ) → n + 1 ≤ next → IsSomeAnd kept (λ before. ListsOthers (SameAt before pages) n xs)
+    → IsSomeAnd kept (λ before. pages n ≢ before n) → IsSomeAnd kept (λ before. (q : ℕ) → n + 1 ≤ q → q < next → SameAt before pages q)
+    → IsSomeAnd kept (λ before. ListsOthers (SameAt before pages) next (xs ++ n ∷ []))
+differ_then_on None pages n next xs on listed here rest = absurd listed
+differ_then_on (Some before) pages n next xs on listed here rest =
+    more_pass (SameAt before pages) (n + 1) next (xs ++ n ∷ []) (one_fails_too (SameAt before pages) n xs listed (λ e. here (sym e))) on rest

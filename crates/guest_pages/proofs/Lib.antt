@@ -9,3 +9,6 @@ pub mod SnapshotPages
 pub mod Changes
 pub mod WordStores
 pub mod WholePages
+pub mod OwnPages
+pub mod Spaces
+pub mod PutRefusals

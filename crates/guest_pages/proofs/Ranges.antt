@@ -1,22 +1,19 @@
 -- Ranges of pages that are there, free, taken away or protected.
-use Rattle.std.proofs.Common.{◌≡◌, ℕ, zero, suc, ◌+◌, ◌-◌, ◌*◌, ◌/◌, ◌%◌, ◌<◌, ◌≤◌, List, Option, Some, None, IfSome, IfNone, not, is_some, is_none, Bool, true, false, refl, ap, ◌∙◌, sym, subst, arith, length, slice_index, if◌then◌else◌, inl, inr, IsTrue}
+use Rattle.std.proofs.Common.{◌≡◌, ◌≢◌, ℕ, zero, suc, ◌+◌, ◌-◌, ◌*◌, ◌/◌, ◌%◌, ◌<◌, ◌≤◌, ◌^◌, nat_lt, Option, Some, None, IfSome, IfNone, not, is_some, is_none, Bool, true, false, refl, ap, ◌∙◌, sym, subst, arith, if◌then◌else◌, inl, inr, IsTrue}
 use Rattle.std.proofs.Math.Bool.{and-false}
 use Rattle.std.proofs.lemmas.Bool.{false≢true, cases_lt}
 use Rattle.std.proofs.lemmas.Bool.Decides.{nat_tests, eqb_tells}
-use Rattle.std.specs.Ordering.{nat_cmp}
 use Rattle.std.specs.Option.{option_map}
-use Rattle.std.specs.Map.{keys_of}
-use Rattle.std.specs.List.Sorted.{IsStrictlySortedBy}
 use Rattle.rrv_model.specs.declared.machine.Permissions.{Permissions}
-use Rattle.rrv_model.specs.Memory.{Memory, Cell, is_within, unmapped, protected, with_permissions, is_mapped, all_mapped, all_free, highest_free_up_to}
-use Rattle.guest_pages.specs.declared.page.Page.{Page}
-use Rattle.guest_pages.specs.Space.{page_at, memory_in, cell_in, IsPage, ArePages}
-use Rattle.guest_pages.specs.Mapping.{AreProtected}
-use Rattle.guest_pages.proofs.Facts.{is_mapped_in}
+use Rattle.rrv_model.specs.Memory.{Memory, Cell, is_within, unmapped, protected, with_permissions, is_mapped, all_mapped, all_free, highest_free_up_to, page_count}
+use Rattle.page_tables.specs.Contents.{PageValue}
+use Rattle.page_tables.specs.Changes.{with_permissions as page_with}
+use Rattle.guest_pages.specs.Space.{PageMap, page_at, memory_in, cell_in, IsPage, AreEachPage}
+use Rattle.guest_pages.proofs.Facts.{is_mapped_in, pages_below_add}
 
 -- ---- all of a range
 
-pub all_mapped_more : (pages : List (ℕ × Page)) (first number : ℕ) → first ≤ number → is_some (page_at pages number) ≡ true → all_mapped (memory_in pages) first (number - first) ≡ true →
+pub all_mapped_more : (pages : PageMap) (first number : ℕ) → first ≤ number → is_some (page_at pages number) ≡ true → all_mapped (memory_in pages) first (number - first) ≡ true →
     all_mapped (memory_in pages) first (number + 1 - first) ≡ true
 unfolding all_mapped
 all_mapped_more pages first number begun there before =
@@ -24,7 +21,7 @@ all_mapped_more pages first number begun there before =
     let here : first + (number - first) ≡ number = omega arith in
     rw (next, here, is_mapped_in pages number, there, before) refl
 
-pub one_absent : (pages : List (ℕ × Page)) (first count number : ℕ) → first ≤ number → number < first + count → is_some (page_at pages number) ≡ false → all_mapped (memory_in pages) first count ≡ false
+pub one_absent : (pages : PageMap) (first count number : ℕ) → first ≤ number → number < first + count → is_some (page_at pages number) ≡ false → all_mapped (memory_in pages) first count ≡ false
 unfolding all_mapped
 one_absent pages first zero number begun low absent = absurd (omega arith)
 one_absent pages first (suc count) number begun low absent = elim (eqb_tells number (first + count)) [
@@ -101,7 +98,7 @@ none_free m count = refl
 
 -- ---- pages taken away
 
-pub unmapped_in : (pages after : List (ℕ × Page)) (first count : ℕ) → ((q : ℕ) → first ≤ q → q < first + count → page_at after q ≡ None)
+pub unmapped_in : (pages after : PageMap) (first count : ℕ) → ((q : ℕ) → first ≤ q → q < first + count → page_at after q ≡ None)
     → ((q : ℕ) → q < first → page_at after q ≡ page_at pages q) → ((q : ℕ) → first + count ≤ q → page_at after q ≡ page_at pages q)
     → memory_in after ≡ unmapped (first * 4096) (count * 4096) (memory_in pages)
 unfolding memory_in
@@ -115,31 +112,38 @@ unmapped_in pages after first count removed below above = λ i x. at x i where
       | inr w ↦ above (x / 4096) (grind (arith, nat_tests))
     ])
 
-pub fewer_pages : (pages after : List (ℕ × Page)) (first count : ℕ) → ArePages pages → ((q : ℕ) → first ≤ q → q < first + count → page_at after q ≡ None)
-    → ((q : ℕ) → q < first → page_at after q ≡ page_at pages q) → ((q : ℕ) → first + count ≤ q → page_at after q ≡ page_at pages q)
-    → IsStrictlySortedBy nat_cmp (keys_of after) → length after ≤ length pages → ArePages after
-fewer_pages pages after first count h removed below above ordered len = record {
-  ordered = ordered;
-  each = λ q. elim (cases_lt q first) [
-    | inl w ↦ subst (λ (o : Option Page). IfSome o (IsPage q)) (sym (below q w)) (h.each q)
-    | inr w ↦ elim (cases_lt q (first + count)) [
-      | inl v ↦ subst (λ (o : Option Page). IfSome o (IsPage q)) (sym (removed q w v)) tt
-      | inr v ↦ subst (λ (o : Option Page). IfSome o (IsPage q)) (sym (above q v)) (h.each q)
-    ]
-  ];
-  limit = omega (arith, h.limit, len);
-}
+pub unmapped_each : (pages after : PageMap) (first count : ℕ) → AreEachPage pages → ((q : ℕ) → first ≤ q → q < first + count → page_at after q ≡ None)
+    → ((q : ℕ) → q < first → page_at after q ≡ page_at pages q) → ((q : ℕ) → first + count ≤ q → page_at after q ≡ page_at pages q) → AreEachPage after
+unmapped_each pages after first count h removed below above q = elim (cases_lt q first) [
+  | inl w ↦ subst (λ (o : Option PageValue). IfSome o (IsPage q)) (sym (below q w)) (h q)
+  | inr w ↦ elim (cases_lt q (first + count)) [
+    | inl v ↦ subst (λ (o : Option PageValue). IfSome o (IsPage q)) (sym (removed q w v)) tt
+    | inr v ↦ subst (λ (o : Option PageValue). IfSome o (IsPage q)) (sym (above q v)) (h q)
+  ]
+]
+
+-- a page that is taken away is one less
+pub count_removed : (pages after : PageMap) (n : ℕ) → AreEachPage pages → is_some (pages n) ≡ true → after n ≡ None → ((q : ℕ) → q ≢ n → after q ≡ pages q) →
+    page_count (memory_in after) + 1 ≡ page_count (memory_in pages)
+count_removed pages after n h there gone others =
+    let absent : is_mapped (memory_in after) n ≡ false = is_mapped_in after n ∙ ap is_some gone in
+    let was : is_mapped (memory_in pages) n ≡ true = is_mapped_in pages n ∙ there in
+    let one : page_count (memory_in pages) ≡ page_count (memory_in after) + (if nat_lt n (2 ^ 20) then 1 else 0) =
+    pages_below_add (memory_in after) (memory_in pages) n (λ q apart. is_mapped_in pages q ∙ ap is_some (sym (others q apart)) ∙ sym (is_mapped_in after q)) absent was (2 ^ 20) in
+    let high : n < 0x80000 = low_number (pages n) (h n) there in
+    let low : nat_lt n (2 ^ 20) ≡ true = grind (arith, nat_tests) in
+    sym (one ∙ rw low refl) where
+      low_number : (o : Option PageValue) → IfSome o (IsPage n) → is_some o ≡ true → n < 0x80000
+      low_number None i e = absurd (false≢true e)
+      low_number (Some p) i e = i.high
 
 -- ---- pages protected
 
-protected_cell : (permissions : Permissions) (p q : Option Page) (k : ℕ) → AreProtected permissions p q → option_map (cell_in k) q ≡ with_permissions permissions (option_map (cell_in k) p)
-protected_cell permissions None q k h = ap (option_map (cell_in k)) h
-protected_cell permissions (Some p) None k h = absurd h
-protected_cell permissions (Some p) (Some q) k h =
-    ap (λ (b : List ℕ). let c : Cell = record { byte = slice_index b k; permissions = q.permissions } in Some c) h.1
-    ∙ ap (λ (r : Permissions). let c : Cell = record { byte = slice_index p.bytes.value k; permissions = r } in Some c) h.0
+protected_cell : (permissions : Permissions) (p : Option PageValue) (k : ℕ) → option_map (cell_in k) (option_map (page_with permissions) p) ≡ with_permissions permissions (option_map (cell_in k) p)
+protected_cell permissions None k = refl
+protected_cell permissions (Some p) k = refl
 
-pub protected_in : (pages after : List (ℕ × Page)) (permissions : Permissions) (first count : ℕ) → ((q : ℕ) → first ≤ q → q < first + count → AreProtected permissions (page_at pages q) (page_at after q))
+pub protected_in : (pages after : PageMap) (permissions : Permissions) (first count : ℕ) → ((q : ℕ) → first ≤ q → q < first + count → page_at after q ≡ option_map (page_with permissions) (page_at pages q))
     → ((q : ℕ) → q < first → page_at after q ≡ page_at pages q) → ((q : ℕ) → first + count ≤ q → page_at after q ≡ page_at pages q)
     → memory_in after ≡ protected (first * 4096) (count * 4096) permissions (memory_in pages)
 unfolding memory_in
@@ -147,35 +151,38 @@ protected_in pages after permissions first count inside below above = λ i x. at
   at : (x : ℕ) → memory_in after x ≡ protected (first * 4096) (count * 4096) permissions (memory_in pages) x
   at x = by_test (is_within (first * 4096) (count * 4096) x) refl where
     by_test : (b : Bool) → is_within (first * 4096) (count * 4096) x ≡ b → memory_in after x ≡ (if b then with_permissions permissions (memory_in pages x) else memory_in pages x)
-    by_test true e = protected_cell permissions (page_at pages (x / 4096)) (page_at after (x / 4096)) (x % 4096) (inside (x / 4096) (grind (arith, nat_tests)) (grind (arith, nat_tests)))
+    by_test true e = ap (option_map (cell_in (x % 4096))) (inside (x / 4096) (grind (arith, nat_tests)) (grind (arith, nat_tests))) ∙ protected_cell permissions (page_at pages (x / 4096)) (x % 4096)
     by_test false e = ap (option_map (cell_in (x % 4096))) (elim (cases_lt (x / 4096) first) [
       | inl w ↦ below (x / 4096) w
       | inr w ↦ above (x / 4096) (grind (arith, nat_tests))
     ])
 
-protected_is_page : (permissions : Permissions) (n : ℕ) (p q : Option Page) → (IsTrue permissions.write → IsTrue permissions.read) → IfSome p (IsPage n) → AreProtected permissions p q → IfSome q (IsPage n)
-protected_is_page permissions n None q readable h j = subst (λ (o : Option Page). IfSome o (IsPage n)) (sym j) tt
-protected_is_page permissions n (Some p) None readable h j = absurd j
-protected_is_page permissions n (Some p) (Some q) readable h j = record {
-  low = h.low;
-  high = h.high;
-  full = ap (λ (b : List ℕ). length b) j.1 ∙ h.full;
-  bytes = λ k. subst (λ (b : List ℕ). slice_index b k < 256) (sym j.1) (h.bytes k);
-  readable = subst (λ (r : Permissions). IsTrue r.write → IsTrue r.read) (sym j.0) readable;
-}
+protected_is_page : (permissions : Permissions) (n : ℕ) (p : Option PageValue) → (IsTrue permissions.write → IsTrue permissions.read) → IfSome p (IsPage n) → IfSome (option_map (page_with permissions) p) (IsPage n)
+protected_is_page permissions n None readable h = tt
+protected_is_page permissions n (Some p) readable h = record { low = h.low; high = h.high; full = h.full; bytes = h.bytes; readable = readable }
 
-pub protected_pages : (pages after : List (ℕ × Page)) (permissions : Permissions) (first count : ℕ) → ArePages pages → (IsTrue permissions.write → IsTrue permissions.read)
-    → ((q : ℕ) → first ≤ q → q < first + count → AreProtected permissions (page_at pages q) (page_at after q))
+pub protected_each : (pages after : PageMap) (permissions : Permissions) (first count : ℕ) → AreEachPage pages → (IsTrue permissions.write → IsTrue permissions.read)
+    → ((q : ℕ) → first ≤ q → q < first + count → page_at after q ≡ option_map (page_with permissions) (page_at pages q))
+    → ((q : ℕ) → q < first → page_at after q ≡ page_at pages q) → ((q : ℕ) → first + count ≤ q → page_at after q ≡ page_at pages q) → AreEachPage after
+protected_each pages after permissions first count h readable inside below above q = elim (cases_lt q first) [
+  | inl w ↦ subst (λ (o : Option PageValue). IfSome o (IsPage q)) (sym (below q w)) (h q)
+  | inr w ↦ elim (cases_lt q (first + count)) [
+    | inl v ↦ subst (λ (o : Option PageValue). IfSome o (IsPage q)) (sym (inside q w v)) (protected_is_page permissions q (page_at pages q) readable (h q))
+    | inr v ↦ subst (λ (o : Option PageValue). IfSome o (IsPage q)) (sym (above q v)) (h q)
+  ]
+]
+
+pub protected_there : (pages after : PageMap) (permissions : Permissions) (first count : ℕ)
+    → ((q : ℕ) → first ≤ q → q < first + count → page_at after q ≡ option_map (page_with permissions) (page_at pages q))
     → ((q : ℕ) → q < first → page_at after q ≡ page_at pages q) → ((q : ℕ) → first + count ≤ q → page_at after q ≡ page_at pages q)
-    → IsStrictlySortedBy nat_cmp (keys_of after) → length after ≡ length pages → ArePages after
-protected_pages pages after permissions first count h readable inside below above ordered len = record {
-  ordered = ordered;
-  each = λ q. elim (cases_lt q first) [
-    | inl w ↦ subst (λ (o : Option Page). IfSome o (IsPage q)) (sym (below q w)) (h.each q)
-    | inr w ↦ elim (cases_lt q (first + count)) [
-      | inl v ↦ protected_is_page permissions q (page_at pages q) (page_at after q) readable (h.each q) (inside q w v)
-      | inr v ↦ subst (λ (o : Option Page). IfSome o (IsPage q)) (sym (above q v)) (h.each q)
-    ]
-  ];
-  limit = omega (arith, h.limit, len);
-}
+    → (q : ℕ) → is_some (after q) ≡ is_some (pages q)
+protected_there pages after permissions first count inside below above q = elim (cases_lt q first) [
+  | inl w ↦ ap is_some (below q w)
+  | inr w ↦ elim (cases_lt q (first + count)) [
+    | inl v ↦ ap is_some (inside q w v) ∙ still (pages q)
+    | inr v ↦ ap is_some (above q v)
+  ]
+] where
+  still : (o : Option PageValue) → is_some (option_map (page_with permissions) o) ≡ is_some o
+  still None = refl
+  still (Some p) = refl

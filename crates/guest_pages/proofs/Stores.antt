@@ -1,23 +1,20 @@
 -- A store within one page.
-use Rattle.std.proofs.Common.{◌≡◌, ◌≢◌, ℕ, zero, suc, ◌+◌, ◌-◌, ◌*◌, ◌/◌, ◌%◌, ◌<◌, ◌≤◌, List, [], ◌∷◌, length, Option, Some, None, IfSome, Bool, true, false, cond, refl, ap, ◌∙◌, sym, subst, arith, slice_index, slice_set, length-set, inl, inr, get_or-set_same, get_or-set_other, if◌then◌else◌, IsTrue, IsSome, is_some, ◌++◌, take, drop}
+use Rattle.std.proofs.Common.{◌≡◌, ◌≢◌, ℕ, zero, suc, ◌+◌, ◌-◌, ◌*◌, ◌/◌, ◌%◌, ◌<◌, ◌≤◌, List, [], ◌∷◌, length, Option, Some, None, IfSome, Bool, true, false, refl, ap, ◌∙◌, sym, subst, arith, slice_index, slice_set, length-set, inl, inr, get_or-set_same, get_or-set_other, if◌then◌else◌, IsSome, is_some, ◌++◌, take, drop}
 use Rattle.std.proofs.lemmas.List.{length-take-le}
 use Rattle.std.proofs.Math.Seq.{take-add}
 use Rattle.std.proofs.lemmas.Bool.{false≢true}
 use Rattle.std.proofs.lemmas.Bool.Decides.{nat_tests, eqb_tells}
 use Rattle.std.proofs.lemmas.Grind.{common_steps}
-use Rattle.std.specs.Ordering.{nat_cmp}
 use Rattle.std.specs.Option.{option_map}
-use Rattle.std.specs.BTreeMap.{is_at}
-use Rattle.std.specs.Map.{keys_of, set_value}
-use Rattle.std.proofs.lemmas.Map.Steps.{set_value_same}
 use Rattle.std.specs.List.{AllByRecursion}
-use Rattle.std.specs.List.Sorted.{IsStrictlySortedBy}
-use Rattle.rrv_model.specs.Memory.{Memory, Cell, stored, is_within, with_byte}
-use Rattle.rrv_model.proofs.Threads.{is_at_nat}
+use Rattle.rrv_model.specs.declared.limits.TheConstants.{MAX_PAGES}
+use Rattle.rrv_model.specs.Memory.{Memory, Cell, stored, is_within, with_byte, page_count}
 use Rattle.rrv_model.specs.declared.machine.Permissions.{Permissions}
-use Rattle.guest_pages.specs.declared.page.Page.{Page}
-use Rattle.guest_pages.specs.Pages.{written, IsWritten}
-use Rattle.guest_pages.specs.Space.{SpaceValue, page_at, memory_in, cell_in, IsPage, ArePages}
+use Rattle.page_tables.specs.Contents.{PageValue, contents_of}
+use Rattle.page_tables.specs.Changes.{written, with_bytes, IsWritten as IsWrittenInto}
+use Rattle.guest_pages.specs.Pages.{IsWritten}
+use Rattle.guest_pages.specs.Space.{SpaceValue, PageMap, page_at, memory_in, memory_of, snapshots_in, snapshots_of, cell_in, IsPage, AreEachPage, IsSpace, KeepsOwn}
+use Rattle.guest_pages.proofs.Facts.{count_alike}
 
 one_more : (bs : List ℕ) (bytes : List ℕ) (at k b : ℕ) → at + suc (length bs) ≤ length bytes →
     (if is_within (at + 1) (length bs) k then slice_index bs (k - (at + 1)) else slice_index (slice_set bytes at b) k) ≡ if is_within at (suc (length bs)) k then slice_index (b ∷ bs) (k - at) else slice_index bytes k
@@ -39,17 +36,6 @@ length_written (b ∷ bs) bytes at = length_written bs (slice_set bytes at b) (a
 pub is_written : (bs : List ℕ) (bytes : List ℕ) (at : ℕ) → at + length bs ≤ length bytes → IsWritten bytes at bs (written bytes at bs)
 is_written bs bytes at fits = record { len = length_written bs bytes at; each = λ k. get_written bs bytes at k fits }
 
--- what is written back unchanged changes nothing
-pub written_back : (pages after : List (ℕ × Page)) (n : ℕ) (p : Page) → after ≡ set_value (is_at (nat_cmp n)) pages p → Some p ≡ page_at pages n → after ≡ pages
-written_back pages after n p e found = e ∙ set_value_same (is_at (nat_cmp n)) pages p (sym found)
-
--- the space is then as before
-pub same_space : (pages after : List (ℕ × Page)) (snapshots : List (Option (List (ℕ × Page)))) (s : SpaceValue) (n : ℕ) (p : Page) →
-    after ≡ set_value (is_at (nat_cmp n)) pages p → Some p ≡ page_at pages n → record { pages = pages; snapshots = snapshots } ≡ s →
-    record { pages = after; snapshots = snapshots } ≡ s
-same_space pages after snapshots s n p e found same =
-    ap (λ (ps : List (ℕ × Page)). let t : SpaceValue = record { pages = ps; snapshots = snapshots } in t) (written_back pages after n p e found) ∙ same
-
 abbrev cell : Permissions → ℕ → Option Cell
 cell permissions b = Some (record { byte = b; permissions = permissions })
 
@@ -69,36 +55,42 @@ cell_written bytes bs permissions at a k x e =
 outside : (a count x n at : ℕ) → a ≡ n * 4096 + at → at + count ≤ 4096 → x / 4096 ≢ n → is_within a count x ≡ false
 outside a count x n at e fits apart = grind (arith, nat_tests)
 
-cell_stored : (pages after : List (ℕ × Page)) (p q : Page) (n at a x : ℕ) (bs : List ℕ) → page_at pages n ≡ Some p
-    → ((k : ℕ) → page_at after k ≡ cond (is_at (nat_cmp n) k) (Some q) (page_at pages k))
-    → q.permissions ≡ p.permissions → IsWritten p.bytes.value at bs q.bytes.value
-    → a ≡ n * 4096 + at → at + length bs ≤ 4096 → length p.bytes.value ≡ 4096
+cell_stored : (pages after : PageMap) (n at a x : ℕ) (bs : List ℕ) → after n ≡ option_map (with_bytes at bs) (pages n)
+    → ((q : ℕ) → q ≢ n → after q ≡ pages q)
+    → a ≡ n * 4096 + at → at + length bs ≤ 4096 → IfSome (pages n) (λ p. length p.bytes ≡ 4096)
     → memory_in after x ≡ stored a bs (memory_in pages) x
 unfolding memory_in
-cell_stored pages after p q n at a x bs found updated kept new e fits long = elim (eqb_tells (x / 4096) n) [
-  | inl w ↦
-      let here : is_at (nat_cmp n) (x / 4096) ≡ true = is_at_nat n (x / 4096) ∙ w.0 in
-      let read = new.each (x % 4096) in
-      rw (updated (x / 4096), here, w.1, found, kept, read)
-      (cell_written p.bytes.value bs p.permissions at a (x % 4096) x (omega (arith, w.1)))
+cell_stored pages after n at a x bs here others e fits long = elim (eqb_tells (x / 4096) n) [
+  | inl w ↦ rw (w.1, here) (by_page (pages n) long w.1)
   | inr w ↦
-      let there : is_at (nat_cmp n) (x / 4096) ≡ false = is_at_nat n (x / 4096) ∙ w.0 in
       let apart : is_within a (length bs) x ≡ false = outside a (length bs) x n at e fits w.1 in
-      rw (updated (x / 4096), there, apart) refl
-]
+      rw apart (ap (option_map (cell_in (x % 4096))) (others (x / 4096) w.1))
+] where
+  none : (b : Bool) (k : ℕ) → None ≡ (if b then with_byte k None else None)
+  none true k = refl
+  none false k = refl
+
+  by_page : (o : Option PageValue) → IfSome o (λ p. length p.bytes ≡ 4096) → x / 4096 ≡ n → option_map (cell_in (x % 4096)) (option_map (with_bytes at bs) o)
+      ≡ (if is_within a (length bs) x then with_byte (slice_index bs (x - a)) (option_map (cell_in (x % 4096)) o) else option_map (cell_in (x % 4096)) o)
+  by_page None l w = none (is_within a (length bs) x) (slice_index bs (x - a))
+  by_page (Some p) l w =
+      ap (λ (b : ℕ). let c : Cell = record { byte = b; permissions = p.permissions } in Some c) (get_written bs p.bytes at (x % 4096) (omega (arith, fits, l)))
+      ∙ cell_written p.bytes bs p.permissions at a (x % 4096) x (omega (arith, w, e))
 
 -- a store within a page
-pub stored_in_page : (pages after : List (ℕ × Page)) (p q : Page) (n at a : ℕ) (bs : List ℕ) → page_at pages n ≡ Some p
-    → ((k : ℕ) → page_at after k ≡ cond (is_at (nat_cmp n) k) (Some q) (page_at pages k))
-    → q.permissions ≡ p.permissions → IsWritten p.bytes.value at bs q.bytes.value
-    → a ≡ n * 4096 + at → at + length bs ≤ 4096 → length p.bytes.value ≡ 4096
+pub stored_in_page : (pages after : PageMap) (n at a : ℕ) (bs : List ℕ) → after n ≡ option_map (with_bytes at bs) (pages n)
+    → ((q : ℕ) → q ≢ n → after q ≡ pages q)
+    → a ≡ n * 4096 + at → at + length bs ≤ 4096 → AreEachPage pages
     → memory_in after ≡ stored a bs (memory_in pages)
-stored_in_page pages after p q n at a bs found updated kept new e fits long = λ i x. cell_stored pages after p q n at a x bs found updated kept new e fits long i
+stored_in_page pages after n at a bs here others e fits h = λ i x. cell_stored pages after n at a x bs here others e fits (full (pages n) (h n)) i where
+  full : (o : Option PageValue) → IfSome o (IsPage n) → IfSome o (λ p. length p.bytes ≡ 4096)
+  full None j = tt
+  full (Some p) j = j.full
 
 -- where a byte is there, its page is
-pub page_there : (pages : List (ℕ × Page)) (a : ℕ) → IsSome (memory_in pages a) → page_at pages (a / 4096) ≡ None → ⊥
+pub page_there : (pages : PageMap) (a : ℕ) → IsSome (memory_in pages a) → page_at pages (a / 4096) ≡ None → ⊥
 unfolding memory_in
-page_there pages a h none = false≢true (subst (λ (p : Option Page). is_some (option_map (cell_in (a % 4096)) p) ≡ true) none h)
+page_there pages a h none = false≢true (subst (λ (p : Option PageValue). is_some (option_map (cell_in (a % 4096)) p) ≡ true) none h)
 
 -- ---- one store after another
 
@@ -134,7 +126,7 @@ stored_none a m = λ i x. at x i where
   at : (x : ℕ) → stored a [] m x ≡ m x
   at x = grind (arith, nat_tests)
 
--- ---- a write through what a map of pages lends
+-- ---- the pages after a store
 
 -- bytes are bytes, by their list
 pub all_small : (bs : List ℕ) → AllByRecursion (λ b. b < 256) bs → (k : ℕ) → slice_index bs k < 256
@@ -142,42 +134,59 @@ all_small [] h k = omega arith
 all_small (b ∷ bs) h zero = h.0
 all_small (b ∷ bs) h (suc k) = all_small bs h.1 k
 
-pub stored_through : (pages after : List (ℕ × Page)) (p q : Page) (a : ℕ) (bs old : List ℕ) → Some p ≡ page_at pages (a / 4096)
-    → (IsSome (page_at pages (a / 4096)) → (k : ℕ) → page_at after k ≡ cond (is_at (nat_cmp (a / 4096)) k) (Some q) (page_at pages k))
-    → q.permissions ≡ p.permissions → old ≡ p.bytes.value → IsWritten old (a % 4096) bs q.bytes.value → a % 4096 + length bs ≤ 4096 → length old ≡ 4096
-    → memory_in after ≡ stored a bs (memory_in pages)
-stored_through pages after p q a bs old found updated kept same new fits full =
-    let there : IsSome (page_at pages (a / 4096)) = subst IsSome found refl in
-    let long : length p.bytes.value ≡ 4096 = sym (ap (λ (b : List ℕ). length b) same) ∙ full in
-    stored_in_page pages after p q (a / 4096) (a % 4096) a bs (sym found) (updated there) kept
-    (subst (λ (b : List ℕ). IsWritten b (a % 4096) bs q.bytes.value) same new) (omega arith) fits long
-
-still_page : (n at : ℕ) (bs : List ℕ) (p q : Page) → IsPage n p → q.permissions ≡ p.permissions → IsWritten p.bytes.value at bs q.bytes.value → ((k : ℕ) → slice_index bs k < 256) → IsPage n q
-still_page n at bs p q h kept new small = record {
+still_page : (n at : ℕ) (bs : List ℕ) (p : PageValue) → at + length bs ≤ 4096 → IsPage n p → ((k : ℕ) → slice_index bs k < 256) → IsPage n (with_bytes at bs p)
+still_page n at bs p fits h small = record {
   low = h.low;
   high = h.high;
-  full = new.len ∙ h.full;
-  bytes = λ k. subst (λ x. x < 256) (sym (new.each k)) (by_test (is_within at (length bs) k) k);
-  readable = subst (λ (r : Permissions). IsTrue r.write → IsTrue r.read) (sym kept) h.readable;
+  full = length_written bs p.bytes at ∙ h.full;
+  bytes = λ k. subst (λ x. x < 256) (sym (get_written bs p.bytes at k (omega (arith, fits, h.full)))) (by_test (is_within at (length bs) k) k);
+  readable = h.readable;
 } where
-  by_test : (b : Bool) (k : ℕ) → (if b then slice_index bs (k - at) else slice_index p.bytes.value k) < 256
+  by_test : (b : Bool) (k : ℕ) → (if b then slice_index bs (k - at) else slice_index p.bytes k) < 256
   by_test true k = small (k - at)
   by_test false k = h.bytes k
 
-pub kept_through : (pages after : List (ℕ × Page)) (p q : Page) (a : ℕ) (bs old : List ℕ) → Some p ≡ page_at pages (a / 4096)
-    → (IsSome (page_at pages (a / 4096)) → (k : ℕ) → page_at after k ≡ cond (is_at (nat_cmp (a / 4096)) k) (Some q) (page_at pages k))
-    → IsStrictlySortedBy nat_cmp (keys_of after) → length after ≡ length pages
-    → q.permissions ≡ p.permissions → old ≡ p.bytes.value → IsWritten old (a % 4096) bs q.bytes.value → ((k : ℕ) → slice_index bs k < 256)
-    → ArePages pages → ArePages after
-kept_through pages after p q a bs old found updated ordered len kept same new small h =
-    let there : IsSome (page_at pages (a / 4096)) = subst IsSome found refl in
-    let page : IsPage (a / 4096) p = subst (λ (o : Option Page). IfSome o (IsPage (a / 4096))) (sym found) (h.each (a / 4096)) in
-    let now : IsPage (a / 4096) q = still_page (a / 4096) (a % 4096) bs p q page kept (subst (λ (b : List ℕ). IsWritten b (a % 4096) bs q.bytes.value) same new) small in
+pub stored_each : (pages after : PageMap) (n at : ℕ) (bs : List ℕ) → after n ≡ option_map (with_bytes at bs) (pages n)
+    → ((q : ℕ) → q ≢ n → after q ≡ pages q) → at + length bs ≤ 4096 → ((k : ℕ) → slice_index bs k < 256) → AreEachPage pages → AreEachPage after
+stored_each pages after n at bs here others fits small h q = elim (eqb_tells q n) [
+  | inl w ↦ subst (λ k. IfSome (after k) (IsPage k)) (sym w.1) (subst (λ (o : Option PageValue). IfSome o (IsPage n)) (sym here) (by_page (pages n) (h n)))
+  | inr w ↦ subst (λ (o : Option PageValue). IfSome o (IsPage q)) (sym (others q w.1)) (h q)
+] where
+  by_page : (o : Option PageValue) → IfSome o (IsPage n) → IfSome (option_map (with_bytes at bs) o) (IsPage n)
+  by_page None j = tt
+  by_page (Some p) j = still_page n at bs p fits j small
+
+pub stored_there : (pages after : PageMap) (n at : ℕ) (bs : List ℕ) → after n ≡ option_map (with_bytes at bs) (pages n)
+    → ((q : ℕ) → q ≢ n → after q ≡ pages q) → (q : ℕ) → is_some (after q) ≡ is_some (pages q)
+stored_there pages after n at bs here others q = elim (eqb_tells q n) [
+  | inl w ↦ ap (λ k. is_some (after k)) w.1 ∙ ap is_some here ∙ still (pages n) ∙ ap (λ k. is_some (pages k)) (sym w.1)
+  | inr w ↦ ap is_some (others q w.1)
+] where
+  still : (o : Option PageValue) → is_some (option_map (with_bytes at bs) o) ≡ is_some o
+  still None = refl
+  still (Some p) = refl
+
+-- ---- a space after a store within a page
+
+-- the change to the tables is a store, and the space stays one
+pub stored_space : (s t : SpaceValue) (mapped n at : ℕ) (bs : List ℕ) → IsSpace s mapped → IsWrittenInto n at bs (contents_of s) (contents_of t) → at + length bs ≤ 4096 → ((k : ℕ) → slice_index bs k < 256) → IsSpace t mapped
+stored_space s t mapped n at bs h w fits small =
+    let same : page_count (memory_of t) ≡ page_count (memory_of s) = count_alike (contents_of s).pages (contents_of t).pages (stored_there (contents_of s).pages (contents_of t).pages n at bs w.page w.rest.pages) in
     record {
-      ordered = ordered;
-      each = λ k. subst (λ (o : Option Page). IfSome o (IsPage k)) (sym (updated there k)) (elim (eqb_tells k (a / 4096)) [
-        | inl w ↦ rw (is_at_nat (a / 4096) k, w.0, w.1) now
-        | inr w ↦ rw (is_at_nat (a / 4096) k, w.0) (h.each k)
-      ]);
-      limit = subst (λ (l : ℕ). l ≤ 16_384) (sym len) h.limit;
+      pages = record { each = stored_each (contents_of s).pages (contents_of t).pages n at bs w.page w.rest.pages fits small h.pages.each; limit = subst (λ k. k ≤ MAX_PAGES) (sym same) h.pages.limit };
+      kept = subst (λ (kept : ℕ → Option PageMap). (i : ℕ) → IfSome (kept i) AreEachPage) (sym w.rest.kept) h.kept;
+      count = h.count ∙ sym same;
     }
+
+pub stored_memory : (s t : SpaceValue) (n at a : ℕ) (bs : List ℕ) → AreEachPage (contents_of s).pages → IsWrittenInto n at bs (contents_of s) (contents_of t) → a ≡ n * 4096 + at → at + length bs ≤ 4096 →
+    memory_of t ≡ stored a bs (memory_of s)
+stored_memory s t n at a bs h w e fits = stored_in_page (contents_of s).pages (contents_of t).pages n at a bs w.page w.rest.pages e fits h
+
+pub same_snapshots : (s t : SpaceValue) → (contents_of t).kept ≡ (contents_of s).kept → snapshots_of t ≡ snapshots_of s
+same_snapshots s t e = ap snapshots_in e
+
+pub written_keeps_own : (s t : SpaceValue) (n at : ℕ) (bs : List ℕ) → IsWrittenInto n at bs (contents_of s) (contents_of t) → KeepsOwn s t
+written_keeps_own s t n at bs w q own = elim (eqb_tells q n) [
+  | inl e ↦ subst (λ k. (contents_of t).counts k ≡ Some 1) (sym e.1) w.own
+  | inr e ↦ w.rest.counts q e.1 ∙ own
+]

@@ -1,12 +1,17 @@
 -- Words that are stored at several places.
-use Rattle.std.proofs.Common.{◌≡◌, ℕ, zero, suc, ◌+◌, ◌-◌, ◌<◌, Bool, true, false, ◌&&◌, List, [], ◌∷◌, length, drop, get_or, Option, Some, None, if◌then◌else◌, slice_index, refl, sym, ◌∙◌, ap}
+use Rattle.std.proofs.Common.{◌≡◌, ℕ, zero, suc, ◌+◌, ◌-◌, ◌/◌, ◌<◌, ◌≤◌, ◌==◌, ◌||◌, Bool, true, false, ◌&&◌, List, [], ◌∷◌, ◌++◌, length, drop, get_or, Option, Some, None, IsSome, if◌then◌else◌, slice_index, refl, sym, ◌∙◌, ap, inl, inr, arith}
 use Rattle.std.proofs.lemmas.Bool.{false≢true, and_parts}
-use Rattle.std.proofs.lemmas.List.{drop_more}
+use Rattle.std.proofs.lemmas.Bool.Decides.{eqb_tells}
+use Rattle.std.proofs.lemmas.List.{append_assoc, drop_more}
+use Rattle.std.proofs.Math.Bool.{or-true}
 use Rattle.rrv_model.specs.Memory.{Memory, Cell, all_cells, can_write, is_within, stored, with_byte, writable}
 use Rattle.rrv_model.specs.CallRows.{all_writable}
-use Rattle.guest_pages.specs.Space.{present}
-use Rattle.guest_pages.specs.Stores.{stored_at_each}
+use Rattle.page_tables.specs.Contents.{Contents, contents_of}
+use Rattle.page_tables.specs.Changes.{is_listed, IsOwn}
+use Rattle.guest_pages.specs.Space.{SpaceValue, PageMap, memory_in, present}
+use Rattle.guest_pages.specs.Stores.{stored_at_each, word_pages, AreOwnWords}
 use Rattle.guest_pages.proofs.Cells.{absent_forbids}
+use Rattle.guest_pages.proofs.OwnPages.{in_range}
 
 -- ---- what may be written stays so
 
@@ -64,3 +69,61 @@ none_left bs m rest e = ap (λ (ps : List ℕ). stored_at_each ps bs m) e
 
 pub all_stored : (bs : List ℕ) (m : Memory) (places : List ℕ) (i : ℕ) → drop i places ≡ [] → stored_at_each (drop i places) bs m ≡ m
 all_stored bs m places i e = none_left bs m (drop i places) e
+
+-- ---- the pages of words
+
+pub no_pages : (places : List ℕ) → places ≡ [] → word_pages places ≡ []
+unfolding word_pages
+no_pages places e = ap word_pages e
+
+one_word : (a : ℕ) (places : List ℕ) → word_pages (a ∷ places) ≡ a / 4096 ∷ (a + 3) / 4096 ∷ word_pages places
+unfolding word_pages
+one_word a places = refl
+
+-- the pages of the words from a place on
+pub next_pages : (places : List ℕ) (i : ℕ) → i < length places →
+    word_pages (drop i places) ≡ get_or places i 0 / 4096 ∷ (get_or places i 0 + 3) / 4096 ∷ word_pages (drop (i + 1) places)
+next_pages places i below = ap word_pages (drop_more places i 0 below) ∙ one_word (get_or places i 0) (drop (i + 1) places)
+
+-- each of them is there, where the words may be written
+pub words_there : (pages : PageMap) (places : List ℕ) → all_writable (memory_in pages) places ≡ true → (n : ℕ) → is_listed (word_pages places) n ≡ true → IsSome (pages n)
+unfolding word_pages
+words_there pages [] h n e = absurd (false≢true e)
+words_there pages (a ∷ places) h n e =
+    let both = parts (memory_in pages) a places h in
+    let there : present (memory_in pages) a 4 ≡ true = writable_present (memory_in pages) a 4 both.0 in
+    elim (eqb_tells (a / 4096) n) [
+      | inl w ↦ in_range pages a 4 n (omega arith) there (omega (arith, w.1)) (omega (arith, w.1))
+      | inr w ↦ elim (eqb_tells ((a + 3) / 4096) n) [
+        | inl v ↦ in_range pages a 4 n (omega arith) there (omega (arith, v.1)) (omega (arith, v.1))
+        | inr v ↦ words_there pages places both.1 n (sym (rw (w.0, v.0) refl) ∙ e)
+      ]
+    ]
+
+listed_later : (x y : ℕ) (xs : List ℕ) (n : ℕ) → is_listed xs n ≡ true → is_listed (x ∷ y ∷ xs) n ≡ true
+listed_later x y xs n e = rw e (ap (λ b. (x == n) || b) (or-true (y == n)) ∙ or-true (x == n))
+
+-- and each word lies in two of them
+pub words_own : (s : SpaceValue) (places : List ℕ) → ((n : ℕ) → is_listed (word_pages places) n ≡ true → IsOwn (contents_of s) n) → AreOwnWords s places
+unfolding word_pages
+words_own s [] own k l = absurd (omega (arith, l))
+words_own s (a ∷ places) own zero l = λ k m. elim (eqb_tells (a / 4096) ((a + k) / 4096)) [
+  | inl w ↦ own ((a + k) / 4096) (rw w.0 refl)
+  | inr w ↦
+      let last : (a + 3) / 4096 ≡ (a + k) / 4096 = omega (arith, m, w.1) in
+      own ((a + k) / 4096) (elim (eqb_tells ((a + 3) / 4096) ((a + k) / 4096)) [
+        | inl v ↦ rw (w.0, v.0) refl
+        | inr v ↦ absurd (v.1 last)
+      ])
+]
+words_own s (a ∷ places) own (suc k) l = words_own s places (λ n e. own n (listed_later (a / 4096) ((a + 3) / 4096) (word_pages places) n e)) k (omega (arith, l))
+
+-- where some page of a word isn't a space's own, there is a word
+pub some_word : (c : Contents) (places : List ℕ) → (((n : ℕ) → is_listed (word_pages places) n ≡ true → IsOwn c n) → ⊥) → 1 ≤ length places
+unfolding word_pages
+some_word c [] h = absurd (h (λ n e. absurd (false≢true e)))
+some_word c (a ∷ places) h = omega arith
+
+pub two_more : (xs ys zs rest : List ℕ) (a b : ℕ) → ys ≡ xs ++ a ∷ [] → zs ≡ ys ++ b ∷ [] → zs ++ rest ≡ xs ++ a ∷ b ∷ rest
+two_more xs ys zs rest a b e f =
+    ap (λ (l : List ℕ). l ++ rest) (f ∙ ap (λ (l : List ℕ). l ++ b ∷ []) e) ∙ append_assoc (xs ++ a ∷ []) (b ∷ []) rest ∙ append_assoc xs (a ∷ []) (b ∷ rest)

@@ -1,14 +1,14 @@
 -- What mapping leaves.
-use Rattle.std.specs.Prelude.{◌≡◌, ℕ, zero, suc, ◌+◌, ◌*◌, ◌<◌, ◌≤◌, Bool, ◌||◌, if◌then◌else◌, List, [], ◌∷◌, ◌++◌, length, Option, Some, None, is_some, slice_index, ◌==◌, IsSomeAnd, Contains}
-use Rattle.std.specs.List.{list_any}
+use Rattle.std.specs.Prelude.{◌≡◌, ℕ, zero, suc, ◌+◌, ◌*◌, ◌<◌, ◌≤◌, ◌||◌, if◌then◌else◌, List, [], ◌∷◌, ◌++◌, Option, Some, None, is_some, Contains, replicate}
 use Rattle.std.specs.List.Sorted.{IsStrictlyIncreasing}
 use Rattle.rrv_model.specs.declared.limits.TheConstants.{MAX_PAGES}
 use Rattle.rrv_model.specs.declared.machine.Permissions.{Permissions}
 use Rattle.rrv_model.specs.Memory.{Memory, Cell, is_within, page_bytes, page_count}
-use Rattle.guest_pages.specs.declared.page.Page.{Page}
+use Rattle.page_tables.specs.Contents.{PageValue, contents_of}
+use Rattle.page_tables.specs.Changes.{IsOwn}
 use Rattle.guest_pages.specs.declared.fault.PageFault.{PageFault}
 use Rattle.guest_pages.specs.declared.fault.PageFault.TheVariants as faults
-use Rattle.guest_pages.specs.Space.{page_at}
+use Rattle.guest_pages.specs.Space.{SpaceValue, PageMap, page_at}
 
 -- a mapping that would leave this memory is refused so
 abbrev pub IsMapRefusal : Memory → PageFault → Type 0
@@ -34,40 +34,22 @@ covered p permissions m x =
 -- ---- the steps of a mapping
 
 -- the numbers of count pages from first at which there is none
-unfoldable pub missing : List (ℕ × Page) → ℕ → ℕ → List ℕ
+unfoldable pub missing : PageMap → ℕ → ℕ → List ℕ
 missing pages first zero = []
 missing pages first (suc count) =
     missing pages first count ++ (if is_some (page_at pages (first + count)) then [] else (first + count) ∷ [])
 
-abbrev pub has_number : List ℕ → ℕ → Bool
-has_number numbers q = list_any (λ n. n == q) numbers
-
 -- a page of zeros with these permissions
-pub record IsClear (permissions : Permissions) (p : Page) : Type 0 where
-  pub permissions_are : p.permissions ≡ permissions
-  pub full : length p.bytes.value ≡ page_bytes
-  pub zeros : (k : ℕ) → slice_index p.bytes.value k ≡ 0
+abbrev pub clear_page : Permissions → PageValue
+clear_page permissions = record { permissions = permissions; bytes = replicate 4096 0 }
 
--- a page with these permissions too
-pub record IsJoined (permissions : Permissions) (p q : Page) : Type 0 where
-  pub permissions_are : q.permissions ≡ union p.permissions permissions
-  pub bytes_are : q.bytes.value ≡ p.bytes.value
+-- the same page at a number, or none in either
+abbrev pub SameAt : PageMap → PageMap → ℕ → Type 0
+SameAt pages others q = page_at pages q ≡ page_at others q
 
--- a page with these permissions instead, where there is one
-abbrev pub AreProtected : Permissions → Option Page → Option Page → Type 0
-AreProtected permissions None q = q ≡ None
-AreProtected permissions (Some p) q = IsSomeAnd q (λ r. (r.permissions ≡ permissions) × (r.bytes.value ≡ p.bytes.value))
-
--- the two have the same permissions and bytes, or neither is there
-abbrev pub SamePage : Option Page → Option Page → Type 0
-SamePage None None = Unit {0}
-SamePage None (Some q) = ⊥
-SamePage (Some p) None = ⊥
-SamePage (Some p) (Some q) = (p.permissions ≡ q.permissions) × (p.bytes.value ≡ q.bytes.value)
-
--- so at a number
-abbrev pub SameAt : List (ℕ × Page) → List (ℕ × Page) → ℕ → Type 0
-SameAt pages others q = SamePage (page_at pages q) (page_at others q)
+-- each page of a range is the space's own
+abbrev pub AreOwnIn : SpaceValue → ℕ → ℕ → Type 0
+AreOwnIn s first count = (q : ℕ) → first ≤ q → q < first + count → IsOwn (contents_of s) q
 
 -- the numbers below n that don't have a property, rising
 pub record ListsOthers (P : ℕ → Type 0) (n : ℕ) (numbers : List ℕ) : Type 0 where

@@ -1,5 +1,5 @@
 -- Bytes in a list.
-use Rattle.std.specs.Prelude.{◌≡◌, ℕ, zero, suc, ◌+◌, ◌-◌, List, [], ◌∷◌, length, slice_index, slice_set, if◌then◌else◌}
+use Rattle.std.specs.Prelude.{◌≡◌, ℕ, zero, suc, ◌+◌, ◌-◌, List, [], ◌∷◌, length, slice_index, if◌then◌else◌}
 use Rattle.rrv_model.specs.Memory.{is_within}
 
 -- count bytes of a list, from a place on
@@ -7,12 +7,7 @@ abbrev pub run : ℕ → ℕ → List ℕ → List ℕ
 run zero at bytes = []
 run (suc count) at bytes = slice_index bytes at ∷ run count (at + 1) bytes
 
--- bytes written into a list, from a place on
-abbrev pub written : List ℕ → ℕ → List ℕ → List ℕ
-written bytes at [] = bytes
-written bytes at (b ∷ bs) = written (slice_set bytes at b) (at + 1) bs
-
--- so are these bytes, which have no other length
+-- bytes written into a list from a place on, which have no other length
 pub record IsWritten (bytes : List ℕ) (at : ℕ) (bs new : List ℕ) : Type 0 where
   pub len : length new ≡ length bytes
   pub each : (k : ℕ) →

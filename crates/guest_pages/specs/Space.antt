@@ -1,66 +1,70 @@
 -- What an address space stands for.
-use Rattle.std.specs.Prelude.{◌≡◌, ℕ, ◌/◌, ◌%◌, ◌<◌, ◌≤◌, Bool, true, false, if◌then◌else◌, List, length, Option, Some, None, IfSome, is_some, IsTrue, slice_index, slice_index_or}
+use Rattle.std.specs.Prelude.{◌≡◌, ℕ, ◌+◌, ◌/◌, ◌%◌, ◌<◌, ◌≤◌, Bool, true, false, if◌then◌else◌, length, Option, Some, None, IfSome, is_some, IsTrue, slice_index}
 use Rattle.std.specs.Option.{option_map}
-use Rattle.std.specs.Ordering.{nat_cmp}
-use Rattle.std.specs.Map.{lookup, keys_of}
-use Rattle.std.specs.BTreeMap.{is_at}
-use Rattle.std.specs.List.Sorted.{IsStrictlySortedBy}
 use Rattle.std.specs.Int.{w8, w16, w32, from_le_bytes}
-use Rattle.rrv_model.specs.Memory.{Memory, Cell, readable, writable, executable, all_cells, can_read, can_write, can_execute, bytes_at, page_bytes}
+use Rattle.rrv_model.specs.Memory.{Memory, Cell, readable, writable, executable, all_cells, can_read, can_write, can_execute, bytes_at, page_bytes, page_count}
 use Rattle.rrv_model.specs.Step.{word_at}
 use Rattle.rrv_model.specs.declared.limits.TheConstants.{MAX_PAGES}
-use Rattle.guest_pages.specs.declared.page.Page.{Page}
+use Rattle.page_tables.specs.Contents.{PageValue, TablesValue, contents_of}
+use Rattle.page_tables.specs.Changes.{IsOwn}
+use Rattle.page_tables.specs.declared.page_tables.PutError.{PutError}
+use Rattle.page_tables.specs.declared.page_tables.PutError.TheVariants as errors
 use Rattle.guest_pages.specs.declared.page.Access.{Access}
 use Rattle.guest_pages.specs.declared.page.Access.TheVariants as accesses
 use Rattle.guest_pages.specs.declared.fault.PageFault.{PageFault}
 use Rattle.guest_pages.specs.declared.fault.PageFault.TheVariants as faults
 
--- a space as contracts see it
-pub record SpaceValue : Type 0 where
-  -- by rising number
-  pub pages : List (ℕ × Page)
-  -- those of each live snapshot, by its token's number
-  pub snapshots : List (Option (List (ℕ × Page)))
+-- a space as contracts see it: the pages of the space and of each live snapshot, and how many of these have each
+abbrev pub SpaceValue : Type 0
+SpaceValue = TablesValue
 
-abbrev pub page_at : List (ℕ × Page) → ℕ → Option Page
-page_at pages n = lookup (is_at (nat_cmp n)) pages
+-- the page at each number, where there is one
+abbrev pub PageMap : Type 0
+PageMap = ℕ → Option PageValue
 
-abbrev pub cell_in : ℕ → Page → Cell
-cell_in at p = record { byte = slice_index p.bytes.value at; permissions = p.permissions }
+abbrev pub page_at : PageMap → ℕ → Option PageValue
+page_at pages n = pages n
+
+abbrev pub cell_in : ℕ → PageValue → Cell
+cell_in at p = record { byte = slice_index p.bytes at; permissions = p.permissions }
 
 -- the memory that pages stand for
-unfoldable pub memory_in : List (ℕ × Page) → Memory
+unfoldable pub memory_in : PageMap → Memory
 memory_in pages a = option_map (cell_in (a % page_bytes)) (page_at pages (a / page_bytes))
 
 -- the memory that a space stands for
 abbrev pub memory_of : SpaceValue → Memory
-memory_of s = memory_in s.pages
+memory_of s = memory_in (contents_of s).pages
 
--- the pages of a live snapshot, by its token's number
-abbrev pub kept_at : List (Option (List (ℕ × Page))) → ℕ → Option (List (ℕ × Page))
-kept_at slots n = slice_index_or slots n None
-
-unfoldable pub snapshots_in : List (Option (List (ℕ × Page))) → ℕ → Option Memory
-snapshots_in slots n = option_map memory_in (kept_at slots n)
+unfoldable pub snapshots_in : (ℕ → Option PageMap) → ℕ → Option Memory
+snapshots_in kept n = option_map memory_in (kept n)
 
 -- the memory of each live snapshot, by its token's number
 abbrev pub snapshots_of : SpaceValue → ℕ → Option Memory
-snapshots_of s = snapshots_in s.snapshots
+snapshots_of s = snapshots_in (contents_of s).kept
 
 -- ---- what holds of every space
 
 -- a page n that may be mapped
-pub record IsPage (n : ℕ) (p : Page) : Type 0 where
+pub record IsPage (n : ℕ) (p : PageValue) : Type 0 where
   pub low : 1 ≤ n
   pub high : n < 0x80000
-  pub full : length p.bytes.value ≡ page_bytes
-  pub bytes : (k : ℕ) → slice_index p.bytes.value k < 256
+  pub full : length p.bytes ≡ page_bytes
+  pub bytes : (k : ℕ) → slice_index p.bytes k < 256
   pub readable : IsTrue p.permissions.write → IsTrue p.permissions.read
 
-pub record ArePages (pages : List (ℕ × Page)) : Type 0 where
-  pub ordered : IsStrictlySortedBy nat_cmp (keys_of pages)
-  pub each : (n : ℕ) → IfSome (page_at pages n) (IsPage n)
-  pub limit : length pages ≤ MAX_PAGES
+abbrev pub AreEachPage : PageMap → Type 0
+AreEachPage pages = (n : ℕ) → IfSome (page_at pages n) (IsPage n)
+
+pub record ArePages (pages : PageMap) : Type 0 where
+  pub each : AreEachPage pages
+  pub limit : page_count (memory_in pages) ≤ MAX_PAGES
+
+-- so many pages are mapped
+pub record IsSpace (s : SpaceValue) (mapped : ℕ) : Type 0 where
+  pub pages : ArePages (contents_of s).pages
+  pub kept : (i : ℕ) → IfSome ((contents_of s).kept i) AreEachPage
+  pub count : mapped ≡ page_count (memory_of s)
 
 -- ---- what is loaded
 
@@ -84,7 +88,7 @@ loaded_word m a = if readable m a 4 then Some (from_le_bytes w32 (bytes_at m a 4
 -- ---- tests
 
 -- a test of the permissions of a page, if it is there
-abbrev pub page_passes : (Option Cell → Bool) → Option Page → Bool
+abbrev pub page_passes : (Option Cell → Bool) → Option PageValue → Bool
 page_passes test p = test (option_map (cell_in 0) p)
 
 abbrev pub test_of : Access → Option Cell → Bool
@@ -113,7 +117,20 @@ IsLoadRefusal m a count faults.NotAllowed = (present m a count ≡ true) × (rea
 IsLoadRefusal m a count faults.TooManyPages = ⊥
 IsLoadRefusal m a count faults.Memory = ⊥
 
--- a fill of count bytes from a takes no memory: they are there, in pages that the space has for itself,
--- as it has all of its pages
+-- count bytes from a lie in pages that are the space's own
+abbrev pub AreOwnPages : SpaceValue → ℕ → ℕ → Type 0
+AreOwnPages s a count = (k : ℕ) → k < count → IsOwn (contents_of s) ((a + k) / page_bytes)
+
+-- a fill of count bytes from a takes no memory: they are there, in pages that no snapshot shares
 abbrev pub CanFill : SpaceValue → ℕ → ℕ → Type 0
-CanFill s a count = IsTrue (present (memory_of s) a count)
+CanFill s a count = IsTrue (present (memory_of s) a count) × AreOwnPages s a count
+
+-- what was a space's own still is
+abbrev pub KeepsOwn : SpaceValue → SpaceValue → Type 0
+KeepsOwn old new = (n : ℕ) → IsOwn (contents_of old) n → IsOwn (contents_of new) n
+
+-- a write into a page is refused so
+abbrev pub fault_for : PutError → PageFault
+fault_for errors.NotMapped = faults.NotMapped
+fault_for errors.NotAllowed = faults.NotAllowed
+fault_for errors.Memory = faults.Memory

@@ -1,7 +1,7 @@
 -- A whole page put into a memory.
-use Rattle.std.specs.Prelude.{◌≡◌, ℕ, ◌/◌, ◌%◌, ◌<◌, ◌≤◌, ◌==◌, if◌then◌else◌, Option, Some, None, IsTrue, slice_index, List, length}
+use Rattle.std.specs.Prelude.{ℕ, ◌/◌, ◌%◌, ◌<◌, ◌≤◌, ◌==◌, if◌then◌else◌, Option, Some, None, IsTrue, slice_index}
 use Rattle.rrv_model.specs.Memory.{Memory, Cell, page_bytes}
-use Rattle.guest_pages.specs.declared.page.Page.{Page}
+use Rattle.page_tables.specs.Contents.{PageValue}
 use Rattle.guest_pages.specs.declared.page.PageView.{PageView}
 
 -- cell k of a page; nothing where it isn't mapped
@@ -18,13 +18,6 @@ abbrev pub MayHave : ℕ → Option PageView → Type 0
 MayHave n None = Unit {0}
 MayHave n (Some v) = (1 ≤ n) × (n < 0x80000) × (IsTrue v.permissions.write → IsTrue v.permissions.read)
 
--- the bytes of a page once more
-pub record IsCopyOfBytes (bytes new : List ℕ) : Type 0 where
-  pub same : new ≡ bytes
-  pub full : length bytes ≡ page_bytes
-  pub small : (k : ℕ) → slice_index bytes k < 256
-
 -- a page with these permissions and bytes
-pub record IsCopyOf (v : PageView) (p : Page) : Type 0 where
-  pub permissions_are : p.permissions ≡ v.permissions
-  pub bytes_are : IsCopyOfBytes v.bytes.now p.bytes.value
+abbrev pub page_of : PageView → PageValue
+page_of v = record { permissions = v.permissions; bytes = v.bytes.now }

@@ -1,47 +1,46 @@
 //! The address space.
 
-ghost use Rattle.std.specs.Prelude.{◌≡◌, ◌≢◌, ℕ, ◌+◌, ◌<◌, ◌≤◌, ◌^◌, OnOk, OnErr, IfErr, IfOk, IsTrue, IsSome, IsSomeAnd, Some, None, true, false, length, slice_index, ◌%◌, ◌*◌, ◌↔◌};
+ghost use Rattle.std.specs.Prelude.{◌≡◌, ◌≢◌, ℕ, ◌+◌, ◌<◌, ◌≤◌, ◌^◌, OnOk, OnErr, IfErr, IfOk, IsTrue, IsSome, IsSomeAnd, Some, None, true, false, length, ◌%◌, ◌*◌, ◌/◌, ◌↔◌};
 ghost use Rattle.std.specs.Result.{IsErrOf};
-ghost use Rattle.std.specs.Int.{w8, w16, w32, to_le_bytes};
-ghost use Rattle.rrv_model.specs.Memory.{all_free, all_mapped, byte_or_zero, bytes_at, highest_free_up_to, mapped, no_memory, page_bytes, protected, readable, unmapped, writable, all_cells, stored, page_count, is_mapped, IsMemory};
-ghost use Rattle.guest_pages.specs.Space.{memory_of, memory_in, snapshots_of, fetched_word, loaded_byte, loaded_half, loaded_word, cell_byte, page_at, page_passes, test_of, present, CanFill, IsLoadRefusal, IsStoreRefusal};
-ghost use Rattle.guest_pages.specs.Mapping.{IsMapRefusal, covered};
+ghost use Rattle.rrv_model.specs.Memory.{all_free, all_mapped, highest_free_up_to, mapped, no_memory, page_bytes, protected, unmapped, page_count, is_mapped, IsMemory};
+ghost use Rattle.page_tables.specs.Contents.{contents_of};
+ghost use Rattle.guest_pages.specs.Space.{memory_of, snapshots_of};
+ghost use Rattle.guest_pages.specs.Mapping.{AreOwnIn, IsMapRefusal, covered};
 ghost use Rattle.guest_pages.specs.Snapshots.{AreChanges, IsNextPage, IsPageOf};
 ghost use Rattle.guest_pages.specs.WholePages.{with_page, MayHave};
 
 use crate::fault::PageFault;
 use crate::mapping::{
-    add_page, add_pages, all_there, clear_pages, count_missing, first_there, insert_page,
-    join_permissions, list_changed, list_missing, next_there, overwrite_page, protect_range,
-    remove_number, remove_range, same_pages, view_page,
+    all_there, clear_pages, count_missing, first_there, is_there, list_changed, list_not_own,
+    protect_range, remove_range, same_pages, union, view_of,
 };
-use crate::page::{
-    Access, PageView, Pages, copy_bytes, half_at, put_byte, put_bytes, put_half, put_word, word_at,
-};
-use crate::snapshot::{Kept, Snapshot, free_number, keep, kept_under, release};
+use crate::page::{PageView, has_page_bytes};
+use crate::snapshot::Snapshot;
+use page_tables::PageTables;
 use rrv_model::limits::MAX_PAGES;
 use rrv_model::machine::Permissions;
 use rrv_model::refusal::Memory;
 use std::alloc::Global;
-use std::collections::BTreeMap;
 use std::marker::Model;
 
-/// A guest's memory. Contracts see it as the memory that it stands for.
+/// A guest's memory. Contracts see it as the memory that it stands for. Its pages and those of its snapshots are shared until one
+/// is written.
 #[derive(Drop)]
 pub struct Space {
-    alloc: Global,
-    pages: Pages,
-    snapshots: Vec<Option<Kept>>,
+    pub(crate) alloc: Global,
+    pub(crate) tables: PageTables,
+    /// How many pages are mapped.
+    pub(crate) mapped: u32,
 }
 
 impl Model for Space {
-    ghost use Rattle.guest_pages.specs.Space.{SpaceValue, ArePages};
+    ghost use Rattle.guest_pages.specs.Space.{SpaceValue, IsSpace};
 
     ghost Value = { SpaceValue };
 
-    ghost view = { λ s. record { pages = s.pages.entries; snapshots = s.snapshots.items } };
+    ghost view = { λ s. s.tables };
 
-    ghost invariant = { λ s. ArePages s.pages.entries };
+    ghost invariant = { λ s. IsSpace s.tables s.mapped };
 }
 
 impl Space {
@@ -52,9 +51,17 @@ impl Space {
     {
         Space {
             alloc,
-            pages: BTreeMap::new(alloc),
-            snapshots: Vec::new(alloc),
+            tables: PageTables::new(alloc),
+            mapped: 0,
         }
+    }
+
+    /// How many pages there are in all: those of the space and of its live snapshots, a shared one counted once. It takes no
+    /// memory.
+    pub fn live(&self) -> usize
+        ensures { result ≡ (contents_of self.now).live }
+    {
+        self.tables.live()
     }
 
     /// How many pages are mapped. That they make up a guest's memory is told here, too.
@@ -62,19 +69,19 @@ impl Space {
         ensures count { result ≡ page_count (memory_of self.now) }
         ensures is_memory { IsMemory (memory_of self.now) }
     {
-        self.pages.len() as u32
+        self.mapped
     }
 
     /// Whether two spaces are the same memory.
     pub fn same(&self, other: &Space) -> bool
         ensures { IsTrue result ↔ memory_of self.now ≡ memory_of other.now }
     {
-        same_pages(&self.pages, &other.pages)
+        same_pages(&self.tables, &other.tables)
     }
 
-    /// Maps count pages of zeros from a page on, in place of what was there. They lie from 0x1000 up to 0x7FFFFFFF. Refused with
-    /// TooManyPages where more than 16,384 pages would be mapped, else with Memory where a growth is refused. Where all of
-    /// them are mapped already it takes no memory, and is not refused.
+    /// Maps count pages of zeros from a page on, each of its own, in place of what was there. They lie from 0x1000 up to
+    /// 0x7FFFFFFF. Refused with TooManyPages where more than 16,384 pages would be mapped, else with Memory where a growth is
+    /// refused. Where all of them are the space's own already it takes no memory, and is not refused.
     pub fn map(&mut self, page: u32, count: u32, permissions: Permissions) -> Result<(), PageFault>
         requires low { 1 ≤ page }
         requires high { page + count ≤ 0x80000 }
@@ -84,20 +91,21 @@ impl Space {
         ensures refused { IfErr result (IsMapRefusal
             (mapped (page * page_bytes) (count * page_bytes) permissions (memory_of self.old))) }
         ensures err { OnErr result (self.new ≡ self.old) }
-        ensures grows { OnErr result (all_mapped (memory_of self.old) page count ≡ false) }
+        ensures grows { OnErr result (AreOwnIn self.old page count → ⊥) }
         ensures snapshots { snapshots_of self.new ≡ snapshots_of self.old }
     {
-        let more = count_missing(&self.pages, page, count) as usize;
-        if self.pages.len() + more > MAX_PAGES as usize {
+        let more = count_missing(&self.tables, page, count);
+        if self.mapped + more > MAX_PAGES {
             return Err(PageFault::TooManyPages);
         }
-        let Ok(numbers) = list_missing(self.alloc, &self.pages, page, count) else {
+        let Ok(numbers) = list_not_own(self.alloc, &self.tables, page, count) else {
             return Err(PageFault::Memory);
         };
-        let Ok(()) = add_pages(self.alloc, &mut self.pages, numbers.as_slice(), permissions) else {
+        let Ok(()) = self.tables.own_each(numbers.as_slice()) else {
             return Err(PageFault::Memory);
         };
-        clear_pages(&mut self.pages, page, count, permissions);
+        clear_pages(&mut self.tables, page, count, permissions);
+        self.mapped += more;
         Ok(())
     }
 
@@ -107,7 +115,8 @@ impl Space {
         ensures memory { memory_of self.new ≡ unmapped (page * page_bytes) (count * page_bytes) (memory_of self.old) }
         ensures snapshots { snapshots_of self.new ≡ snapshots_of self.old }
     {
-        remove_range(&mut self.pages, page, count);
+        let gone = remove_range(&mut self.tables, page, count);
+        self.mapped -= gone;
     }
 
     /// Sets the permissions of all pages of a range. Refused with NotMapped where any isn't there. It takes no memory.
@@ -130,7 +139,7 @@ impl Space {
         if !self.is_mapped(page, count) {
             return Err(PageFault::NotMapped);
         }
-        protect_range(&mut self.pages, page, count, permissions);
+        protect_range(&mut self.tables, page, count, permissions);
         Ok(())
     }
 
@@ -139,7 +148,7 @@ impl Space {
         requires { page + count < 2 ^ 32 }
         ensures { result ≡ all_mapped (memory_of self.now) page count }
     {
-        all_there(&self.pages, page, count)
+        all_there(&self.tables, page, count)
     }
 
     /// Whether no page of a range is mapped.
@@ -147,7 +156,7 @@ impl Space {
         requires { page + count < 2 ^ 32 }
         ensures { result ≡ all_free (memory_of self.now) page count }
     {
-        first_there(&self.pages, page, count).is_none()
+        first_there(&self.tables, page, count).is_none()
     }
 
     /// The greatest page from 1 up to this one from which so many pages are free.
@@ -157,7 +166,7 @@ impl Space {
     {
         let mut page = up_to;
         while page > 0 {
-            let Some(taken) = first_there(&self.pages, page, count) else {
+            let Some(taken) = first_there(&self.tables, page, count) else {
                 return Some(page);
             };
             page = taken.saturating_sub(count);
@@ -177,16 +186,18 @@ impl Space {
         ensures grows { OnErr result (is_mapped (memory_of self.old) page ≡ false) }
         ensures snapshots { snapshots_of self.new ≡ snapshots_of self.old }
     {
-        if self.pages.contains_key(&page) {
-            join_permissions(&mut self.pages, page, permissions);
+        if let Some(there) = self.tables.page(page) {
+            let joined = union(there.permissions, permissions);
+            self.tables.set_permissions(page, joined);
             return Ok(());
         }
-        if self.pages.len() >= MAX_PAGES as usize {
+        if self.mapped >= MAX_PAGES {
             return Err(PageFault::TooManyPages);
         }
-        let Ok(()) = add_page(self.alloc, &mut self.pages, page, permissions) else {
+        let Ok(()) = self.tables.place(page, permissions, &[0; 4096]) else {
             return Err(PageFault::Memory);
         };
+        self.mapped += 1;
         Ok(())
     }
 
@@ -202,351 +213,51 @@ impl Space {
         ensures too_many { IsErrOf result PageFault.TooManyPages → is_mapped (memory_of self.old) number ≡ false }
         ensures snapshots { snapshots_of self.new ≡ snapshots_of self.old }
     {
-        let Some(page) = page else {
-            remove_number(&mut self.pages, number);
-            return Ok(());
-        };
-        if self.pages.contains_key(&number) {
-            overwrite_page(&mut self.pages, number, page);
+        match page {
+            Some(page) => self.put_page(number, page),
+            None => {
+                self.remove_page(number);
+                Ok(())
+            }
+        }
+    }
+
+    /// Puts a page in place of what was there.
+    fn put_page(&mut self, number: u32, page: PageView<'_>) -> Result<(), PageFault>
+        requires { MayHave number (Some page) }
+        ensures set { OnOk result (memory_of self.new ≡ with_page number (Some page.entry) (memory_of self.old)) }
+        ensures refused { IfErr result (IsMapRefusal (with_page number (Some page.entry) (memory_of self.old))) }
+        ensures err { OnErr result (self.new ≡ self.old) }
+        ensures too_many { IsErrOf result PageFault.TooManyPages → is_mapped (memory_of self.old) number ≡ false }
+        ensures snapshots { snapshots_of self.new ≡ snapshots_of self.old }
+    {
+        has_page_bytes(page.bytes);
+        if is_there(&self.tables, number) {
+            let Ok(()) = self.tables.place(number, page.permissions, page.bytes) else {
+                return Err(PageFault::Memory);
+            };
             return Ok(());
         }
-        if self.pages.len() + 1 > MAX_PAGES as usize {
+        if self.mapped >= MAX_PAGES {
             return Err(PageFault::TooManyPages);
         }
-        let Ok(()) = insert_page(self.alloc, &mut self.pages, number, page) else {
+        let Ok(()) = self.tables.place(number, page.permissions, page.bytes) else {
             return Err(PageFault::Memory);
         };
+        self.mapped += 1;
         Ok(())
     }
 
-    /// Whether all bytes of a range may be read.
-    pub fn is_readable(&self, address: u32, count: u32) -> bool
-        ensures { result ≡ readable (memory_of self.now) address count }
-    {
-        self.passes(address, count as usize, Access::Read)
-    }
-
-    /// Whether all bytes of a range may be written.
-    pub fn is_writable(&self, address: u32, count: u32) -> bool
-        ensures { result ≡ writable (memory_of self.now) address count }
-    {
-        self.passes(address, count as usize, Access::Write)
-    }
-
-    /// The word of code at an address; None where a byte of it isn't there or may not be executed.
-    #[inline(always)]
-    #[tactic(auto, using(crate::proofs::Cells::executes_in_page, crate::proofs::Cells::run_in_page))]
-    pub fn fetch(&self, address: u32) -> Option<u32>
-        ensures { result ≡ fetched_word (memory_of self.now) address }
-    {
-        let at = (address % 4096) as usize;
-        if at > 4092 {
-            return self.fetch_across(address);
-        }
-        let page = self.pages.get(&(address / 4096))?;
-        if !page.permissions.execute {
-            return None;
-        }
-        Some(word_at(&page.bytes, at))
-    }
-
-    /// The byte at an address; None where it isn't there or may not be read.
-    #[inline(always)]
-    #[tactic(auto, using(crate::proofs::Cells::reads_in_page, crate::proofs::Cells::run_in_page))]
-    pub fn load_byte(&self, address: u32) -> Option<u8>
-        ensures { result ≡ loaded_byte (memory_of self.now) address }
-    {
-        let at = (address % 4096) as usize;
-        let page = self.pages.get(&(address / 4096))?;
-        if !page.permissions.read {
-            return None;
-        }
-        Some(page.bytes[at])
-    }
-
-    /// The half-word at an address, its low byte first.
-    #[inline(always)]
-    #[tactic(auto, using(crate::proofs::Cells::reads_in_page, crate::proofs::Cells::run_in_page))]
-    pub fn load_half(&self, address: u32) -> Option<u16>
-        ensures { result ≡ loaded_half (memory_of self.now) address }
-    {
-        let at = (address % 4096) as usize;
-        if at > 4094 {
-            return self.load_half_across(address);
-        }
-        let page = self.pages.get(&(address / 4096))?;
-        if !page.permissions.read {
-            return None;
-        }
-        Some(half_at(&page.bytes, at))
-    }
-
-    /// The word at an address, its low byte first.
-    #[inline(always)]
-    #[tactic(auto, using(crate::proofs::Cells::reads_in_page, crate::proofs::Cells::run_in_page))]
-    pub fn load_word(&self, address: u32) -> Option<u32>
-        ensures { result ≡ loaded_word (memory_of self.now) address }
-    {
-        let at = (address % 4096) as usize;
-        if at > 4092 {
-            return self.load_word_across(address);
-        }
-        let page = self.pages.get(&(address / 4096))?;
-        if !page.permissions.read {
-            return None;
-        }
-        Some(word_at(&page.bytes, at))
-    }
-
-    /// Loads bytes: all or none. Refused with NotMapped where any byte isn't there, else with NotAllowed where any may not
-    /// be read.
-    #[inline(never)]
-    pub fn load(&self, address: u32, into: &mut [u8]) -> Result<(), PageFault>
-        ensures allowed { OnOk result (IsTrue (readable (memory_of self.now) address (length into.old))) }
-        ensures loaded { OnOk result (into.new ≡ bytes_at (memory_of self.now) address (length into.old)) }
-        ensures refused { IfErr result (IsLoadRefusal (memory_of self.now) address (length into.old)) }
-        ensures err { OnErr result (into.new ≡ into.old) }
-    {
-        if !self.passes(address, into.len(), Access::Presence) {
-            return Err(PageFault::NotMapped);
-        }
-        if !self.passes(address, into.len(), Access::Read) {
-            return Err(PageFault::NotAllowed);
-        }
-        // the proof opens the space here, for what holds of its pages
-        let _ = &self.pages;
-        self.load_pages(address, into);
-        Ok(())
-    }
-
-    fn load_pages(&self, address: u32, into: &mut [u8])
-        requires there { IsTrue (present (memory_of self.now) address (length into.old)) }
-        requires low { address + length into.old ≤ 2 ^ 32 }
-        ensures { into.new ≡ bytes_at (memory_of self.now) address (length into.old) }
-    {
-        let mut done = 0;
-        while done < into.len() {
-            let at = u64::from(address) + done as u64;
-            let room = 4096 - (at % 4096) as usize;
-            let end = done + room.min(into.len() - done);
-            self.load_page(at, &mut into[done..end]);
-            done = end;
-        }
-    }
-
-    fn load_page(&self, address: u64, into: &mut [u8])
-        requires low { address < 2 ^ 32 }
-        requires there { IsSome (memory_of self.now address) }
-        requires fits { address % 4096 + length into.old ≤ 4096 }
-        ensures { (k : ℕ) → k < length into.old → slice_index into.new k
-            ≡ byte_or_zero (memory_of self.now (address + k)) }
-    {
-        let Some(page) = self.pages.get(&((address / 4096) as u32)) else {
-            unreachable!();
-        };
-        copy_bytes(&page.bytes, (address % 4096) as usize, into);
-    }
-
-    /// The byte at an address, if it is there and its page passes.
-    #[inline(always)]
-    #[tactic(auto, unfolding(crate::specs::Space::memory_in))]
-    fn byte_if(&self, address: u64, access: Access) -> Option<u8>
-        requires { address < 2 ^ 33 }
-        ensures { result ≡ cell_byte (test_of access) (memory_of self.now address) }
-    {
-        let page = self.pages.get(&((address / 4096) as u32))?;
-        if !page.allows(access) {
-            return None;
-        }
-        Some(page.bytes[(address % 4096) as usize])
-    }
-
-    #[cold]
-    #[inline(never)]
-    #[tactic(auto, unfolding(rrv_model::specs::Memory::all_cells, rrv_model::specs::Memory::bytes_at))]
-    fn fetch_across(&self, address: u32) -> Option<u32>
-        ensures { result ≡ fetched_word (memory_of self.now) address }
-    {
-        let start = u64::from(address);
-        let first = self.byte_if(start, Access::Execute)?;
-        let second = self.byte_if(start + 1, Access::Execute)?;
-        let third = self.byte_if(start + 2, Access::Execute)?;
-        let fourth = self.byte_if(start + 3, Access::Execute)?;
-        Some(u32::from_le_bytes([first, second, third, fourth]))
-    }
-
-    #[cold]
-    #[inline(never)]
-    #[tactic(auto, unfolding(rrv_model::specs::Memory::all_cells, rrv_model::specs::Memory::bytes_at))]
-    fn load_half_across(&self, address: u32) -> Option<u16>
-        ensures { result ≡ loaded_half (memory_of self.now) address }
-    {
-        let start = u64::from(address);
-        let first = self.byte_if(start, Access::Read)?;
-        let second = self.byte_if(start + 1, Access::Read)?;
-        Some(u16::from_le_bytes([first, second]))
-    }
-
-    #[cold]
-    #[inline(never)]
-    #[tactic(auto, unfolding(rrv_model::specs::Memory::all_cells, rrv_model::specs::Memory::bytes_at))]
-    fn load_word_across(&self, address: u32) -> Option<u32>
-        ensures { result ≡ loaded_word (memory_of self.now) address }
-    {
-        let start = u64::from(address);
-        let first = self.byte_if(start, Access::Read)?;
-        let second = self.byte_if(start + 1, Access::Read)?;
-        let third = self.byte_if(start + 2, Access::Read)?;
-        let fourth = self.byte_if(start + 3, Access::Read)?;
-        Some(u32::from_le_bytes([first, second, third, fourth]))
-    }
-
-    /// Stores a byte. Refused with NotMapped where it isn't there, else with NotAllowed where it may not be written.
-    #[inline(always)]
-    #[tactic(auto, using(crate::proofs::Cells::writes_in_page, crate::proofs::Cells::is_in_page))]
-    pub fn store_byte(&mut self, address: u32, value: u8) -> Result<(), PageFault>
-        ensures allowed { OnOk result (IsTrue (writable (memory_of self.old) address 1)) }
-        ensures stored { OnOk result (memory_of self.new ≡ stored address (to_le_bytes w8 value) (memory_of self.old)) }
-        ensures refused { IfErr result (IsStoreRefusal (memory_of self.old) address 1) }
-        ensures err { OnErr result (self.new ≡ self.old) }
+    /// Takes a page away, where there is one.
+    fn remove_page(&mut self, number: u32)
+        ensures memory { memory_of self.new ≡ with_page number None (memory_of self.old) }
         ensures snapshots { snapshots_of self.new ≡ snapshots_of self.old }
     {
-        let Some(page) = self.pages.get_mut(&(address / 4096)) else {
-            return Err(PageFault::NotMapped);
-        };
-        if !page.permissions.write {
-            return Err(PageFault::NotAllowed);
+        if !is_there(&self.tables, number) {
+            return;
         }
-        put_byte(&mut page.bytes, (address % 4096) as usize, value);
-        Ok(())
-    }
-
-    /// Stores a half-word, its low byte first: both bytes or none, refused as [`Space::store`] is.
-    #[inline(always)]
-    #[tactic(auto, using(crate::proofs::Cells::writes_in_page, crate::proofs::Cells::is_in_page))]
-    pub fn store_half(&mut self, address: u32, value: u16) -> Result<(), PageFault>
-        ensures allowed { OnOk result (IsTrue (writable (memory_of self.old) address 2)) }
-        ensures stored { OnOk result (memory_of self.new
-            ≡ stored address (to_le_bytes w16 value) (memory_of self.old)) }
-        ensures refused { IfErr result (IsStoreRefusal (memory_of self.old) address 2) }
-        ensures err { OnErr result (self.new ≡ self.old) }
-        ensures snapshots { snapshots_of self.new ≡ snapshots_of self.old }
-    {
-        let at = (address % 4096) as usize;
-        if at > 4094 {
-            return self.store(address, &value.to_le_bytes());
-        }
-        let Some(page) = self.pages.get_mut(&(address / 4096)) else {
-            return Err(PageFault::NotMapped);
-        };
-        if !page.permissions.write {
-            return Err(PageFault::NotAllowed);
-        }
-        put_half(&mut page.bytes, at, value);
-        Ok(())
-    }
-
-    /// Stores a word, its low byte first: all bytes or none, refused as [`Space::store`] is.
-    #[inline(always)]
-    #[tactic(auto, using(crate::proofs::Cells::writes_in_page, crate::proofs::Cells::is_in_page))]
-    pub fn store_word(&mut self, address: u32, value: u32) -> Result<(), PageFault>
-        ensures allowed { OnOk result (IsTrue (writable (memory_of self.old) address 4)) }
-        ensures stored { OnOk result (memory_of self.new
-            ≡ stored address (to_le_bytes w32 value) (memory_of self.old)) }
-        ensures refused { IfErr result (IsStoreRefusal (memory_of self.old) address 4) }
-        ensures err { OnErr result (self.new ≡ self.old) }
-        ensures snapshots { snapshots_of self.new ≡ snapshots_of self.old }
-    {
-        let at = (address % 4096) as usize;
-        if at > 4092 {
-            return self.store(address, &value.to_le_bytes());
-        }
-        let Some(page) = self.pages.get_mut(&(address / 4096)) else {
-            return Err(PageFault::NotMapped);
-        };
-        if !page.permissions.write {
-            return Err(PageFault::NotAllowed);
-        }
-        put_word(&mut page.bytes, at, value);
-        Ok(())
-    }
-
-    /// Stores bytes: all or none. Refused with NotMapped where any byte isn't there, else with NotAllowed where any may not
-    /// be written. To store no byte is never refused.
-    #[inline(never)]
-    pub fn store(&mut self, address: u32, bytes: &[u8]) -> Result<(), PageFault>
-        ensures allowed { OnOk result (IsTrue (writable (memory_of self.old) address (length bytes.now))) }
-        ensures stored { OnOk result (memory_of self.new ≡ stored address bytes.now (memory_of self.old)) }
-        ensures refused { IfErr result (IsStoreRefusal (memory_of self.old) address (length bytes.now)) }
-        ensures some { OnErr result (1 ≤ length bytes.now) }
-        ensures err { OnErr result (self.new ≡ self.old) }
-        ensures snapshots { snapshots_of self.new ≡ snapshots_of self.old }
-    {
-        self.prepare(address, bytes.len())?;
-        self.fill(address, bytes);
-        Ok(())
-    }
-
-    /// Tests whether so many bytes can be stored, and makes ready for them, which changes nothing: a [`Space::fill`] of them
-    /// then takes no memory. Refused as [`Space::store`] is, so that memory is wanted here and not at the fill. No page is
-    /// shared with a snapshot, so none is copied.
-    pub fn prepare(&mut self, address: u32, count: usize) -> Result<(), PageFault>
-        ensures allowed { OnOk result (IsTrue (writable (memory_of self.old) address count)) }
-        ensures ready { OnOk result (CanFill self.new address count) }
-        ensures refused { IfErr result (IsStoreRefusal (memory_of self.old) address count) }
-        ensures some { OnErr result (1 ≤ count) }
-        ensures memory { memory_of self.new ≡ memory_of self.old }
-        ensures err { OnErr result (self.new ≡ self.old) }
-        ensures snapshots { snapshots_of self.new ≡ snapshots_of self.old }
-    {
-        if !self.passes(address, count, Access::Presence) {
-            return Err(PageFault::NotMapped);
-        }
-        if !self.passes(address, count, Access::Write) {
-            return Err(PageFault::NotAllowed);
-        }
-        Ok(())
-    }
-
-    /// Writes bytes that are there, whatever their permissions, as a loader does. It takes no memory.
-    pub fn fill(&mut self, address: u32, bytes: &[u8])
-        requires { CanFill self.old address (length bytes.now) }
-        ensures memory { memory_of self.new ≡ stored address bytes.now (memory_of self.old) }
-        ensures snapshots { snapshots_of self.new ≡ snapshots_of self.old }
-    {
-        // the proof opens the space here, for what holds of its pages
-        let _ = &self.pages;
-        self.fill_pages(address, bytes);
-    }
-
-    fn fill_pages(&mut self, address: u32, bytes: &[u8])
-        requires there { IsTrue (present (memory_of self.old) address (length bytes.now)) }
-        requires low { address + length bytes.now ≤ 2 ^ 32 }
-        ensures memory { memory_of self.new ≡ stored address bytes.now (memory_of self.old) }
-        ensures snapshots { snapshots_of self.new ≡ snapshots_of self.old }
-    {
-        let mut at = u64::from(address);
-        let mut rest = bytes;
-        while !rest.is_empty() {
-            let room = 4096 - (at % 4096) as usize;
-            let (part, others) = rest.split_at(room.min(rest.len()));
-            self.fill_page(at, part);
-            at += part.len() as u64;
-            rest = others;
-        }
-    }
-
-    fn fill_page(&mut self, address: u64, bytes: &[u8])
-        requires low { address < 2 ^ 32 }
-        requires there { IsSome (memory_of self.old address) }
-        requires fits { address % 4096 + length bytes.now ≤ 4096 }
-        ensures memory { memory_of self.new ≡ stored address bytes.now (memory_of self.old) }
-        ensures snapshots { snapshots_of self.new ≡ snapshots_of self.old }
-    {
-        let Some(page) = self.pages.get_mut(&((address / 4096) as u32)) else {
-            unreachable!();
-        };
-        put_bytes(&mut page.bytes, (address % 4096) as usize, bytes);
+        self.tables.remove(number);
+        self.mapped -= 1;
     }
 
     /// Keeps the memory as it is, under the token that it gives. Refused where a growth is.
@@ -558,9 +269,7 @@ impl Space {
         ensures memory { memory_of self.new ≡ memory_of self.old }
         ensures err { OnErr result (self.new ≡ self.old) }
     {
-        let kept = Kept::copy(&self.pages)?;
-        let number = free_number(&self.snapshots);
-        keep(&mut self.snapshots, number, kept)?;
+        let number = self.tables.keep()?;
         Ok(Snapshot::new(number))
     }
 
@@ -571,7 +280,7 @@ impl Space {
         ensures others { (n : ℕ) → n ≢ snapshot → snapshots_of self.new n ≡ snapshots_of self.old n }
         ensures memory { memory_of self.new ≡ memory_of self.old }
     {
-        release(&mut self.snapshots, snapshot.number());
+        self.tables.release(snapshot.number());
     }
 
     /// The numbers of the pages that differ from a live snapshot's in bytes, in permissions or in being mapped, rising.
@@ -582,8 +291,7 @@ impl Space {
             AreChanges before (memory_of self.now) numbers.items)) }
         ensures grows { OnErr result (snapshots_of self.now snapshot.now ≢ Some (memory_of self.now)) }
     {
-        let kept = self.kept(snapshot);
-        let numbers = list_changed(self.alloc, kept.pages(), &self.pages)?;
+        let numbers = list_changed(self.alloc, &self.tables, snapshot.number())?;
         Ok(numbers)
     }
 
@@ -591,14 +299,14 @@ impl Space {
     pub fn page(&self, number: u32) -> Option<PageView<'_>>
         ensures { IsPageOf (memory_of self.now) number result }
     {
-        view_page(&self.pages, number)
+        view_of(self.tables.page(number))
     }
 
     /// The least mapped page from a number on. It takes no memory.
     pub fn next_page(&self, least: u32) -> Option<u32>
         ensures { IsNextPage (memory_of self.now) least result }
     {
-        next_there(&self.pages, least)
+        self.tables.next(least)
     }
 
     /// A page as a live snapshot has it, as [`Space::page`] reads it.
@@ -606,7 +314,7 @@ impl Space {
         requires { IsSome (snapshots_of self.now snapshot.now) }
         ensures { IsSomeAnd (snapshots_of self.now snapshot.now) (λ before. IsPageOf before number result) }
     {
-        view_page(self.kept(snapshot).pages(), number)
+        view_of(self.tables.kept_page(snapshot.number(), number))
     }
 
     /// The least page from a number on that a live snapshot has mapped.
@@ -614,54 +322,6 @@ impl Space {
         requires { IsSome (snapshots_of self.now snapshot.now) }
         ensures { IsSomeAnd (snapshots_of self.now snapshot.now) (λ before. IsNextPage before least result) }
     {
-        next_there(self.kept(snapshot).pages(), least)
-    }
-
-    /// What a live snapshot keeps.
-    fn kept(&self, snapshot: &Snapshot) -> &Kept
-        requires { IsSome (snapshots_of self.now snapshot.now) }
-        ensures { snapshots_of self.now snapshot.now ≡ Some (memory_in result.now) }
-    {
-        kept_under(&self.snapshots, snapshot.number())
-    }
-
-    /// Whether all bytes of a range pass.
-    fn passes(&self, address: u32, count: usize, access: Access) -> bool
-        ensures { result ≡ all_cells (test_of access) (memory_of self.now) address count }
-    {
-        let Ok(count) = u32::try_from(count) else {
-            // the proof opens the space here, for what holds of its pages
-            let _ = &self.pages;
-            return false;
-        };
-        if count == 0 {
-            return true;
-        }
-        let last = (u64::from(address) + u64::from(count) - 1) / 4096;
-        self.pages_pass(address / 4096, last as u32, access)
-    }
-
-    fn pages_pass(&self, first: u32, last: u32, access: Access) -> bool
-        requires { last < 2 ^ 21 }
-        ensures all { result ≡ true → (n : ℕ) → first ≤ n → n ≤ last →
-            page_passes (test_of access) (page_at self.now.pages n) ≡ true }
-        ensures one { result ≡ false → (n : ℕ) × (first ≤ n) × (n ≤ last)
-            × (page_passes (test_of access) (page_at self.now.pages n) ≡ false) }
-    {
-        for number in first..last + 1 {
-            if !self.page_passes(number, access) {
-                return false;
-            }
-        }
-        true
-    }
-
-    fn page_passes(&self, number: u32, access: Access) -> bool
-        ensures { result ≡ page_passes (test_of access) (page_at self.now.pages number) }
-    {
-        match self.pages.get(&number) {
-            Some(page) => page.allows(access),
-            None => false,
-        }
+        self.tables.kept_next(snapshot.number(), least)
     }
 }

@@ -1,5 +1,6 @@
 //! Why an address space refuses.
 
+use page_tables::PutError;
 use thiserror::Error;
 
 /// Why a call on an address space was refused: the first of these that applies to any byte. All is then as before.
@@ -17,4 +18,20 @@ pub enum PageFault {
     /// A growth was refused.
     #[error("out of memory")]
     Memory,
+}
+
+/// A write into a page is refused as a store is.
+impl From<PutError> for PageFault {
+    ghost use Rattle.std.specs.Prelude.{◌≡◌};
+    ghost use Rattle.guest_pages.specs.Space.{fault_for};
+
+    ghost from_gives = { λ error e. e ≡ fault_for error };
+
+    fn from(error: PutError) -> PageFault {
+        match error {
+            PutError::NotMapped => PageFault::NotMapped,
+            PutError::NotAllowed => PageFault::NotAllowed,
+            PutError::Memory => PageFault::Memory,
+        }
+    }
 }

@@ -1,6 +1,7 @@
 //! A guest's address space: whole pages, each with its permissions, and snapshots of them.
 #![tactic(auto)]
 
+mod access;
 mod address_space;
 pub mod fault;
 mod mapping;

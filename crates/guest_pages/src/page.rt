@@ -1,39 +1,13 @@
-//! A page, and the numbers in its bytes.
+//! Pages as they are read, and the numbers in their bytes.
 
-ghost use Rattle.std.specs.Prelude.{◌≡◌, ℕ, ◌+◌, ◌<◌, ◌≤◌, length, slice_index};
-ghost use Rattle.std.specs.Int.{w8, w16, w32, from_le_bytes, to_le_bytes};
-ghost use Rattle.guest_pages.specs.Pages.{run, IsWritten};
+ghost use Rattle.std.specs.Prelude.{◌≡◌, ℕ, ◌+◌, ◌<◌, ◌≤◌, Some, length, slice_index};
+ghost use Rattle.std.specs.Int.{w16, w32, from_le_bytes};
+ghost use Rattle.page_tables.specs.Contents.{FillPage};
+ghost use Rattle.page_tables.specs.Changes.{shown};
+ghost use Rattle.guest_pages.specs.Pages.{run};
 ghost use Rattle.guest_pages.specs.Space.{page_passes, test_of};
 
 use rrv_model::machine::Permissions;
-use std::alloc::AllocError;
-use std::collections::BTreeMap;
-
-/// A page of 4,096 bytes.
-#[derive(Drop)]
-pub struct Page {
-    /// What may be done with its bytes.
-    pub permissions: Permissions,
-    /// Its bytes, by their place in the page.
-    pub bytes: Box<[u8; 4096]>,
-}
-
-/// Pages, by their number.
-pub(crate) type Pages = BTreeMap<u32, Page>;
-
-impl Clone for Page {
-    ghost use Rattle.std.specs.Prelude.{◌≡◌};
-
-    ghost is_clone = { λ p q. (q.permissions ≡ p.permissions) × (q.bytes.value ≡ p.bytes.value) };
-
-    fn clone(&self) -> Result<Page, AllocError> {
-        let bytes = self.bytes.clone()?;
-        Ok(Page {
-            permissions: self.permissions,
-            bytes,
-        })
-    }
-}
 
 /// A page as a reader sees it.
 #[derive(Clone, Copy)]
@@ -57,19 +31,24 @@ pub enum Access {
     Execute,
 }
 
-impl Page {
-    /// Whether its permissions grant what is asked.
-    #[inline(always)]
-    pub(crate) fn allows(&self, access: Access) -> bool
-        ensures { result ≡ page_passes (test_of access) (Some self.now) }
-    {
-        match access {
-            Access::Presence => true,
-            Access::Read => self.permissions.read,
-            Access::Write => self.permissions.write,
-            Access::Execute => self.permissions.execute,
-        }
+/// Whether the permissions of a page grant what is asked.
+#[inline(always)]
+pub(crate) fn allows(page: page_tables::PageView<'_>, access: Access) -> bool
+    ensures { result ≡ page_passes (test_of access) (shown (Some page.entry)) }
+{
+    match access {
+        Access::Presence => true,
+        Access::Read => page.permissions.read,
+        Access::Write => page.permissions.write,
+        Access::Execute => page.permissions.execute,
     }
+}
+
+/// A law: a page has 4,096 bytes, each below 256.
+pub(crate) fn has_page_bytes(bytes: &[u8; 4096])
+    ensures { FillPage bytes.now }
+{
+    let _first = bytes[0];
 }
 
 /// The half-word at a place, its low byte first.
@@ -88,54 +67,6 @@ pub(crate) fn word_at(bytes: &[u8; 4096], at: usize) -> u32
     ensures { result ≡ from_le_bytes w32 (run 4 at bytes.now) }
 {
     u32::from_le_bytes([bytes[at], bytes[at + 1], bytes[at + 2], bytes[at + 3]])
-}
-
-/// Writes a byte at a place.
-#[inline(always)]
-#[tactic(auto, using(crate::proofs::Stores::is_written))]
-pub(crate) fn put_byte(bytes: &mut [u8; 4096], at: usize, value: u8)
-    requires { at + 1 ≤ 4096 }
-    ensures bytes { IsWritten bytes.old at (to_le_bytes w8 value) bytes.new }
-    ensures full { length bytes.old ≡ 4096 }
-{
-    bytes[at] = value;
-}
-
-/// Writes a half-word at a place, its low byte first.
-#[inline(always)]
-#[tactic(auto, using(crate::proofs::Stores::is_written))]
-pub(crate) fn put_half(bytes: &mut [u8; 4096], at: usize, value: u16)
-    requires { at + 2 ≤ 4096 }
-    ensures bytes { IsWritten bytes.old at (to_le_bytes w16 value) bytes.new }
-    ensures full { length bytes.old ≡ 4096 }
-{
-    let [first, second] = value.to_le_bytes();
-    bytes[at] = first;
-    bytes[at + 1] = second;
-}
-
-/// Writes a word at a place, its low byte first.
-#[inline(always)]
-#[tactic(auto, using(crate::proofs::Stores::is_written))]
-pub(crate) fn put_word(bytes: &mut [u8; 4096], at: usize, value: u32)
-    requires { at + 4 ≤ 4096 }
-    ensures bytes { IsWritten bytes.old at (to_le_bytes w32 value) bytes.new }
-    ensures full { length bytes.old ≡ 4096 }
-{
-    let [first, second, third, fourth] = value.to_le_bytes();
-    bytes[at] = first;
-    bytes[at + 1] = second;
-    bytes[at + 2] = third;
-    bytes[at + 3] = fourth;
-}
-
-/// Writes bytes from a place on.
-pub(crate) fn put_bytes(bytes: &mut [u8; 4096], at: usize, from: &[u8])
-    requires { at + length from.now ≤ 4096 }
-    ensures bytes { IsWritten bytes.old at from.now bytes.new }
-    ensures full { length bytes.old ≡ 4096 }
-{
-    bytes[at..at + from.len()].copy_from_slice(from);
 }
 
 /// Reads bytes from a place on.

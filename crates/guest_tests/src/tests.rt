@@ -1,5 +1,6 @@
 //! Tests of small guests. Results are negated errno values of Linux (man pages, errno(3)).
 
+mod changes;
 mod memory;
 mod parts;
 mod rows;

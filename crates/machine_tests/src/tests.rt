@@ -5,6 +5,7 @@ mod code_space;
 mod decoding;
 mod files;
 mod hart;
+mod lines;
 mod memory;
 mod opening;
 mod pages;

@@ -55,7 +55,7 @@ module _ (pool new : Slab Page) (table copy : Table) (kept later : List (Option 
   ]
 
   pub kept_shared : length later < 2 ^ 32 - 1 → AreShared (get new) (entry_at table) later
-  kept_shared few = shared_after (get pool) (get new) (entry_at table) later settles (λ k e. is k ∙ ap (raised_by (entry_at table) 0x80000 k) e) h.current slots few
+  kept_shared few = shared_after (get pool) (get new) (entry_at table) later settles (λ k e. is k ∙ ap (raised_by (entry_at table) 0x80000 k) e) h.current slots few h.filled
 
   stay : (n : ℕ) → pages_in (get new) (entry_at table) n ≡ pages_in (get pool) (entry_at table) n
   stay = pages_stay (get pool) (get new) (sharers (entry_at table) later) settles (entry_at table) h.current (current_shares (entry_at table) later)
@@ -109,7 +109,7 @@ module _ (pool new : Slab Page) (table gone : Table) (kept later : List (Option 
     nothing = record { low = λ n e. absurd (false≢true e); own = λ n e. absurd (false≢true e); none = λ n e. refl }
 
   pub released_shared : length later ≡ length kept → AreShared (get new) (entry_at table) later
-  released_shared len = shared_after (get pool) (get new) (entry_at table) later settles-gone (λ k e. is k ∙ ap (lowered_by (entry_at gone) 0x80000 k) e) h.current slots-gone (omega (arith, h.few))
+  released_shared len = shared_after (get pool) (get new) (entry_at table) later settles-gone (λ k e. is k ∙ ap (lowered_by (entry_at gone) 0x80000 k) e) h.current slots-gone (omega (arith, h.few)) h.filled
 
   own-gone : (n : ℕ) → counts_in (get pool) (entry_at table) n ≡ Some 1 → counts_in (get new) (entry_at table) n ≡ Some 1
   own-gone n one = by_test (entry_at table n).mapped refl one where

@@ -4,3 +4,6 @@ pub mod Sharing
 pub mod Values
 pub mod KeptTables
 pub mod PlacedPages
+pub mod Laws
+pub mod Listed
+pub mod NewPages

@@ -1,8 +1,11 @@
 -- A page that is taken out of the current table, and one that is put into it.
-use Rattle.std.proofs.Common.{◌≡◌, ◌≢◌, ℕ, suc, ◌+◌, ◌<◌, ◌≤◌, ◌-◌, ◌==◌, ◌&&◌, Bool, true, false, List, [], ◌∷◌, Option, Some, None, IfSome, IsSome, is_some, ◌⊎◌, Result, Ok, Err, OnErr, OnOk, IsSomeAnd, refl, ap, ◌∙◌, sym, subst, arith, inl, inr, if◌then◌else◌, count_by}
+use Rattle.std.proofs.Common.{◌≡◌, ◌≢◌, ℕ, suc, ◌+◌, ◌<◌, ◌≤◌, ◌-◌, ◌==◌, ◌&&◌, Bool, true, false, List, [], ◌∷◌, ◌++◌, length, drop, Option, Some, None, IfSome, IsSome, is_some, ◌⊎◌, Result, Ok, Err, OnErr, OnOk, IsSomeAnd, refl, ap, ◌∙◌, sym, subst, arith, inl, inr, if◌then◌else◌, count_by}
 use Rattle.std.proofs.lemmas.Bool.{false≢true, cases_eq, eq-eqb}
-use Rattle.std.proofs.lemmas.Bool.Decides.{eqb_tells}
+use Rattle.std.proofs.lemmas.Bool.Decides.{nat_tests, eqb_tells}
 use Rattle.std.proofs.lemmas.List.Sums.{sum_by-cons}
+use Rattle.std.proofs.lemmas.List.{append-nil}
+use Rattle.std.proofs.Math.ListN.{drop_of_length-le}
+use Rattle.page_tables.proofs.Bytes.{written_is}
 use Rattle.std.specs.Option.{option_map}
 use Rattle.slab.specs.Slab.{Slab, get, slab_len}
 use Rattle.rrv_model.specs.declared.machine.Permissions.{Permissions}
@@ -11,7 +14,7 @@ use Rattle.page_tables.specs.declared.table.Entry.{Entry}
 use Rattle.page_tables.specs.declared.table.Table.{Table}
 use Rattle.page_tables.specs.declared.pool.Page.{Page}
 use Rattle.page_tables.specs.Table.{entry_at, AreAlike}
-use Rattle.page_tables.specs.Contents.{PageValue, Contents, TablesValue, contents_of, value_of}
+use Rattle.page_tables.specs.Contents.{PageValue, Contents, FillPage, TablesValue, contents_of, value_of}
 use Rattle.page_tables.specs.Changes.{IsRemoved, IsPlaced, IsAttached, IsProtected, with_permissions, IsUnshared, IsWritten, IsRewritten, written, with_bytes, freed, added, allows_write}
 use Rattle.page_tables.specs.Sharing.{entry_has, has, slot_entry, slot_at, sharers, IsTableOf, AreShared, page_in, value_in, pages_in, counts_in, kept_in, contents_in, lowered, at_count}
 use Rattle.page_tables.proofs.Sharing.{one_if, Settles, settled, pages_stay, shared_after, count_is, counted_page, current_shares, slot_shares, kept_pages_stay, has_own, has_key, found, alone}
@@ -70,7 +73,7 @@ module _ (pool new : Slab Page) (table later : Table) (kept : List (Option Table
     mapped_before q m e = false≢true (sym gone ∙ ap (λ (i : ℕ). (entry_at later i).mapped) (sym e) ∙ m)
 
   pub removed_shared : AreShared (get new) (entry_at later) kept
-  removed_shared = shared_after (get pool) (get new) (entry_at later) kept removed_settles nothing later_table h.slots h.few where
+  removed_shared = shared_after (get pool) (get new) (entry_at later) kept removed_settles nothing later_table h.slots h.few h.filled where
     nothing : (k : ℕ) → get pool k ≡ None → get new k ≡ None
     nothing k e = is k ∙ by_test (has (entry_at table) n k) where
       by_test : (b : Bool) → (if b then lowered (get pool k) else get pool k) ≡ None
@@ -105,7 +108,7 @@ module _ (pool new : Slab Page) (table later : Table) (kept : List (Option Table
     live = len;
   }
 
-no_shares : (kept : List (Option Table)) (n k : ℕ) → ((i : ℕ) → has (slot_at kept i) n k ≡ false) → count_by (λ s. has (slot_entry s) n k) kept ≡ 0
+pub no_shares : (kept : List (Option Table)) (n k : ℕ) → ((i : ℕ) → has (slot_at kept i) n k ≡ false) → count_by (λ s. has (slot_entry s) n k) kept ≡ 0
 no_shares [] n k h = refl
 no_shares (s ∷ kept) n k h =
     let f : Option Table → ℕ = λ s. one_if (has (slot_entry s) n k) in
@@ -114,7 +117,7 @@ no_shares (s ∷ kept) n k h =
 
 module _ (pool new : Slab Page) (table later : Table) (kept : List (Option Table)) (n key : ℕ) (h : AreShared (get pool) (entry_at table) kept)
     (low : n < 0x80000) (gone : (entry_at table n).mapped ≡ false) (free : get pool key ≡ None) (e : Entry) (p : Page)
-    (here : entry_at later n ≡ e) (keyed : e.key ≡ key) (mapped : e.mapped ≡ true) (numbered : p.number ≡ n) (counted-one : p.count ≡ 1)
+    (here : entry_at later n ≡ e) (keyed : e.key ≡ key) (mapped : e.mapped ≡ true) (numbered : p.number ≡ n) (counted-one : p.count ≡ 1) (fits : FillPage p.bytes.value)
     (others : (q : ℕ) → q ≢ n → entry_at later q ≡ entry_at table q)
     (page : get new key ≡ Some p) (rest : (k : ℕ) → k ≢ key → get new k ≡ get pool k) where
   no_key : (t : ℕ → Entry) → IsTableOf (get pool) t → (q : ℕ) → (t q).mapped ≡ true → (t q).key ≢ key
@@ -172,7 +175,13 @@ module _ (pool new : Slab Page) (table later : Table) (kept : List (Option Table
   }
 
   pub placed_shared : AreShared (get new) (entry_at later) kept
-  placed_shared = record { current = placed_current; slots = λ i. stays (slot_at kept i) (h.slots i); counted = counted; few = h.few } where
+  placed_shared = record { current = placed_current; slots = λ i. stays (slot_at kept i) (h.slots i); counted = counted; few = h.few; filled = filled } where
+    filled : (k : ℕ) → IfSome (get new k) (λ p. FillPage p.bytes.value)
+    filled k = elim (cases_eq k key) [
+      | inl w ↦ subst (λ (o : Option Page). IfSome o (λ p. FillPage p.bytes.value)) (sym (ap (get new) w ∙ page)) fits
+      | inr w ↦ subst (λ (o : Option Page). IfSome o (λ p. FillPage p.bytes.value)) (sym (rest k w)) (h.filled k)
+    ]
+
     old : (k : ℕ) → k ≢ key → (o : Option Page) → get pool k ≡ o → IfSome o (λ p. (p.count ≡ sharers (entry_at later) kept p.number k) × (1 ≤ p.count))
     old k apart None w = tt
     old k apart (Some q) w = let c = count_is (get pool) (entry_at table) kept h k q w in (c.0 ∙ sym (same_share q.number k apart), c.1)
@@ -259,7 +268,13 @@ module _ (pool new : Slab Page) (table : Table) (kept : List (Option Table)) (n 
   }
 
   pub written_shared : AreShared (get new) (entry_at table) kept
-  written_shared = record { current = stays-written (entry_at table) h.current; slots = λ i. stays-written (slot_at kept i) (h.slots i); counted = counted; few = h.few } where
+  written_shared = record { current = stays-written (entry_at table) h.current; slots = λ i. stays-written (slot_at kept i) (h.slots i); counted = counted; few = h.few; filled = filled } where
+    filled : (k : ℕ) → IfSome (get new k) (λ p. FillPage p.bytes.value)
+    filled k = elim (cases_eq k key) [
+      | inl e ↦ subst (λ (o : Option Page). IfSome o (λ p. FillPage p.bytes.value)) (sym (ap (get new) e ∙ page)) is.filled
+      | inr e ↦ subst (λ (o : Option Page). IfSome o (λ p. FillPage p.bytes.value)) (sym (rest k e)) (h.filled k)
+    ]
+
     counted : (k : ℕ) → IfSome (get new k) (λ p. (p.count ≡ sharers (entry_at table) kept p.number k) × (1 ≤ p.count))
     counted k = elim (cases_eq k key) [
       | inl e ↦
@@ -422,7 +437,7 @@ module _ (pool : Slab Page) (table later : Table) (kept : List (Option Table)) (
   same-page q = λ i. if same-mapped q i then get pool (same-key q i) else None
 
   pub protected_shared : AreShared (get pool) (entry_at later) kept
-  protected_shared = record { current = current; slots = h.slots; counted = counted; few = h.few } where
+  protected_shared = record { current = current; slots = h.slots; counted = counted; few = h.few; filled = h.filled } where
     current : IsTableOf (get pool) (entry_at later)
     current = record {
       low = λ q w. h.current.low q (sym (same-mapped q) ∙ w);
@@ -468,3 +483,33 @@ none_protected n permissions c none = record {
   rest = record { pages = λ q w. refl; counts = λ q w. refl; kept = refl };
   live = refl;
 }
+
+pub one_count : (k : ℕ) → (k == 1) ≡ true → k ≡ 1
+one_count k e = grind (arith, nat_tests)
+
+pub not_one : (k : ℕ) → (k == 1) ≡ false → k ≡ 1 → ⊥
+not_one k e f = grind (arith, nat_tests)
+
+-- ---- a page that is filled anew
+
+overwritten : (bs bytes : List ℕ) → length bs ≡ length bytes → written bytes 0 bs ≡ bs
+overwritten bs bytes e =
+    let none : drop (0 + length bs) bytes ≡ [] = drop_of_length-le bytes (omega (arith, e)) in
+    written_is bs bytes 0 (omega (arith, e)) ∙ ap (λ (rest : List ℕ). bs ++ rest) none ∙ append-nil bs
+
+-- all bytes of a page are written, and then its permissions set
+pub written_anew : (n : ℕ) (permissions : Permissions) (bs : List ℕ) (old mid new : Contents) → IsSome (old.pages n) → IfSome (old.pages n) (λ p. length bs ≡ length p.bytes) → IsWritten n 0 bs old mid → IsProtected n permissions mid new →
+    IsPlaced n (record { permissions = permissions; bytes = bs }) old new
+written_anew n permissions bs old mid new there full w p = record {
+  here = p.page ∙ ap (option_map (with_permissions permissions)) w.page ∙ by_page (old.pages n) there full;
+  own = p.count ∙ w.own;
+  rest = record {
+    pages = λ q a. p.rest.pages q a ∙ w.rest.pages q a;
+    counts = λ q a. p.rest.counts q a ∙ w.rest.counts q a;
+    kept = p.rest.kept ∙ w.rest.kept;
+  };
+  live = p.live ∙ w.live;
+} where
+  by_page : (o : Option PageValue) → IsSome o → IfSome o (λ p. length bs ≡ length p.bytes) → option_map (with_permissions permissions) (option_map (with_bytes 0 bs) o) ≡ Some (record { permissions = permissions; bytes = bs })
+  by_page None e i = absurd (false≢true e)
+  by_page (Some p) e i = ap (λ (bytes : List ℕ). Some (record { permissions = permissions; bytes = bytes })) (overwritten bs p.bytes i)

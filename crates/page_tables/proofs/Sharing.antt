@@ -12,6 +12,7 @@ use Rattle.page_tables.specs.declared.table.Table.{Table}
 use Rattle.page_tables.specs.declared.pool.Page.{Page}
 use Rattle.page_tables.specs.Sharing.{has, slot_entry, slot_at, sharers, IsTableOf, AreShared, value_in, pages_in, kept_in, at_count, has_below, raised, raised_by, lowered, lowered_by, IsSlotSet}
 use Rattle.page_tables.specs.Table.{entry_at}
+use Rattle.page_tables.specs.Contents.{FillPage}
 
 abbrev pub one_if : Bool → ℕ
 one_if b = if b then 1 else 0
@@ -124,13 +125,22 @@ slot_pushed kept i slot e = record {
 -- ---- tables over a pool whose counts settle
 
 pub shared_after : (pool new : ℕ → Option Page) (t : ℕ → Entry) (kept : List (Option Table)) → Settles pool (sharers t kept) new → ((k : ℕ) → pool k ≡ None → new k ≡ None) →
-    IsTableOf pool t → ((i : ℕ) → IsTableOf pool (slot_at kept i)) → length kept < 2 ^ 32 - 1 → AreShared new t kept
-shared_after pool new t kept s none h hs few = record {
+    IsTableOf pool t → ((i : ℕ) → IsTableOf pool (slot_at kept i)) → length kept < 2 ^ 32 - 1 → ((k : ℕ) → IfSome (pool k) (λ p. FillPage p.bytes.value)) → AreShared new t kept
+shared_after pool new t kept s none h hs few full = record {
   current = table_stays pool new (sharers t kept) s t h (current_shares t kept);
   slots = λ i. table_stays pool new (sharers t kept) s (slot_at kept i) (hs i) (slot_shares t kept i);
   counted = λ k. by_page k (pool k) refl;
   few = few;
+  filled = λ k. filled_page k (pool k) refl (full k);
 } where
+  filled_count : (p : Page) (c : ℕ) → FillPage p.bytes.value → IfSome (at_count c p) (λ q. FillPage q.bytes.value)
+  filled_count p zero i = tt
+  filled_count p (suc c) i = i
+
+  filled_page : (k : ℕ) (o : Option Page) → pool k ≡ o → IfSome o (λ p. FillPage p.bytes.value) → IfSome (new k) (λ p. FillPage p.bytes.value)
+  filled_page k None e i = subst (λ (o : Option Page). IfSome o (λ p. FillPage p.bytes.value)) (sym (none k e)) tt
+  filled_page k (Some p) e i = subst (λ (o : Option Page). IfSome o (λ p. FillPage p.bytes.value)) (sym (s k p e)) (filled_count p (sharers t kept p.number k) i)
+
   by_count : (k : ℕ) (p : Page) (c : ℕ) → sharers t kept p.number k ≡ c → IfSome (at_count c p) (λ q. (q.count ≡ sharers t kept q.number k) × (1 ≤ q.count))
   by_count k p zero e = tt
   by_count k p (suc c) e = (sym e, omega arith)

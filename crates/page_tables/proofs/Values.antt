@@ -5,9 +5,6 @@ use Rattle.std.proofs.lemmas.Bool.Decides.{eqb_tells}
 use Rattle.std.proofs.lemmas.List.{get_or_past}
 use Rattle.std.proofs.Math.Dec.{eqb}
 use Rattle.std.specs.Option.{option_map}
-use Rattle.std.specs.Ordering.{nat_cmp}
-use Rattle.std.specs.Cmp.{nat_cmp_total}
-use Rattle.std.specs.FinMap.{FinMap, get, get-empty, get-insert}
 use Rattle.slab.specs.Slab.{Slab, get as slab_get}
 use Rattle.rrv_model.proofs.Threads.{is_at_nat}
 use Rattle.rrv_model.specs.declared.machine.Permissions.{Permissions}
@@ -16,30 +13,30 @@ use Rattle.page_tables.specs.declared.table.Entry.{Entry}
 use Rattle.page_tables.specs.declared.table.Table.{Table}
 use Rattle.page_tables.specs.declared.pool.Page.{Page}
 use Rattle.page_tables.specs.Table.{entry_at}
-use Rattle.page_tables.specs.Contents.{PageValue, Contents, TablesValue, contents_of, value_of, with_entry, gathered}
+use Rattle.page_tables.specs.Contents.{PageValue, Contents, TablesValue, contents_of, value_of, at_number, with_entry, gathered}
 use Rattle.page_tables.specs.Sharing.{slot_at, slot_entry, IsTableOf, AreShared, page_in, value_in, pages_in, kept_in, contents_in}
 use Rattle.page_tables.specs.Changes.{IsNext}
 use Rattle.page_tables.proofs.Sharing.{found}
 
 -- ---- functions as data
 
-with_apart : {X : Type 0} (m : FinMap nat_cmp X) (n q : ℕ) (o : Option X) → eqb n q ≡ false → get (with_entry m n o) q ≡ get m q
+with_apart : {X : Type 0} (m : List (ℕ × X)) (n q : ℕ) (o : Option X) → eqb n q ≡ false → at_number (with_entry m n o) q ≡ at_number m q
 with_apart m n q None e = refl
-with_apart m n q (Some x) e = get-insert nat_cmp_total m n x q ∙ ap (λ b. cond b (Some x) (get m q)) (is_at_nat q n ∙ e)
+with_apart m n q (Some x) e = ap (λ b. cond b (Some x) (at_number m q)) (is_at_nat q n ∙ e)
 
-with_here : {X : Type 0} (m : FinMap nat_cmp X) (n q : ℕ) (o : Option X) → eqb n q ≡ true → get m q ≡ None → get (with_entry m n o) q ≡ o
+with_here : {X : Type 0} (m : List (ℕ × X)) (n q : ℕ) (o : Option X) → eqb n q ≡ true → at_number m q ≡ None → at_number (with_entry m n o) q ≡ o
 with_here m n q None e none = none
-with_here m n q (Some x) e none = get-insert nat_cmp_total m n x q ∙ ap (λ b. cond b (Some x) (get m q)) (is_at_nat q n ∙ e)
+with_here m n q (Some x) e none = ap (λ b. cond b (Some x) (at_number m q)) (is_at_nat q n ∙ e)
 
-pub gathered_above : {X : Type 0} (n : ℕ) (f : ℕ → Option X) (q : ℕ) → n ≤ q → get (gathered n f) q ≡ None
+pub gathered_above : {X : Type 0} (n : ℕ) (f : ℕ → Option X) (q : ℕ) → n ≤ q → at_number (gathered n f) q ≡ None
 unfolding gathered
-gathered_above zero f q h = get-empty nat_cmp q
+gathered_above zero f q h = refl
 gathered_above (suc n) f q h = elim (eqb_tells n q) [
   | inl w ↦ absurd (omega (arith, w.1))
   | inr w ↦ with_apart (gathered n f) n q (f n) w.0 ∙ gathered_above n f q (omega arith)
 ]
 
-pub gathered_below : {X : Type 0} (n : ℕ) (f : ℕ → Option X) (q : ℕ) → q < n → get (gathered n f) q ≡ f q
+pub gathered_below : {X : Type 0} (n : ℕ) (f : ℕ → Option X) (q : ℕ) → q < n → at_number (gathered n f) q ≡ f q
 unfolding gathered
 gathered_below zero f q h = absurd (omega arith)
 gathered_below (suc n) f q h = elim (eqb_tells n q) [
@@ -51,23 +48,23 @@ gathered_below (suc n) f q h = elim (eqb_tells n q) [
 abbrev pub IsBounded : {X : Type 0} → ℕ → (ℕ → Option X) → Type 0
 IsBounded n f = (q : ℕ) → n ≤ q → f q ≡ None
 
-pub gathered_is : {X : Type 0} (n : ℕ) (f : ℕ → Option X) → IsBounded n f → get (gathered n f) ≡ f
+pub gathered_is : {X : Type 0} (n : ℕ) (f : ℕ → Option X) → IsBounded n f → at_number (gathered n f) ≡ f
 gathered_is n f h = λ i q. at q i where
-  at : (q : ℕ) → get (gathered n f) q ≡ f q
+  at : (q : ℕ) → at_number (gathered n f) q ≡ f q
   at q = elim (cases_lt q n) [ inl w ↦ gathered_below n f q w | inr w ↦ gathered_above n f q w ∙ sym (h q w) ]
 
 -- the value of bounded contents stands for them
 pub contents_is : (c : Contents) → IsBounded 0x80000 c.pages → IsBounded 0x80000 c.counts → IsBounded (2 ^ 32) c.kept → ((i : ℕ) → IfSome (c.kept i) (IsBounded 0x80000)) → contents_of (value_of c) ≡ c
 contents_is c pages counts kept each = λ i. record { pages = gathered_is 0x80000 c.pages pages i; counts = gathered_is 0x80000 c.counts counts i; kept = λ j. at j i; live = c.live } where
-  maps : (o : Option (ℕ → Option PageValue)) → IfSome o (IsBounded 0x80000) → option_map get (option_map (gathered 0x80000) o) ≡ o
+  maps : (o : Option (ℕ → Option PageValue)) → IfSome o (IsBounded 0x80000) → option_map at_number (option_map (gathered 0x80000) o) ≡ o
   maps None h = refl
   maps (Some f) h = ap Some (gathered_is 0x80000 f h)
 
   none : IsBounded (2 ^ 32) (λ j. option_map (gathered 0x80000) (c.kept j))
   none = λ j h. ap (option_map (gathered 0x80000)) (kept j h)
 
-  at : (j : ℕ) → option_map get (get (gathered (2 ^ 32) (λ j. option_map (gathered 0x80000) (c.kept j))) j) ≡ c.kept j
-  at j = ap (option_map get) (λ i. gathered_is (2 ^ 32) (λ j. option_map (gathered 0x80000) (c.kept j)) none i j) ∙ maps (c.kept j) (each j)
+  at : (j : ℕ) → option_map at_number (at_number (gathered (2 ^ 32) (λ j. option_map (gathered 0x80000) (c.kept j))) j) ≡ c.kept j
+  at j = ap (option_map at_number) (λ i. gathered_is (2 ^ 32) (λ j. option_map (gathered 0x80000) (c.kept j)) none i j) ∙ maps (c.kept j) (each j)
 
 -- ---- the contents of tables
 
@@ -141,7 +138,7 @@ pub not_false : (b : Bool) → not b ≡ false → b ≡ true
 not_false true e = refl
 not_false false e = absurd (false≢true (sym e))
 
-pub gathered_none : {X : Type 0} (n : ℕ) (f : ℕ → Option X) → ((q : ℕ) → f q ≡ None) → (q : ℕ) → get (gathered n f) q ≡ None
+pub gathered_none : {X : Type 0} (n : ℕ) (f : ℕ → Option X) → ((q : ℕ) → f q ≡ None) → (q : ℕ) → at_number (gathered n f) q ≡ None
 gathered_none n f all q = elim (cases_lt q n) [ inl w ↦ gathered_below n f q w ∙ all q | inr w ↦ gathered_above n f q w ]
 
 -- a live snapshot has a slot

@@ -1,12 +1,13 @@
 -- How calls change what page tables contain.
-use Rattle.std.specs.Prelude.{◌≡◌, ◌≢◌, ℕ, ◌+◌, ◌<◌, ◌≤◌, ◌==◌, Bool, true, false, if◌then◌else◌, List, [], ◌∷◌, Option, Some, None, IsSome, slice_set}
+use Rattle.std.specs.Prelude.{◌≡◌, ◌≢◌, ℕ, ◌+◌, ◌<◌, ◌≤◌, ◌==◌, Bool, true, false, if◌then◌else◌, List, [], ◌∷◌, Option, Some, None, IsSome, slice_set, replicate}
+use Rattle.std.specs.List.{list_any}
 use Rattle.std.specs.Option.{option_map}
 use Rattle.rrv_model.specs.declared.machine.Permissions.{Permissions}
 use Rattle.page_tables.specs.declared.pool.Page.{Page}
 use Rattle.page_tables.specs.declared.page_tables.PageView.{PageView}
 use Rattle.page_tables.specs.declared.page_tables.PutError.{PutError}
 use Rattle.page_tables.specs.declared.page_tables.PutError.TheVariants as errors
-use Rattle.page_tables.specs.Contents.{PageValue, Contents}
+use Rattle.page_tables.specs.Contents.{PageValue, Contents, FillPage}
 
 -- the current table alone has page n: to write it takes no memory
 abbrev pub IsOwn : Contents → ℕ → Type 0
@@ -25,6 +26,7 @@ pub record IsRewritten (bytes : List ℕ) (p q : Page) : Type 0 where
   pub number : q.number ≡ p.number
   pub count : q.count ≡ p.count
   pub bytes_are : q.bytes.value ≡ bytes
+  pub filled : FillPage q.bytes.value
 
 -- nothing changes but page n of the current table, and how many pages there are
 pub record KeepsOthers (n : ℕ) (old new : Contents) : Type 0 where
@@ -141,3 +143,25 @@ abbrev pub IsPutRefusal : Option PageValue → PutError → Type 0
 IsPutRefusal page errors.NotMapped = page ≡ None
 IsPutRefusal page errors.NotAllowed = IsSome page × (allows_write page ≡ false)
 IsPutRefusal page errors.Memory = allows_write page ≡ true
+
+-- ---- several pages
+
+abbrev pub is_listed : List ℕ → ℕ → Bool
+is_listed numbers q = list_any (λ n. n == q) numbers
+
+-- each page of these numbers is its own
+abbrev pub AreOwn : List ℕ → Contents → Type 0
+AreOwn numbers c = (n : ℕ) → is_listed numbers n ≡ true → IsOwn c n
+
+-- a page, or where there is none one of zeros that allows nothing
+abbrev pub page_or_zeros : Option PageValue → PageValue
+page_or_zeros None = record { permissions = record { read = false; write = false; execute = false }; bytes = replicate 4096 0 }
+page_or_zeros (Some p) = p
+
+-- each page of these numbers is its own, and as it was, or of zeros; nothing else changes
+pub record AreOwned (numbers : List ℕ) (old new : Contents) : Type 0 where
+  pub here : (n : ℕ) → is_listed numbers n ≡ true → new.pages n ≡ Some (page_or_zeros (old.pages n))
+  pub own : AreOwn numbers new
+  pub pages : (n : ℕ) → is_listed numbers n ≡ false → new.pages n ≡ old.pages n
+  pub counts : (n : ℕ) → is_listed numbers n ≡ false → new.counts n ≡ old.counts n
+  pub kept : new.kept ≡ old.kept

@@ -2,3 +2,4 @@ pub mod Table
 pub mod Contents
 pub mod Sharing
 pub mod Changes
+pub mod NewPages

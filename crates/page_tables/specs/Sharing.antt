@@ -1,5 +1,5 @@
 -- Tables that share the pages of a pool: a key stands in a table only at its page's own number, a page's count is the
--- number of tables that have it there, and no count is 0.
+-- number of tables that have it there, no count is 0, and each page has 4,096 bytes.
 use Rattle.std.specs.Prelude.{◌≡◌, ◌≢◌, ℕ, zero, suc, ◌+◌, ◌-◌, ◌<◌, ◌≤◌, ◌^◌, ◌==◌, Bool, true, false, ◌&&◌, nat_lt, if◌then◌else◌, List, length, Option, Some, None, IfSome, IsSomeAnd, slice_index_or, count_by}
 use Rattle.std.specs.Option.{option_map}
 use Rattle.slab.specs.Slab.{Slab, get, slab_len}
@@ -8,7 +8,7 @@ use Rattle.page_tables.specs.declared.table.Entry.{Entry}
 use Rattle.page_tables.specs.declared.table.Table.{Table}
 use Rattle.page_tables.specs.declared.pool.Page.{Page}
 use Rattle.page_tables.specs.Table.{entry_at}
-use Rattle.page_tables.specs.Contents.{PageValue, Contents}
+use Rattle.page_tables.specs.Contents.{PageValue, Contents, FillPage}
 
 -- an entry is of the page with this key
 abbrev pub entry_has : Entry → ℕ → Bool
@@ -41,6 +41,7 @@ pub record AreShared (pool : ℕ → Option Page) (t : ℕ → Entry) (kept : Li
   pub slots : (i : ℕ) → IsTableOf pool (slot_at kept i)
   pub counted : (k : ℕ) → IfSome (pool k) (λ p. (p.count ≡ sharers t kept p.number k) × (1 ≤ p.count))
   pub few : length kept < 2 ^ 32 - 1
+  pub filled : (k : ℕ) → IfSome (pool k) (λ p. FillPage p.bytes.value)
 
 -- ---- what they contain
 

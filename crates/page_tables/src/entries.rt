@@ -3,10 +3,11 @@
 ghost use Rattle.std.specs.Prelude.{◌≡◌, ◌≢◌, ℕ, ◌+◌, ◌≤◌, ◌^◌, if◌then◌else◌, IfSome, Some, None, true, false};
 ghost use Rattle.slab.specs.Slab.{get, slab_len, HasRoomFor};
 ghost use Rattle.page_tables.specs.Changes.{freed};
+ghost use Rattle.page_tables.specs.Contents.{FillPage};
 ghost use Rattle.page_tables.specs.Sharing.{IsTableOf, has, lowered, counts_in};
 ghost use Rattle.page_tables.specs.Table.{entry_at, has_leaf};
 
-use crate::pool::{Page, add, lower};
+use crate::pool::{Page, add, fill_page, lower};
 use crate::table::{Entry, NO_PAGE, Table};
 use rrv_model::machine::Permissions;
 use slab::Slab;
@@ -49,7 +50,11 @@ pub(crate) fn attach(
     ensures page { get pool.new result ≡ Some (record { number = number; count = 1; bytes = bytes }) }
     ensures rest { (k : ℕ) → k ≢ result → get pool.new k ≡ get pool.old k }
     ensures len { slab_len pool.new ≡ slab_len pool.old + 1 }
+    ensures room { pool.new.capacity ≡ pool.old.capacity }
+    ensures leaves { (n : ℕ) → has_leaf table.new n ≡ has_leaf table.old n }
+    ensures filled { FillPage bytes.value }
 {
+    fill_page(&bytes);
     let key = add(pool, number, bytes);
     table.set(
         number,

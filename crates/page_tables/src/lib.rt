@@ -2,6 +2,7 @@
 #![tactic(auto)]
 
 mod entries;
+mod new_pages;
 mod page_tables;
 mod pool;
 mod snapshots;

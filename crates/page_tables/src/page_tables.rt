@@ -1,14 +1,15 @@
 //! The current table, those of live snapshots, and the pool of the pages that they share.
 
-ghost use Rattle.std.specs.Prelude.{◌≡◌, ◌≢◌, ℕ, ◌+◌, ◌<◌, ◌≤◌, OnOk, OnErr, IfOk, IfErr, IsSome, IsSomeAnd, IsTrue, Some, None, true, false, length, option_copied, ◌↔◌};
+ghost use Rattle.std.specs.Prelude.{◌≡◌, ◌≢◌, ℕ, ◌+◌, ◌<◌, ◌≤◌, OnOk, OnErr, IfOk, IfErr, IfSome, IsSome, IsSomeAnd, IsTrue, Some, None, true, false, length, replicate, option_copied, ◌↔◌};
 ghost use Rattle.std.specs.Int.{w8, w16, w32, to_le_bytes};
-ghost use Rattle.page_tables.specs.Contents.{contents_of};
-ghost use Rattle.page_tables.specs.Changes.{IsOwn, allows_read, allows_write, allows_execute, IsPutRefusal, bytes_if, IsWritten, IsPlaced, IsRemoved, IsProtected, IsKept, IsReleased, IsNext, IsUnshared, shown};
+ghost use Rattle.page_tables.specs.Contents.{contents_of, ArePages};
+ghost use Rattle.page_tables.specs.Changes.{IsOwn, AreOwn, AreOwned, allows_read, allows_write, allows_execute, IsPutRefusal, bytes_if, IsWritten, IsPlaced, IsRemoved, IsProtected, IsKept, IsReleased, IsNext, IsUnshared, is_listed, shown};
 ghost use Rattle.page_tables.specs.Sharing.{IsTableOf, pages_in};
 ghost use Rattle.page_tables.specs.Table.{entry_at};
 ghost use Rattle.slab.specs.Slab.{get};
 
-use crate::entries::{attach, detach};
+use crate::entries::detach;
+use crate::new_pages::{NewPage, copy_each, install, install_all, make_room_for};
 use crate::pool::{
     Page, copy_bytes, lower_all, put_byte, put_bytes, put_half, put_word, raise_all, reserve_pages,
 };
@@ -52,11 +53,9 @@ pub struct PageTables {
 impl Model for PageTables {
     ghost use Rattle.std.specs.Prelude.{◌≡◌};
     ghost use Rattle.slab.specs.Slab.{get};
-    ghost use Rattle.page_tables.specs.Contents.{TablesValue, value_code, value_of};
+    ghost use Rattle.page_tables.specs.Contents.{TablesValue, value_of};
 
     ghost Value = { TablesValue };
-
-    ghost coded = { value_code };
 
     ghost use Rattle.page_tables.specs.Table.{entry_at};
     ghost use Rattle.page_tables.specs.Sharing.{contents_in, AreShared};
@@ -87,6 +86,18 @@ impl PageTables {
         ensures { result ≡ (contents_of self.now).live }
     {
         self.pool.len()
+    }
+
+    /// A law: with no live snapshot each page is its own; a count stands exactly where a page does; a page has 4,096 bytes.
+    pub fn all_own(&self)
+        ensures own { ((i : ℕ) → (contents_of self.now).kept i ≡ None) →
+            (n : ℕ) → IsSome ((contents_of self.now).pages n) → IsOwn (contents_of self.now) n }
+        ensures counted { (n : ℕ) → (IsSome ((contents_of self.now).pages n) → IsSome ((contents_of self.now).counts n))
+            × (IsSome ((contents_of self.now).counts n) → IsSome ((contents_of self.now).pages n)) }
+        ensures bytes { ArePages (contents_of self.now).pages }
+        ensures kept_bytes { (i : ℕ) → IfSome ((contents_of self.now).kept i) ArePages }
+    {
+        let _ = &self.pool;
     }
 
     /// The page at a number.
@@ -140,6 +151,19 @@ impl PageTables {
         next_in(&self.pool, &self.table, least)
     }
 
+    /// Whether there is a page at a number that the current table alone has: to write it takes no memory.
+    pub fn is_own(&self, number: u32) -> bool
+        ensures yes { result ≡ true → IsOwn (contents_of self.now) number }
+        ensures no { result ≡ false → IsOwn (contents_of self.now) number → ⊥ }
+    {
+        let entry = self.table.entry(number);
+        if !entry.mapped {
+            return false;
+        }
+        let page = &self.pool[entry.key as usize];
+        page.count == 1
+    }
+
     /// Puts a page of its own at a number, in place of what was there; snapshots keep theirs. Refused where a growth is.
     pub fn place(
         &mut self,
@@ -188,8 +212,31 @@ impl PageTables {
     {
         self.table.make_room(self.alloc, number)?;
         reserve_pages(&mut self.pool, 1)?;
-        detach(&mut self.pool, &mut self.table, number);
-        attach(&mut self.pool, &mut self.table, number, permissions, bytes);
+        let page = NewPage {
+            number,
+            permissions,
+            bytes,
+        };
+        install(&mut self.pool, &mut self.table, &self.kept, page);
+        Ok(())
+    }
+
+    /// Makes the pages of these numbers pages of their own, all or none: one that snapshots share is copied, and where there is none
+    /// a page of zeros comes that allows nothing. To write them then takes no memory. A number may stand there twice. Refused where a
+    /// growth is, which is only where some of them isn't its own.
+    pub fn own_each(&mut self, numbers: &[u32]) -> Result<(), AllocError>
+        requires { (n : ℕ) → is_listed numbers.now n ≡ true → n < 0x80000 }
+        ensures owned { OnOk result (AreOwned numbers.now (contents_of self.old) (contents_of self.new)) }
+        ensures err { OnErr result (self.new ≡ self.old) }
+        ensures grows { OnErr result (AreOwn numbers.now (contents_of self.old) → ⊥) }
+    {
+        let copies = copy_each(self.alloc, &self.pool, &self.table, numbers)?;
+        if copies.is_empty() {
+            return Ok(());
+        }
+        make_room_for(self.alloc, &mut self.table, &copies)?;
+        reserve_pages(&mut self.pool, copies.len())?;
+        install_all(&mut self.pool, &mut self.table, &self.kept, copies);
         Ok(())
     }
 
@@ -299,6 +346,17 @@ impl PageTables {
     {
         let entry = self.table.entry(number);
         put_bytes(&mut self.pool, entry.key as usize, at, bytes);
+    }
+
+    /// Fills a page of its own with zeros, and sets its permissions. It takes no memory.
+    pub fn clear(&mut self, number: u32, permissions: Permissions)
+        requires { IsOwn (contents_of self.old) number }
+        ensures { IsPlaced number (record { permissions = permissions; bytes = replicate 4096 0 })
+            (contents_of self.old) (contents_of self.new) }
+    {
+        self.all_own();
+        self.write(number, 0, &[0; 4096]);
+        self.set_permissions(number, permissions);
     }
 
     /// Sets the permissions of the page at a number, where there is one; snapshots keep theirs. It takes no memory.

@@ -4,6 +4,7 @@ ghost use Rattle.std.specs.Prelude.{◌≡◌, ◌≢◌, ℕ, ◌+◌, ◌-◌,
 ghost use Rattle.std.specs.Int.{w8, w16, w32, to_le_bytes};
 ghost use Rattle.slab.specs.Slab.{get, slab_len, ContainsKey, HasRoomFor, Updates};
 ghost use Rattle.page_tables.specs.Changes.{written, IsRewritten};
+ghost use Rattle.page_tables.specs.Contents.{FillPage};
 ghost use Rattle.page_tables.specs.Sharing.{with_count, lowered, lowered_by, raised, raised_by, IsTableOf};
 ghost use Rattle.page_tables.specs.Table.{entry_at};
 
@@ -147,7 +148,8 @@ pub(crate) fn put_bytes(pool: &mut Slab<Page>, key: usize, at: usize, from: &[u8
 #[inline(always)]
 fn write_byte(bytes: &mut [u8; 4096], at: usize, value: u8)
     requires { at + 1 ≤ 4096 }
-    ensures { bytes.new ≡ written bytes.old at (to_le_bytes w8 value) }
+    ensures put { bytes.new ≡ written bytes.old at (to_le_bytes w8 value) }
+    ensures filled { FillPage bytes.new }
 {
     bytes[at] = value;
 }
@@ -155,7 +157,8 @@ fn write_byte(bytes: &mut [u8; 4096], at: usize, value: u8)
 #[inline(always)]
 fn write_half(bytes: &mut [u8; 4096], at: usize, value: u16)
     requires { at + 2 ≤ 4096 }
-    ensures { bytes.new ≡ written bytes.old at (to_le_bytes w16 value) }
+    ensures put { bytes.new ≡ written bytes.old at (to_le_bytes w16 value) }
+    ensures filled { FillPage bytes.new }
 {
     let [first, second] = value.to_le_bytes();
     bytes[at] = first;
@@ -165,7 +168,8 @@ fn write_half(bytes: &mut [u8; 4096], at: usize, value: u16)
 #[inline(always)]
 fn write_word(bytes: &mut [u8; 4096], at: usize, value: u32)
     requires { at + 4 ≤ 4096 }
-    ensures { bytes.new ≡ written bytes.old at (to_le_bytes w32 value) }
+    ensures put { bytes.new ≡ written bytes.old at (to_le_bytes w32 value) }
+    ensures filled { FillPage bytes.new }
 {
     let [first, second, third, fourth] = value.to_le_bytes();
     bytes[at] = first;
@@ -176,9 +180,11 @@ fn write_word(bytes: &mut [u8; 4096], at: usize, value: u32)
 
 fn write_bytes(bytes: &mut [u8; 4096], at: usize, from: &[u8])
     requires { at + length from.now ≤ 4096 }
-    ensures { bytes.new ≡ written bytes.old at from.now }
+    ensures put { bytes.new ≡ written bytes.old at from.now }
+    ensures filled { FillPage bytes.new }
 {
     bytes[at..at + from.len()].copy_from_slice(from);
+    fill_page(bytes);
 }
 
 /// Makes room for so many more pages, which changes none of them. Refused where a growth is, or a key would be too great for an entry.
@@ -210,6 +216,14 @@ pub(crate) fn add(pool: &mut Slab<Page>, number: u32, bytes: Box<[u8; 4096]>) ->
         count: 1,
         bytes,
     }) as u32
+}
+
+/// A law: the bytes of a page fill it.
+#[inline(always)]
+pub(crate) fn fill_page(bytes: &[u8; 4096])
+    ensures { FillPage bytes.now }
+{
+    let _first = bytes[0];
 }
 
 /// A copy of the bytes of a page.

@@ -11,7 +11,8 @@ use Rattle.rrv_model.specs.declared.machine.Permissions.{Permissions}
 use Rattle.rrv_model.specs.declared.record.Line.{Line}
 use Rattle.rrv_model.specs.declared.record.PagePart.{PagePart}
 use Rattle.rrv_model.specs.Memory.{Memory, Cell, byte_or_zero, bytes_at, page_bytes, AlikeCells, IsPaged}
-use Rattle.rrv_model.specs.Checkpoint.{entry_of, line_byte, patched_byte, mapped_as, patched_cell, patched, IsPagePart}
+use Rattle.rrv_model.specs.LineMask.{line_byte}
+use Rattle.rrv_model.specs.Checkpoint.{entry_of, patched_byte, mapped_as, patched_cell, patched, IsPagePart}
 use Rattle.rrv_model.specs.RecordText.{HasLineText, HasPageText}
 use Rattle.rrv_model.proofs.MemoryRules.{Fits, all-bytes_at, get_bytes_at, length_bytes_at}
 use lib.Count.{ones-ones}
@@ -119,7 +120,7 @@ none_alike (Some c) h = absurd h
 all_set : (i : ℕ) → i < 64 → (bit_at (2 ^ 64 - 1) i == 1) ≡ true
 all_set i below = let e = bit_at_ones 64 i below in rw e refl
 
-line_byte_of : (c : Cell) (m : Memory) (n i k : ℕ) → i < 64 → k < 64 → line_byte (entry_by (Some c) m n) i k ≡ byte_or_zero (m (n * page_bytes + 64 * i + k))
+line_byte_of : (c : Cell) (m : Memory) (n i k : ℕ) → i < 64 → k < 64 → line_byte (entry_by (Some c) m n).mask (entry_by (Some c) m n).lines i k ≡ byte_or_zero (m (n * page_bytes + 64 * i + k))
 unfolding entry_by all_lines mask_at
 line_byte_of c m n i k low below =
     let lines = lines_before i low in
@@ -131,7 +132,7 @@ unfolding entry_by mask_at
 byte_of_entry c m n k old low =
     let set = all_set (k / 64) (omega arith) in
     let same : n * page_bytes + 64 * (k / 64) + k % 64 ≡ n * page_bytes + k = omega arith in
-    ap (λ b. cond b (line_byte (entry_by (Some c) m n) (k / 64) (k % 64)) (byte_or_zero old)) set
+    ap (λ b. cond b (line_byte (entry_by (Some c) m n).mask (entry_by (Some c) m n).lines (k / 64) (k % 64)) (byte_or_zero old)) set
     ∙ line_byte_of c m n (k / 64) (k % 64) (omega arith) (omega arith) ∙ ap (λ x. byte_or_zero (m x)) same
 
 some_alike : (c : Cell) (d : Option Cell) → AlikeCells (Some c) d → (let e : Cell = record { byte = byte_or_zero d; permissions = c.permissions } in Some e) ≡ d

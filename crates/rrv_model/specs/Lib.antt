@@ -12,6 +12,7 @@ pub mod Elf
 pub mod Opening
 pub mod StateAt
 pub mod Output
+pub mod LineMask
 pub mod Checkpoint
 pub mod Recording
 pub mod Standing

@@ -111,18 +111,23 @@ fn chosen(alloc: Global, guest: &mut Guest, generator: &mut Xorshift) -> Result<
     Ok(choice)
 }
 
-fn fitting(alloc: Global, elf: &[u8], random: u8, seed: u32) -> Result<Vec<Choice>, Wrong> {
-    let mut guest = guest_of_file(alloc, elf, random).ok_or(Wrong::NoGuest)?;
+/// The choices by which a guest runs to its end.
+fn choices_of(alloc: Global, guest: &mut Guest, seed: u32) -> Result<Vec<Choice>, Wrong> {
     let mut generator = Xorshift::of(seed);
     let mut list = Vec::new(alloc);
     for _ in 0..FITTING_CHOICES {
         if guest.ended().is_some() {
             break;
         }
-        let choice = chosen(alloc, &mut guest, &mut generator)?;
+        let choice = chosen(alloc, guest, &mut generator)?;
         list.push(choice).map_err(AllocError::from)?;
     }
     Ok(list)
+}
+
+fn fitting(alloc: Global, elf: &[u8], random: u8, seed: u32) -> Result<Vec<Choice>, Wrong> {
+    let mut guest = guest_of_file(alloc, elf, random).ok_or(Wrong::NoGuest)?;
+    choices_of(alloc, &mut guest, seed)
 }
 
 /// Why the list was left.
@@ -137,22 +142,33 @@ fn left_of(pair: &Pair, list: &[Choice]) -> Result<Left, Wrong> {
     }
 }
 
-/// Records a guest by a list, and by turns from where the list is left.
-fn record(alloc: Global, elf: &[u8], random: u8, list: &[Choice]) -> Result<Outcome, Wrong> {
+/// Records a pair by a list up to where that is left, and answers why.
+fn record_list(alloc: Global, pair: &mut Pair, list: &[Choice]) -> Result<Left, Wrong> {
     let mut chooser = Listed::new(list.to_vec(alloc)?);
-    let mut pair = Pair::open(alloc, elf, random)?;
     pair.record(alloc, &mut chooser)?;
     if !pair.goes_by(list) {
         return Err(Wrong::OtherSlices);
     }
-    let left = left_of(&pair, list)?;
+    let left = left_of(pair, list)?;
     if chooser.done() != (left != Left::Ended) {
         return Err(Wrong::DoneOrNot);
     }
+    Ok(left)
+}
+
+/// Records a pair by a list, and by turns from where the list is left.
+fn record_pair(alloc: Global, pair: &mut Pair, list: &[Choice]) -> Result<Outcome, Wrong> {
+    let left = record_list(alloc, pair, list)?;
     let unused = list.len().saturating_sub(pair.frames().len());
     pair.record(alloc, &mut RoundRobin::new(TURN))?;
     pair.check()?;
-    Outcome::of(alloc, &pair, left, unused)
+    Outcome::of(alloc, pair, left, unused)
+}
+
+/// Records a guest by a list, and by turns from where the list is left.
+fn record(alloc: Global, elf: &[u8], random: u8, list: &[Choice]) -> Result<Outcome, Wrong> {
+    let mut pair = Pair::open(alloc, elf, random)?;
+    record_pair(alloc, &mut pair, list)
 }
 
 /// Records a guest by the list of a seed.

@@ -40,15 +40,21 @@ impl Pair {
     /// Records a slice, and follows it.
     pub fn slice(&mut self, alloc: Global, choice: Choice) -> Result<(), Wrong> {
         let frame = slice(alloc, &mut self.recorded, choice, &mut Nothing).map_err(Wrong::Refused)?;
-        let number = self.frames.len().saturating_add(1);
-        if follow(alloc, &mut self.follower, &frame).is_err() {
-            return Err(Wrong::NotFollowed(number));
-        }
-        if !self.looks_same(choice.tid) {
-            return Err(Wrong::Differs(number));
-        }
+        self.follow(alloc, &frame, choice.tid)?;
         self.keep_output(alloc, &frame)?;
         Ok(self.frames.push(frame).map_err(AllocError::from)?)
+    }
+
+    /// Follows the frame of a thread's slice.
+    fn follow(&mut self, alloc: Global, frame: &Frame, tid: u32) -> Result<(), Wrong> {
+        let number = self.frames.len().saturating_add(1);
+        if follow(alloc, &mut self.follower, frame).is_err() {
+            return Err(Wrong::NotFollowed(number));
+        }
+        if !self.looks_same(tid) {
+            return Err(Wrong::Differs(number));
+        }
+        Ok(())
     }
 
     /// Records slices until the chooser has no choice more, or the guest has ended.

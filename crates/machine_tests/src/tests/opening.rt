@@ -1,6 +1,6 @@
 //! The 96-byte guest at its start.
 
-use super::rows::{Row, play_on};
+use super::rows::{DONE, Deed, Row, does, play_on};
 use super::same;
 use elf_load::image::parse;
 use guest_opening::{open_space, opening_keeps_rules, opening_thread};
@@ -71,5 +71,26 @@ fn stands_on_its_words(rt: HostRuntime) -> Result<(), Fail> {
         let address = STACK_POINTER + 4 * place as u32;
         play_on(&rt, &mut space, &[Row::Word(address, Some(*word))]);
     }
+    Ok(())
+}
+
+#[test]
+fn counts_a_shared_page_once(rt: HostRuntime) -> Result<(), Fail> {
+    let elf = file_of(rt.alloc(), &EXIT_FIVE)?;
+    let image = parse(rt.alloc(), &elf)?;
+    let mut space = open_space(rt.alloc(), &image, b"a", &[7; 16])?;
+    same(&rt, &"opened", space.live(), 257);
+    let token = space.snapshot()?;
+    same(&rt, &"with a snapshot", space.live(), 257);
+    does(&rt, &mut space, Deed::StoreByte(STACK_POINTER, 9), DONE);
+    same(&rt, &"a page is copied", space.live(), 258);
+    does(&rt, &mut space, Deed::StoreByte(0x7FFF_F000, 8), DONE);
+    same(&rt, &"and no second time", space.live(), 258);
+    let page = space.snapshot_page(&token, 0x7_FFFF);
+    let bytes = page.map(|page| (page.bytes[0xFA0], page.bytes[0]));
+    same(&rt, &"the snapshot's bytes", bytes, Some((1, 0)));
+    same(&rt, &"the byte", space.load_byte(STACK_POINTER), Some(9));
+    space.drop_snapshot(token);
+    same(&rt, &"with none", space.live(), 257);
     Ok(())
 }

@@ -134,7 +134,7 @@ fn memories_are_the_same_or_not(rt: HostRuntime) {
 fn a_loader_fills_what_it_covers(rt: HostRuntime) -> Result<(), Fail> {
     let mut space = Space::new(rt.alloc());
     space.cover(3, CONSTANTS)?;
-    space.fill(0x3FFE, &[1, 2]);
+    space.fill_unshared(0x3FFE, &[1, 2]);
     same(&rt, &"two bytes", space.load_half(0x3FFE), Some(0x0201));
     Ok(())
 }

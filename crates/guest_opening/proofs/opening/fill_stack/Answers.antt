@@ -18,10 +18,11 @@ fill_words-requires c =
       high = omega (arith, place, len, sp, top);
       there = present_on_stack (memory_of c.args.space.now) c.stack_pointer.result (4 * length c.stack_words.result)
           (has_bare c.args.image.now (memory_of c.args.space.now) c.requires.bare) (omega (arith, place, sp)) (omega (arith, place, len, sp, top));
+      alone = c.requires.alone;
     }
 
-pub fill-requires : goal.fill-requires
-fill-requires c =
+pub fill_unshared-requires-clause-there : goal.fill_unshared-requires-clause-there
+fill_unshared-requires-clause-there c =
     let m = memory_of c.args.space.now in
     let m1 = memory_of c.fill_words.new.space in
     let at = c.name_at.ensures in
@@ -29,29 +30,29 @@ fill-requires c =
     let has1 = has_stack_still _ _ m m1 (has_bare c.args.image.now m c.requires.bare) c.fill_words.ensures.memory in
     present_on_stack m1 c.name_at.result (length c.args.name.now) has1 (omega (arith, at, top)) (omega (arith, at, top))
 
-pub fill-requires-2 : goal.fill-requires-2
-fill-requires-2 c =
+pub fill_unshared-requires-2-clause-there : goal.fill_unshared-requires-2-clause-there
+fill_unshared-requires-2-clause-there c =
     let m = memory_of c.args.space.now in
     let m1 = memory_of c.fill_words.new.space in
-    let m2 = memory_of c.fill.new.self in
+    let m2 = memory_of c.fill_unshared.new.self in
     let has1 = has_stack_still _ _ m m1 (has_bare c.args.image.now m c.requires.bare) c.fill_words.ensures.memory in
-    let has2 = has_stack_still _ _ m1 m2 has1 c.fill.ensures.memory in
+    let has2 = has_stack_still _ _ m1 m2 has1 c.fill_unshared.ensures.memory in
     present_on_stack m2 0x7FFFFFEF 1 has2 (omega arith) (omega arith)
 
-pub fill-requires-3 : goal.fill-requires-3
-fill-requires-3 c =
+pub fill_unshared-requires-3-clause-there : goal.fill_unshared-requires-3-clause-there
+fill_unshared-requires-3-clause-there c =
     let m = memory_of c.args.space.now in
     let m1 = memory_of c.fill_words.new.space in
-    let m2 = memory_of c.fill.new.self in
-    let m3 = memory_of c.fill-2.new.self in
+    let m2 = memory_of c.fill_unshared.new.self in
+    let m3 = memory_of c.fill_unshared-2.new.self in
     let has1 = has_stack_still _ _ m m1 (has_bare c.args.image.now m c.requires.bare) c.fill_words.ensures.memory in
-    let has2 = has_stack_still _ _ m1 m2 has1 c.fill.ensures.memory in
-    let has3 = has_stack_still 0x7FFFFFEF (0 ∷ []) m2 m3 has2 c.fill-2.ensures.memory in
+    let has2 = has_stack_still _ _ m1 m2 has1 c.fill_unshared.ensures.memory in
+    let has3 = has_stack_still 0x7FFFFFEF (0 ∷ []) m2 m3 has2 c.fill_unshared-2.ensures.memory in
     let sixteen = c.told-random in
     present_on_stack m3 0x7FFFFFF0 (length c.args.random.now) has3 (omega arith) (omega (arith, sixteen))
 
 pub returns-clause-memory : goal.returns-clause-memory
 returns-clause-memory c =
     stack_filled c.args.image.now c.args.name.now c.args.random.now c.stack_pointer.result c.name_at.result c.stack_words.result
-    (memory_of c.args.space.now) (memory_of c.fill_words.new.space) (memory_of c.fill.new.self) (memory_of c.fill-2.new.self) (memory_of c.fill-3.new.self)
-    c.requires.name c.requires.bare c.stack_pointer.ensures c.stack_words.ensures c.name_at.ensures c.fill_words.ensures.memory c.fill.ensures.memory c.fill-2.ensures.memory c.fill-3.ensures.memory
+    (memory_of c.args.space.now) (memory_of c.fill_words.new.space) (memory_of c.fill_unshared.new.self) (memory_of c.fill_unshared-2.new.self) (memory_of c.fill_unshared-3.new.self)
+    c.requires.name c.requires.bare c.stack_pointer.ensures c.stack_words.ensures c.name_at.ensures c.fill_words.ensures.memory c.fill_unshared.ensures.memory c.fill_unshared-2.ensures.memory c.fill_unshared-3.ensures.memory

@@ -1,8 +1,8 @@
-use Rattle.std.proofs.Common.{ℕ, List, length, ap, refl, sym, ◌∙◌, subst}
+use Rattle.std.proofs.Common.{ℕ, List, Option, length, ap, refl, sym, ◌∙◌, subst}
 use Rattle.std.proofs.lemmas.List.{length_push}
 use Rattle.std.proofs.lemmas.Iterator.Adapters.{YieldsList-from_rev_slice}
 use Rattle.std.proofs.lemmas.Iterator.Consumers.{YieldsList-turn, YieldsList-end}
-use Rattle.rrv_model.specs.Memory.{stored}
+use Rattle.rrv_model.specs.Memory.{Memory, stored}
 use Rattle.rrv_model.specs.Elf.{loads, IsLoad}
 use Rattle.guest_pages.specs.Space.{memory_of}
 use Rattle.guest_opening.specs.Loading.{file_bytes}
@@ -10,7 +10,7 @@ use Rattle.guest_opening.proofs.LoadWalk.{is_next, next_has_room, next_is_there,
 use Rattle.guest_opening.proofs.opening.load_image.Goals as goal
 
 pub loop-load-init : goal.loop-load-init
-loop-load-init c = (walk_begins c.args.image.now (memory_of c.args.space.now) c.requires, refl)
+loop-load-init c = (walk_begins c.args.image.now (memory_of c.args.space.now) c.requires.empty, refl)
 
 pub cover_load-requires : goal.cover_load-requires
 cover_load-requires c =
@@ -27,6 +27,7 @@ fill_load-requires c =
     record {
       load = subst (λ (f : List ℕ). IsLoad f c.in-Some.load.now) (sym c.elf-file.ensures.value) next.load;
       there = next_is_there file c.in-Some.load.now (memory_of c.loop-load.space) (memory_of c.cover_load.new.space) next.load c.in_ok-cover_load.ensures.memory;
+      alone = λ n. ap (λ (kept : ℕ → Option Memory). kept n) (c.cover_load.ensures.snapshots ∙ c.loop-load.invariant.1) ∙ c.requires.alone n;
     }
 
 pub loop-load-preserved : goal.loop-load-preserved

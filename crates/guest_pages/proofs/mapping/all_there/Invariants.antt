@@ -1,7 +1,7 @@
 use Rattle.std.proofs.Common.{◌≡◌, ◌-◌, true}
 use Rattle.rrv_model.specs.Memory.{all_mapped}
-use Rattle.guest_pages.specs.Space.{memory_in}
+use Rattle.guest_pages.specs.Space.{memory_of}
 use Rattle.guest_pages.proofs.mapping.all_there.Given as goal
 
 abbrev pub invariant-loop-number : goal.invariant-loop-number
-invariant-loop-number l = all_mapped (memory_in l.pages.entries) l.first (l.number-counter - l.first) ≡ true
+invariant-loop-number l = all_mapped (memory_of l.tables) l.first (l.number - l.first) ≡ true

@@ -1,16 +1,13 @@
-use Rattle.std.proofs.Common.{◌≡◌, ℕ, ◌<◌, ◌≤◌, length}
-use Rattle.std.specs.Ordering.{nat_cmp}
-use Rattle.std.specs.Map.{keys_of}
-use Rattle.std.specs.List.Sorted.{IsStrictlySortedBy}
-use Rattle.guest_pages.specs.Space.{page_at}
-use Rattle.guest_pages.specs.Mapping.{AreProtected}
+use Rattle.std.proofs.Common.{◌≡◌, ℕ, ◌<◌, ◌≤◌}
+use Rattle.std.specs.Option.{option_map}
+use Rattle.page_tables.specs.Contents.{contents_of}
+use Rattle.page_tables.specs.Changes.{with_permissions}
 use Rattle.guest_pages.proofs.mapping.protect_range.Given as goal
 
 abbrev pub invariant-loop-number : goal.invariant-loop-number
 invariant-loop-number l = record {
-  protected : (q : ℕ) → l.first ≤ q → q < l.number → AreProtected l.permissions (page_at l.initial.pages.entries q) (page_at l.pages.entries q);
-  below : (q : ℕ) → q < l.first → page_at l.pages.entries q ≡ page_at l.initial.pages.entries q;
-  above : (q : ℕ) → l.number ≤ q → page_at l.pages.entries q ≡ page_at l.initial.pages.entries q;
-  ordered : IsStrictlySortedBy nat_cmp (keys_of l.pages.entries);
-  len : length l.pages.entries ≡ length l.initial.pages.entries;
+  protected : (q : ℕ) → l.first ≤ q → q < l.number → (contents_of l.tables).pages q ≡ option_map (with_permissions l.permissions) ((contents_of l.initial.tables).pages q);
+  below : (q : ℕ) → q < l.first → (contents_of l.tables).pages q ≡ (contents_of l.initial.tables).pages q;
+  above : (q : ℕ) → l.number ≤ q → (contents_of l.tables).pages q ≡ (contents_of l.initial.tables).pages q;
+  kept : (contents_of l.tables).kept ≡ (contents_of l.initial.tables).kept;
 }

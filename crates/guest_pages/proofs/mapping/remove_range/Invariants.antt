@@ -1,15 +1,16 @@
-use Rattle.std.proofs.Common.{◌≡◌, ℕ, ◌<◌, ◌≤◌, None, length}
-use Rattle.std.specs.Ordering.{nat_cmp}
-use Rattle.std.specs.Map.{keys_of}
-use Rattle.std.specs.List.Sorted.{IsStrictlySortedBy}
-use Rattle.guest_pages.specs.Space.{page_at}
+use Rattle.std.proofs.Common.{◌≡◌, ℕ, ◌+◌, ◌-◌, ◌<◌, ◌≤◌, None}
+use Rattle.rrv_model.specs.Memory.{page_count}
+use Rattle.page_tables.specs.Contents.{contents_of}
+use Rattle.guest_pages.specs.Space.{memory_of, AreEachPage}
 use Rattle.guest_pages.proofs.mapping.remove_range.Given as goal
 
 abbrev pub invariant-loop-number : goal.invariant-loop-number
 invariant-loop-number l = record {
-  removed : (q : ℕ) → l.first ≤ q → q < l.number → page_at l.pages.entries q ≡ None;
-  below : (q : ℕ) → q < l.first → page_at l.pages.entries q ≡ page_at l.initial.pages.entries q;
-  above : (q : ℕ) → l.number ≤ q → page_at l.pages.entries q ≡ page_at l.initial.pages.entries q;
-  ordered : IsStrictlySortedBy nat_cmp (keys_of l.pages.entries);
-  len : length l.pages.entries ≤ length l.initial.pages.entries;
+  removed : (q : ℕ) → l.first ≤ q → q < l.number → (contents_of l.tables).pages q ≡ None;
+  below : (q : ℕ) → q < l.first → (contents_of l.tables).pages q ≡ (contents_of l.initial.tables).pages q;
+  above : (q : ℕ) → l.number ≤ q → (contents_of l.tables).pages q ≡ (contents_of l.initial.tables).pages q;
+  each : AreEachPage (contents_of l.tables).pages;
+  kept : (contents_of l.tables).kept ≡ (contents_of l.initial.tables).kept;
+  count : page_count (memory_of l.tables) + l.gone ≡ page_count (memory_of l.initial.tables);
+  few : l.gone ≤ l.number - l.first;
 }

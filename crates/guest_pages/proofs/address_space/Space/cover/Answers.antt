@@ -1,61 +1,77 @@
-use Rattle.std.proofs.Common.{◌≡◌, ◌∙◌, ◌+◌, None, length, sym, ap, arith}
+use Rattle.std.proofs.Common.{◌≡◌, ◌∙◌, ◌+◌, ◌≤◌, ℕ, Some, is_some, false, sym, ap, subst, arith}
+use Rattle.rrv_model.specs.declared.limits.TheConstants.{MAX_PAGES}
 use Rattle.rrv_model.specs.Memory.{page_count, is_mapped}
-use Rattle.guest_pages.specs.Space.{SpaceValue, memory_of, page_at}
+use Rattle.page_tables.specs.Contents.{contents_of}
+use Rattle.page_tables.specs.Changes.{shown}
+use Rattle.guest_pages.specs.Space.{SpaceValue, memory_of}
 use Rattle.guest_pages.specs.Mapping.{covered}
-use Rattle.guest_pages.proofs.Facts.{is_mapped_in}
-use Rattle.guest_pages.proofs.MissingPages.{found_page, no_page, joined_pages, covered_joined, page_count_covered, added_pages, covered_added}
+use Rattle.guest_pages.proofs.Facts.{is_mapped_in, count_alike}
+use Rattle.guest_pages.proofs.MissingPages.{joined_each, joined_there, covered_joined, page_count_covered, covered_each, covered_added}
+use Rattle.guest_pages.proofs.Spaces.{is_space}
 use Rattle.guest_pages.proofs.address_space.Space.cover.Goals as goal
 
 pub invariant_of-self : goal.invariant_of-self
 invariant_of-self c =
-    let pages = c.self.inside.pages.entries in
-    let found = found_page (page_at pages c.args.page) (sym c.contains_key.ensures ∙ c.if-contains_key.true) in
-    joined_pages pages c.join_permissions.new.pages.entries c.args.permissions found.0 c.args.page c.self.invariant c.requires.readable found.1 (c.join_permissions.ensures.here found.0 found.1) c.join_permissions.ensures.others
-    c.join_permissions.ensures.ordered c.join_permissions.ensures.len
+    let pages = (contents_of c.self.inside.tables).pages in
+    let after = (contents_of c.set_permissions.new.self).pages in
+    let set = c.set_permissions.ensures in
+    let found = sym c.page.ensures ∙ ap shown c.in-Some.is in
+    let same : page_count (memory_of c.set_permissions.new.self) ≡ page_count (memory_of c.self.inside.tables) =
+    count_alike pages after (joined_there pages after c.union-joined.result c.args.page set.page set.rest.pages) in
+    is_space c.self.inside.tables c.set_permissions.new.self c.self.inside.mapped c.self.inside.mapped c.self.invariant
+    (joined_each pages after c.args.permissions c.union-joined.result _ c.args.page c.union-joined.ensures c.self.invariant.pages.each c.requires.readable found set.page set.rest.pages)
+    set.rest.kept (c.self.invariant.count ∙ sym same) (subst (λ (k : ℕ). k ≤ MAX_PAGES) (sym c.self.invariant.count) c.self.invariant.pages.limit)
 
-pub returns-then-contains_key-clause-covered : goal.returns-then-contains_key-clause-covered
-returns-then-contains_key-clause-covered c =
-    let pages = c.self.inside.pages.entries in
-    let found = found_page (page_at pages c.args.page) (sym c.contains_key.ensures ∙ c.if-contains_key.true) in
-    covered_joined pages c.join_permissions.new.pages.entries c.args.permissions found.0 c.args.page found.1 (c.join_permissions.ensures.here found.0 found.1) c.join_permissions.ensures.others
+pub returns-in-Some-clause-covered : goal.returns-in-Some-clause-covered
+returns-in-Some-clause-covered c =
+    let set = c.set_permissions.ensures in
+    covered_joined (contents_of c.self.inside.tables).pages (contents_of c.set_permissions.new.self).pages c.args.permissions c.union-joined.result _ c.args.page c.union-joined.ensures
+    (sym c.page.ensures ∙ ap shown c.in-Some.is) set.page set.rest.pages
     ∙ ap (λ (s : SpaceValue). covered c.args.page c.args.permissions (memory_of s)) c.self.view_is
 
-pub returns-then-len-clause-refused : goal.returns-then-len-clause-refused
-returns-then-len-clause-refused c =
-    let pages = c.self.inside.pages.entries in
-    let absent : page_at pages c.args.page ≡ None = no_page (page_at pages c.args.page) (sym c.contains_key.ensures ∙ c.if-contains_key.false) in
-    let total : page_count (covered c.args.page c.args.permissions (memory_of c.args.self.now)) ≡ length pages + 1 =
-    ap (λ (s : SpaceValue). page_count (covered c.args.page c.args.permissions (memory_of s))) (sym c.self.view_is) ∙ page_count_covered pages c.args.permissions c.args.page c.self.invariant c.requires.high absent in
-    omega (arith, total, c.len.ensures.len)
+pub returns-then-self-ge-MAX_PAGES-clause-refused : goal.returns-then-self-ge-MAX_PAGES-clause-refused
+returns-then-self-ge-MAX_PAGES-clause-refused c =
+    let absent = sym c.page.ensures ∙ ap shown c.in_default.is in
+    let total : page_count (covered c.args.page c.args.permissions (memory_of c.args.self.now)) ≡ page_count (memory_of c.self.inside.tables) + 1 =
+    ap (λ (s : SpaceValue). page_count (covered c.args.page c.args.permissions (memory_of s))) (sym c.self.view_is)
+    ∙ page_count_covered (contents_of c.self.inside.tables).pages c.args.permissions c.args.page c.requires.high absent in
+    let count = c.self.invariant.count in
+    omega (arith, total, count, c.if-self-ge-MAX_PAGES.true)
 
-pub returns-in_default-clause-refused : goal.returns-in_default-clause-refused
-returns-in_default-clause-refused c =
-    let pages = c.self.inside.pages.entries in
-    let absent : page_at pages c.args.page ≡ None = no_page (page_at pages c.args.page) (sym c.contains_key.ensures ∙ c.if-contains_key.false) in
-    let total : page_count (covered c.args.page c.args.permissions (memory_of c.args.self.now)) ≡ length pages + 1 =
-    ap (λ (s : SpaceValue). page_count (covered c.args.page c.args.permissions (memory_of s))) (sym c.self.view_is) ∙ page_count_covered pages c.args.permissions c.args.page c.self.invariant c.requires.high absent in
-    omega (arith, total, c.len.ensures.len)
+pub returns-then-self-ge-MAX_PAGES-clause-grows : goal.returns-then-self-ge-MAX_PAGES-clause-grows
+returns-then-self-ge-MAX_PAGES-clause-grows c =
+    ap (λ (s : SpaceValue). is_mapped (memory_of s) c.args.page) (sym c.self.view_is)
+    ∙ is_mapped_in (contents_of c.self.inside.tables).pages c.args.page ∙ ap is_some (sym c.page.ensures ∙ ap shown c.in_default.is)
+
+pub returns-in_default-place-clause-refused : goal.returns-in_default-place-clause-refused
+returns-in_default-place-clause-refused c =
+    let absent = sym c.page.ensures ∙ ap shown c.in_default.is in
+    let total : page_count (covered c.args.page c.args.permissions (memory_of c.args.self.now)) ≡ page_count (memory_of c.self.inside.tables) + 1 =
+    ap (λ (s : SpaceValue). page_count (covered c.args.page c.args.permissions (memory_of s))) (sym c.self.view_is)
+    ∙ page_count_covered (contents_of c.self.inside.tables).pages c.args.permissions c.args.page c.requires.high absent in
+    let count = c.self.invariant.count in
+    omega (arith, total, count, c.if-self-ge-MAX_PAGES.false)
+
+pub returns-in_default-place-clause-grows : goal.returns-in_default-place-clause-grows
+returns-in_default-place-clause-grows c =
+    ap (λ (s : SpaceValue). is_mapped (memory_of s) c.args.page) (sym c.self.view_is)
+    ∙ is_mapped_in (contents_of c.self.inside.tables).pages c.args.page ∙ ap is_some (sym c.page.ensures ∙ ap shown c.in_default.is)
 
 pub invariant_of-self-2 : goal.invariant_of-self-2
 invariant_of-self-2 c =
-    let pages = c.self.inside.pages.entries in
-    let absent : page_at pages c.args.page ≡ None = no_page (page_at pages c.args.page) (sym c.contains_key.ensures ∙ c.if-contains_key.false) in
-    added_pages pages c.add_page.new.pages.entries c.args.permissions c.args.page c.self.invariant c.requires.low c.requires.high c.requires.readable (omega (arith, c.len.ensures.len)) absent
-    c.in-Ok.ensures.ordered c.in-Ok.ensures.here c.add_page.ensures.others
+    let pages = (contents_of c.self.inside.tables).pages in
+    let after = (contents_of c.place.new.self).pages in
+    let put = c.in-Ok.ensures.placed in
+    let absent = sym c.page.ensures ∙ ap shown c.in_default.is in
+    let total : page_count (memory_of c.place.new.self) ≡ page_count (memory_of c.self.inside.tables) + 1 =
+    ap page_count (covered_added pages after c.args.permissions c.args.page absent put.here put.rest.pages) ∙ page_count_covered pages c.args.permissions c.args.page c.requires.high absent in
+    let count = c.self.invariant.count in
+    is_space c.self.inside.tables c.place.new.self c.self.inside.mapped _ c.self.invariant
+    (covered_each pages after c.args.permissions c.args.page c.self.invariant.pages.each c.requires.low c.requires.high c.requires.readable put.here put.rest.pages)
+    put.rest.kept (omega (arith, total, count)) (omega (arith, c.if-self-ge-MAX_PAGES.false))
 
 pub returns-clause-covered : goal.returns-clause-covered
 returns-clause-covered c =
-    let pages = c.self.inside.pages.entries in
-    let absent : page_at pages c.args.page ≡ None = no_page (page_at pages c.args.page) (sym c.contains_key.ensures ∙ c.if-contains_key.false) in
-    covered_added pages c.add_page.new.pages.entries c.args.permissions c.args.page absent c.in-Ok.ensures.here c.add_page.ensures.others
+    let put = c.in-Ok.ensures.placed in
+    covered_added (contents_of c.self.inside.tables).pages (contents_of c.place.new.self).pages c.args.permissions c.args.page (sym c.page.ensures ∙ ap shown c.in_default.is) put.here put.rest.pages
     ∙ ap (λ (s : SpaceValue). covered c.args.page c.args.permissions (memory_of s)) c.self.view_is
-
-pub returns-then-len-clause-grows : goal.returns-then-len-clause-grows
-returns-then-len-clause-grows c =
-    ap (λ (s : SpaceValue). is_mapped (memory_of s) c.args.page) (sym c.self.view_is)
-    ∙ is_mapped_in c.self.inside.pages.entries c.args.page ∙ sym c.contains_key.ensures ∙ c.if-contains_key.false
-
-pub returns-in_default-clause-grows : goal.returns-in_default-clause-grows
-returns-in_default-clause-grows c =
-    ap (λ (s : SpaceValue). is_mapped (memory_of s) c.args.page) (sym c.self.view_is)
-    ∙ is_mapped_in c.self.inside.pages.entries c.args.page ∙ sym c.contains_key.ensures ∙ c.if-contains_key.false

@@ -1,21 +1,22 @@
-use Rattle.std.proofs.Common.{ℕ, None, IsSome, ◌∙◌, ap, sym, subst}
-use Rattle.guest_pages.specs.Space.{SpaceValue, snapshots_of, kept_at}
+use Rattle.std.proofs.Common.{◌∙◌, ℕ, None, IsSome, ap, sym, subst}
+use Rattle.page_tables.specs.Contents.{contents_of}
+use Rattle.guest_pages.specs.Space.{SpaceValue, snapshots_of}
 use Rattle.guest_pages.proofs.SnapshotPages.{live_kept, memory_kept, still_kept}
 use Rattle.guest_pages.proofs.address_space.Space.drop_snapshot.Goals as goal
 
 pub release-requires : goal.release-requires
 release-requires c =
-    subst (λ (n : ℕ). IsSome (kept_at c.self.inside.snapshots.items n)) (sym c.number.ensures)
-    (live_kept c.self.inside.snapshots.items c.args.snapshot
+    subst (λ (n : ℕ). IsSome ((contents_of c.self.inside.tables).kept n)) (sym c.number.ensures)
+    (live_kept (contents_of c.self.inside.tables).kept c.args.snapshot
     (subst (λ (s : SpaceValue). IsSome (snapshots_of s c.args.snapshot)) (sym c.self.view_is) c.requires))
 
 pub returns-clause-gone : goal.returns-clause-gone
 returns-clause-gone c =
-    memory_kept c.release.new.slots.items c.args.snapshot None
-    (ap (kept_at c.release.new.slots.items) (sym c.number.ensures) ∙ c.release.ensures.gone)
+    memory_kept (contents_of c.release.new.self).kept c.args.snapshot None
+    (ap (contents_of c.release.new.self).kept (sym c.number.ensures) ∙ c.release.ensures.gone)
 
 pub returns-clause-others : goal.returns-clause-others
 returns-clause-others c = λ n apart.
-    still_kept c.self.inside.snapshots.items c.release.new.slots.items n
+    still_kept (contents_of c.self.inside.tables).kept (contents_of c.release.new.self).kept n
     (c.release.ensures.others n (λ e. apart (e ∙ c.number.ensures)))
     ∙ ap (λ (s : SpaceValue). snapshots_of s n) c.self.view_is

@@ -1,23 +1,15 @@
-use Rattle.std.proofs.Common.{refl, ◌∙◌, ap, sym, subst, arith, IsSome}
+use Rattle.std.proofs.Common.{◌∙◌, ap, arith}
 use Rattle.rrv_model.specs.Memory.{stored}
-use Rattle.guest_pages.specs.Space.{SpaceValue, memory_of, snapshots_of}
-use Rattle.guest_pages.proofs.Stores.{page_there, stored_through, kept_through}
+use Rattle.guest_pages.specs.Space.{SpaceValue, memory_of}
+use Rattle.guest_pages.proofs.Stores.{stored_space, stored_memory}
 use Rattle.guest_pages.proofs.address_space.Space.fill_page.Goals as goal
-
-pub unreachable-requires : goal.unreachable-requires
-unreachable-requires c =
-    page_there c.self.inside.pages.entries c.args.address (subst (λ (s : SpaceValue). IsSome (memory_of s c.args.address)) (sym c.self.view_is) c.requires.there) (sym c.in_default.ensures.value)
 
 pub invariant_of-self : goal.invariant_of-self
 invariant_of-self c =
-    kept_through c.self.inside.pages.entries _ c.in-Some.page.now _ c.args.address c.args.bytes.now _ c.in-Some.ensures.value (λ t. ((c.get_mut.follows.holds _).3 t).0) (c.get_mut.follows.holds _).4 (c.get_mut.follows.holds _).2 refl c.deref_mut.ensures.value c.put_bytes.ensures.bytes
-    (λ k. omega (arith, c.type_inv.bytes k)) c.self.invariant
-
-pub returns-clause-snapshots : goal.returns-clause-snapshots
-returns-clause-snapshots c = ap (λ (s : SpaceValue). snapshots_of s) c.self.view_is
+    stored_space c.self.inside.tables c.write.new.self c.self.inside.mapped _ _ c.args.bytes.now c.self.invariant c.write.ensures
+    (omega (arith, c.requires.fits)) (λ k. omega (arith, c.type_inv.bytes k))
 
 pub returns-clause-memory : goal.returns-clause-memory
 returns-clause-memory c =
-    stored_through c.self.inside.pages.entries _ c.in-Some.page.now _ c.args.address c.args.bytes.now _ c.in-Some.ensures.value (λ t. ((c.get_mut.follows.holds _).3 t).0) refl c.deref_mut.ensures.value c.put_bytes.ensures.bytes
-    c.requires.fits c.put_bytes.ensures.full
+    stored_memory c.self.inside.tables c.write.new.self _ _ c.args.address c.args.bytes.now c.self.invariant.pages.each c.write.ensures (omega (arith, c.requires.low)) (omega (arith, c.requires.fits))
     ∙ ap (λ (s : SpaceValue). stored c.args.address c.args.bytes.now (memory_of s)) c.self.view_is

@@ -1,22 +1,19 @@
-use Rattle.std.proofs.Common.{◌≡◌, ℕ, ◌+◌, ◌-◌, ◌<◌, ◌∙◌, List, true, is_some, length, take, drop, sym, ap, arith}
+use Rattle.std.proofs.Common.{◌≡◌, ℕ, ◌+◌, ◌-◌, ◌/◌, ◌<◌, ◌∙◌, List, length, take, drop, sym, ap, subst, arith}
 use Rattle.std.proofs.lemmas.List.{drop-drop}
 use Rattle.rrv_model.specs.Memory.{Memory, stored}
+use Rattle.page_tables.specs.Contents.{contents_of}
+use Rattle.page_tables.specs.Changes.{IsOwn}
 use Rattle.guest_pages.specs.Space.{memory_of}
-use Rattle.guest_pages.proofs.Cells.{one_of_all}
-use Rattle.guest_pages.proofs.Stores.{is_some_stored, one_part}
+use Rattle.guest_pages.proofs.Stores.{one_part}
 use Rattle.guest_pages.proofs.address_space.Space.fill_pages.Goals as goal
 
-pub fill_page-requires-clause-there : goal.fill_page-requires-clause-there
-fill_page-requires-clause-there c =
+pub fill_page-requires-clause-own : goal.fill_page-requires-clause-own
+fill_page-requires-clause-own c =
+    let held = c.loop-rest.invariant in
     let k : ℕ = c.loop-rest.at - c.args.address in
     let place : c.args.address + k ≡ c.loop-rest.at = grind arith in
     let within : k < length c.args.bytes.now = grind arith in
-    let before : is_some (memory_of c.args.self.now (c.args.address + k)) ≡ true = one_of_all is_some (memory_of c.args.self.now) c.args.address (length c.args.bytes.now) k c.requires.there within in
-    let same : memory_of c.loop-rest.self ≡ stored c.args.address (take k c.args.bytes.now) (memory_of c.args.self.now) = c.loop-rest.invariant.memory in
-    ap (λ (m : Memory). is_some (m c.loop-rest.at)) same
-    ∙ is_some_stored c.args.address (take k c.args.bytes.now) (memory_of c.args.self.now) c.loop-rest.at
-    ∙ ap (λ (x : ℕ). is_some (memory_of c.args.self.now x)) (sym place)
-    ∙ before
+    held.own (c.loop-rest.at / 4096) (subst (λ (x : ℕ). IsOwn (contents_of c.args.self.now) (x / 4096)) place (c.requires.fill.1 k within))
 
 pub loop-rest-preserved : goal.loop-rest-preserved
 loop-rest-preserved c =
@@ -32,4 +29,5 @@ loop-rest-preserved c =
           ∙ one_part c.args.address c.loop-rest.at n c.args.bytes.now c.loop-rest.rest.now c.split_at.result.0.now (memory_of c.args.self.now) held.begun held.len held.rest
           (c.split_at.ensures.front ∙ ap (λ (j : ℕ). take j c.loop-rest.rest.now) (sym c.split_at.ensures.front_len)) (omega (arith, c.split_at.ensures.front_len, c.min.ensures));
       snapshots = c.fill_page.ensures.snapshots ∙ held.snapshots;
+      own = λ n o. c.fill_page.ensures.own n (held.own n o);
     }

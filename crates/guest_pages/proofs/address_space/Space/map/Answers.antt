@@ -1,74 +1,94 @@
-use Rattle.std.proofs.Common.{◌≡◌, ◌∙◌, ℕ, ◌+◌, ◌*◌, ◌≤◌, List, true, false, IsSome, length, sym, ap, subst, arith}
-use Rattle.rrv_model.specs.declared.machine.Permissions.{Permissions}
-use Rattle.rrv_model.specs.Memory.{all_mapped, mapped, page_count, page_bytes}
-use Rattle.guest_pages.specs.Space.{SpaceValue, ArePages, memory_of, page_at}
-use Rattle.guest_pages.specs.Mapping.{missing, has_number}
-use Rattle.guest_pages.proofs.MissingPages.{missing_some, page_count_mapped, absent_before, mapped_in, pages_mapped, cleared_after, others_after}
+use Rattle.std.proofs.Common.{◌≡◌, ◌∙◌, ℕ, ◌+◌, ◌*◌, List, true, false, sym, ap, subst, arith}
+use Rattle.rrv_model.specs.Memory.{mapped, page_count, page_bytes}
+use Rattle.page_tables.specs.Contents.{contents_of}
+use Rattle.page_tables.specs.Changes.{is_listed, IsOwn, AreOwned}
+use Rattle.guest_pages.specs.Space.{SpaceValue, memory_of}
+use Rattle.guest_pages.specs.Mapping.{AreOwnIn}
+use Rattle.guest_pages.proofs.MissingPages.{page_count_mapped, mapped_in, mapped_each, others_after}
+use Rattle.guest_pages.proofs.OwnPages.{all_own_in}
+use Rattle.guest_pages.proofs.Spaces.{is_space}
 use Rattle.guest_pages.proofs.address_space.Space.map.Goals as goal
 
--- how many pages are mapped once the missing ones are added
-count_after : {inside s : SpaceValue} (permissions : Permissions) (page count : ℕ) → ArePages inside.pages → inside ≡ s → page + count ≤ 0x80000 →
-    page_count (mapped (page * page_bytes) (count * page_bytes) permissions (memory_of s)) ≡ length inside.pages + length (missing inside.pages page count)
-count_after {inside} {s} permissions page count h view high =
-    ap (λ (t : SpaceValue). page_count (mapped (page * page_bytes) (count * page_bytes) permissions (memory_of t))) (sym view)
-    ∙ page_count_mapped inside.pages permissions page count h high
+pub overflow_add-self-inside : goal.overflow_add-self-inside
+overflow_add-self-inside c =
+    let count = c.self.invariant.count in
+    let limit = c.self.invariant.pages.limit in
+    omega (arith, count, limit, c.count_missing-more.ensures.few, c.requires.high)
 
-pub returns-then-len-more-clause-refused : goal.returns-then-len-more-clause-refused
-returns-then-len-more-clause-refused c =
-    let count = count_after c.args.permissions c.args.page c.args.count c.self.invariant c.self.view_is c.requires.high in
-    omega (arith, c.len.ensures.len, c.count_missing-more.ensures, count)
+pub returns-then-self-more-gt-MAX_PAGES-clause-refused : goal.returns-then-self-more-gt-MAX_PAGES-clause-refused
+returns-then-self-more-gt-MAX_PAGES-clause-refused c =
+    let total : page_count (mapped (c.args.page * page_bytes) (c.args.count * page_bytes) c.args.permissions (memory_of c.args.self.now)) ≡ page_count (memory_of c.self.inside.tables) + c.count_missing-more.result =
+    ap (λ (s : SpaceValue). page_count (mapped (c.args.page * page_bytes) (c.args.count * page_bytes) c.args.permissions (memory_of s))) (sym c.self.view_is)
+    ∙ page_count_mapped (contents_of c.self.inside.tables).pages c.args.permissions c.args.page c.args.count c.requires.high
+    ∙ ap (λ (k : ℕ). page_count (memory_of c.self.inside.tables) + k) (sym c.count_missing-more.ensures.count) in
+    let count = c.self.invariant.count in
+    omega (arith, total, count, c.if-self-more-gt-MAX_PAGES.true)
+
+pub returns-then-self-more-gt-MAX_PAGES-clause-grows : goal.returns-then-self-more-gt-MAX_PAGES-clause-grows
+returns-then-self-more-gt-MAX_PAGES-clause-grows c = λ own.
+    let count = c.self.invariant.count in
+    let limit = c.self.invariant.pages.limit in
+    c.count_missing-more.ensures.grows (omega (arith, count, limit, c.if-self-more-gt-MAX_PAGES.true))
+    (subst (λ (s : SpaceValue). AreOwnIn s c.args.page c.args.count) (sym c.self.view_is) own)
 
 pub returns-in_default-clause-refused : goal.returns-in_default-clause-refused
 returns-in_default-clause-refused c =
-    let count = count_after c.args.permissions c.args.page c.args.count c.self.invariant c.self.view_is c.requires.high in
-    omega (arith, c.len.ensures.len, c.count_missing-more.ensures, count)
+    let total : page_count (mapped (c.args.page * page_bytes) (c.args.count * page_bytes) c.args.permissions (memory_of c.args.self.now)) ≡ page_count (memory_of c.self.inside.tables) + c.count_missing-more.result =
+    ap (λ (s : SpaceValue). page_count (mapped (c.args.page * page_bytes) (c.args.count * page_bytes) c.args.permissions (memory_of s))) (sym c.self.view_is)
+    ∙ page_count_mapped (contents_of c.self.inside.tables).pages c.args.permissions c.args.page c.args.count c.requires.high
+    ∙ ap (λ (k : ℕ). page_count (memory_of c.self.inside.tables) + k) (sym c.count_missing-more.ensures.count) in
+    let count = c.self.invariant.count in
+    omega (arith, total, count, c.if-self-more-gt-MAX_PAGES.false)
 
-pub add_pages-requires-clause-absent : goal.add_pages-requires-clause-absent
-add_pages-requires-clause-absent c = λ q h.
-    absent_before c.self.inside.pages.entries c.args.page c.args.count q (ap (λ (numbers : List ℕ). has_number numbers q) (sym (c.as_slice.ensures.value ∙ c.in-Ok.ensures.listed)) ∙ h)
+pub returns-in_default-own_each-clause-refused : goal.returns-in_default-own_each-clause-refused
+returns-in_default-own_each-clause-refused c =
+    let total : page_count (mapped (c.args.page * page_bytes) (c.args.count * page_bytes) c.args.permissions (memory_of c.args.self.now)) ≡ page_count (memory_of c.self.inside.tables) + c.count_missing-more.result =
+    ap (λ (s : SpaceValue). page_count (mapped (c.args.page * page_bytes) (c.args.count * page_bytes) c.args.permissions (memory_of s))) (sym c.self.view_is)
+    ∙ page_count_mapped (contents_of c.self.inside.tables).pages c.args.permissions c.args.page c.args.count c.requires.high
+    ∙ ap (λ (k : ℕ). page_count (memory_of c.self.inside.tables) + k) (sym c.count_missing-more.ensures.count) in
+    let count = c.self.invariant.count in
+    omega (arith, total, count, c.if-self-more-gt-MAX_PAGES.false)
 
-pub returns-in_default-add_pages-clause-refused : goal.returns-in_default-add_pages-clause-refused
-returns-in_default-add_pages-clause-refused c =
-    let count = count_after c.args.permissions c.args.page c.args.count c.self.invariant c.self.view_is c.requires.high in
-    omega (arith, c.len.ensures.len, c.count_missing-more.ensures, count)
+pub returns-in_default-clause-grows : goal.returns-in_default-clause-grows
+returns-in_default-clause-grows c = λ own. c.in_default.ensures.grows (subst (λ (s : SpaceValue). AreOwnIn s c.args.page c.args.count) (sym c.self.view_is) own)
+
+pub own_each-requires : goal.own_each-requires
+own_each-requires c = λ n listed.
+    let to = c.in-Ok.ensures.to n (ap (λ (xs : List ℕ). is_listed xs n) (sym c.as_slice.ensures.value) ∙ listed) in
+    omega (arith, to, c.requires.high)
+
+pub returns-in_default-own_each-clause-grows : goal.returns-in_default-own_each-clause-grows
+returns-in_default-own_each-clause-grows c = λ own. c.in_default-own_each.ensures.grows (λ n listed.
+    let e = ap (λ (xs : List ℕ). is_listed xs n) (sym c.as_slice.ensures.value) ∙ listed in
+    subst (λ (s : SpaceValue). IsOwn (contents_of s) n) (sym c.self.view_is) (own n (c.in-Ok.ensures.from n e) (c.in-Ok.ensures.to n e)))
+
+pub clear_pages-requires-clause-own : goal.clear_pages-requires-clause-own
+clear_pages-requires-clause-own c =
+    all_own_in c.self.inside.tables c.own_each.new.self c.in-Ok.numbers.items c.args.page c.args.count
+    (subst (λ (xs : List ℕ). AreOwned xs (contents_of c.self.inside.tables) (contents_of c.own_each.new.self)) c.as_slice.ensures.value c.in-Ok-own_each.ensures.owned) c.in-Ok.ensures.others
 
 pub invariant_of-self-2 : goal.invariant_of-self-2
 invariant_of-self-2 c =
-    let pages = c.self.inside.pages.entries in
-    let numbers : c.as_slice.result.now ≡ missing pages c.args.page c.args.count = c.as_slice.ensures.value ∙ c.in-Ok.ensures.listed in
-    let added = subst (λ (n : List ℕ). (q : ℕ) → has_number n q ≡ true → IsSome (page_at c.add_pages.new.pages.entries q)) numbers c.in-Ok-add_pages.ensures.added in
-    let kept = subst (λ (n : List ℕ). (q : ℕ) → has_number n q ≡ false → page_at c.add_pages.new.pages.entries q ≡ page_at pages q) numbers c.in-Ok-add_pages.ensures.kept in
-    pages_mapped pages c.clear_pages.new.pages.entries c.args.permissions c.args.page c.args.count c.self.invariant c.requires.low c.requires.high c.requires.readable c.clear_pages.ensures.ordered
-    (cleared_after pages c.add_pages.new.pages.entries c.clear_pages.new.pages.entries c.args.permissions c.args.page c.args.count added kept c.clear_pages.ensures.cleared)
-    (others_after pages c.add_pages.new.pages.entries c.clear_pages.new.pages.entries c.args.page c.args.count kept c.clear_pages.ensures.below c.clear_pages.ensures.above)
-    (omega (arith, c.len.ensures.len, c.count_missing-more.ensures))
+    let pages = (contents_of c.self.inside.tables).pages in
+    let after = (contents_of c.clear_pages.new.tables).pages in
+    let cleared = c.clear_pages.ensures in
+    let owned = subst (λ (xs : List ℕ). AreOwned xs (contents_of c.self.inside.tables) (contents_of c.own_each.new.self)) c.as_slice.ensures.value c.in-Ok-own_each.ensures.owned in
+    let others = others_after pages (contents_of c.own_each.new.self).pages after c.in-Ok.numbers.items c.args.page c.args.count c.in-Ok.ensures.from c.in-Ok.ensures.to owned.pages cleared.below cleared.above in
+    let total : page_count (memory_of c.clear_pages.new.tables) ≡ page_count (memory_of c.self.inside.tables) + c.count_missing-more.result =
+    ap page_count (mapped_in pages after c.args.permissions c.args.page c.args.count cleared.cleared others)
+    ∙ page_count_mapped pages c.args.permissions c.args.page c.args.count c.requires.high
+    ∙ ap (λ (k : ℕ). page_count (memory_of c.self.inside.tables) + k) (sym c.count_missing-more.ensures.count) in
+    let count = c.self.invariant.count in
+    is_space c.self.inside.tables c.clear_pages.new.tables c.self.inside.mapped _ c.self.invariant
+    (mapped_each pages after c.args.permissions c.args.page c.args.count c.self.invariant.pages.each c.requires.low c.requires.high c.requires.readable cleared.cleared others)
+    (cleared.kept ∙ owned.kept) (omega (arith, total, count)) (omega (arith, c.if-self-more-gt-MAX_PAGES.false))
 
 pub returns-clause-mapped : goal.returns-clause-mapped
 returns-clause-mapped c =
-    let pages = c.self.inside.pages.entries in
-    let numbers : c.as_slice.result.now ≡ missing pages c.args.page c.args.count = c.as_slice.ensures.value ∙ c.in-Ok.ensures.listed in
-    let added = subst (λ (n : List ℕ). (q : ℕ) → has_number n q ≡ true → IsSome (page_at c.add_pages.new.pages.entries q)) numbers c.in-Ok-add_pages.ensures.added in
-    let kept = subst (λ (n : List ℕ). (q : ℕ) → has_number n q ≡ false → page_at c.add_pages.new.pages.entries q ≡ page_at pages q) numbers c.in-Ok-add_pages.ensures.kept in
-    mapped_in pages c.clear_pages.new.pages.entries c.args.permissions c.args.page c.args.count
-    (cleared_after pages c.add_pages.new.pages.entries c.clear_pages.new.pages.entries c.args.permissions c.args.page c.args.count added kept c.clear_pages.ensures.cleared)
-    (others_after pages c.add_pages.new.pages.entries c.clear_pages.new.pages.entries c.args.page c.args.count kept c.clear_pages.ensures.below c.clear_pages.ensures.above)
+    let pages = (contents_of c.self.inside.tables).pages in
+    let after = (contents_of c.clear_pages.new.tables).pages in
+    let cleared = c.clear_pages.ensures in
+    let owned = subst (λ (xs : List ℕ). AreOwned xs (contents_of c.self.inside.tables) (contents_of c.own_each.new.self)) c.as_slice.ensures.value c.in-Ok-own_each.ensures.owned in
+    let others = others_after pages (contents_of c.own_each.new.self).pages after c.in-Ok.numbers.items c.args.page c.args.count c.in-Ok.ensures.from c.in-Ok.ensures.to owned.pages cleared.below cleared.above in
+    mapped_in pages after c.args.permissions c.args.page c.args.count cleared.cleared others
     ∙ ap (λ (s : SpaceValue). mapped (c.args.page * page_bytes) (c.args.count * page_bytes) c.args.permissions (memory_of s)) c.self.view_is
-
-pub returns-then-len-more-clause-grows : goal.returns-then-len-more-clause-grows
-returns-then-len-more-clause-grows c =
-    let pages = c.self.inside.pages.entries in
-    let limit = c.self.invariant.limit in
-    ap (λ (s : SpaceValue). all_mapped (memory_of s) c.args.page c.args.count) (sym c.self.view_is)
-    ∙ missing_some pages c.args.page c.args.count (omega (arith, c.len.ensures.len, c.count_missing-more.ensures))
-
-pub returns-in_default-clause-grows : goal.returns-in_default-clause-grows
-returns-in_default-clause-grows c =
-    ap (λ (s : SpaceValue). all_mapped (memory_of s) c.args.page c.args.count) (sym c.self.view_is) ∙ c.in_default.ensures.grows
-
-pub returns-in_default-add_pages-clause-grows : goal.returns-in_default-add_pages-clause-grows
-returns-in_default-add_pages-clause-grows c =
-    let pages = c.self.inside.pages.entries in
-    let numbers : c.as_slice.result.now ≡ missing pages c.args.page c.args.count = c.as_slice.ensures.value ∙ c.in-Ok.ensures.listed in
-    let some : 1 ≤ length c.as_slice.result.now = c.in_default-add_pages.ensures.grows in
-    ap (λ (s : SpaceValue). all_mapped (memory_of s) c.args.page c.args.count) (sym c.self.view_is)
-    ∙ missing_some pages c.args.page c.args.count (rw numbers at some)

@@ -1,6 +1,9 @@
-use Rattle.std.proofs.Common.{◌≡◌, false, is_some, arith}
+use Rattle.std.proofs.Common.{◌≡◌, true, sym, subst, false, is_some, arith}
 use Rattle.rrv_model.specs.Memory.{can_write, writable}
-use Rattle.guest_pages.specs.Space.{memory_of, present}
+use Rattle.page_tables.specs.Contents.{contents_of}
+use Rattle.guest_pages.specs.Space.{SpaceValue, memory_of, present}
+use Rattle.guest_pages.proofs.Facts.{present_low}
+use Rattle.guest_pages.proofs.OwnPages.{none_to_fill}
 use Rattle.guest_pages.proofs.Cells.{absent_forbids, some_cell}
 use Rattle.guest_pages.proofs.address_space.Space.prepare.Goals as goal
 
@@ -18,3 +21,12 @@ pub returns-then-not-passes-2-clause-some : goal.returns-then-not-passes-2-claus
 returns-then-not-passes-2-clause-some c =
     let forbidden : writable (memory_of c.args.self.now) c.args.address c.args.count ≡ false = grind arith in
     some_cell can_write (memory_of c.args.self.now) c.args.address c.args.count forbidden
+
+pub returns-then-count-eq0-clause-ready : goal.returns-then-count-eq0-clause-ready
+returns-then-count-eq0-clause-ready c = none_to_fill c.args.self.now c.args.address c.args.count c.if-count-eq0.true
+
+pub own_pages-requires-clause-low : goal.own_pages-requires-clause-low
+own_pages-requires-clause-low c =
+    let there : present (memory_of c.args.self.now) c.args.address c.args.count ≡ true = grind arith in
+    present_low (contents_of c.self.inside.tables).pages c.self.invariant.pages.each c.args.address c.args.count c.ranges.address.fits
+    (subst (λ (s : SpaceValue). present (memory_of s) c.args.address c.args.count ≡ true) (sym c.self.view_is) there)

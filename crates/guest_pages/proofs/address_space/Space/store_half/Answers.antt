@@ -1,21 +1,27 @@
-use Rattle.std.proofs.Common.{refl, ◌∙◌, ap, ◌/◌, arith}
+use Rattle.std.proofs.Common.{◌∙◌, ◌/◌, ◌%◌, ap, sym, subst, arith}
 use Rattle.std.specs.Int.{w16, to_le_bytes}
 use Rattle.rrv_model.specs.Memory.{stored}
-use Rattle.guest_pages.specs.Space.{SpaceValue, memory_of}
-use Rattle.guest_pages.proofs.Stores.{same_space, stored_through, kept_through, all_small}
+use Rattle.page_tables.specs.Contents.{contents_of}
+use Rattle.std.proofs.lemmas.Result.{err_from_is_err_and}
+use Rattle.guest_pages.specs.Space.{SpaceValue, memory_of, IsStoreRefusal, fault_for}
+use Rattle.guest_pages.proofs.PutRefusals.{put_refused}
+use Rattle.guest_pages.proofs.Stores.{stored_space, stored_memory, all_small}
 use Rattle.guest_pages.proofs.address_space.Space.store_half.Goals as goal
-
-pub returns-then-not-page-clause-err : goal.returns-then-not-page-clause-err
-returns-then-not-page-clause-err c =
-    same_space _ _ _ _ (c.args.address / 4096) c.in-Some.page.now (c.get_mut.follows.holds _).0 c.in-Some.ensures.value c.self.view_is
 
 pub invariant_of-self-2 : goal.invariant_of-self-2
 invariant_of-self-2 c =
-    kept_through c.self.inside.pages.entries _ c.in-Some.page.now _ c.args.address (to_le_bytes w16 c.args.value) _ c.in-Some.ensures.value (λ t. ((c.get_mut.follows.holds _).3 t).0) (c.get_mut.follows.holds _).4 (c.get_mut.follows.holds _).2 refl c.deref_mut.ensures.value c.put_half.ensures.bytes
-    (all_small (to_le_bytes w16 c.args.value) (omega arith, (omega arith, tt))) c.self.invariant
+    stored_space c.self.inside.tables c.put_half.new.self c.self.inside.mapped (c.args.address / 4096) (c.args.address % 4096) (to_le_bytes w16 c.args.value) c.self.invariant c.in_ok-put_half.ensures.written
+    (omega arith) (all_small (to_le_bytes w16 c.args.value) (omega arith, (omega arith, tt)))
 
 pub returns-clause-stored : goal.returns-clause-stored
 returns-clause-stored c =
-    stored_through c.self.inside.pages.entries _ c.in-Some.page.now _ c.args.address (to_le_bytes w16 c.args.value) _ c.in-Some.ensures.value (λ t. ((c.get_mut.follows.holds _).3 t).0) refl c.deref_mut.ensures.value c.put_half.ensures.bytes
-    (omega arith) c.put_half.ensures.full
+    stored_memory c.self.inside.tables c.put_half.new.self (c.args.address / 4096) (c.args.address % 4096) c.args.address (to_le_bytes w16 c.args.value) c.self.invariant.pages.each c.in_ok-put_half.ensures.written (omega arith) (omega arith)
     ∙ ap (λ (s : SpaceValue). stored c.args.address (to_le_bytes w16 c.args.value) (memory_of s)) c.self.view_is
+
+pub returns-in_err-put_half-clause-refused : goal.returns-in_err-put_half-clause-refused
+returns-in_err-put_half-clause-refused c =
+    let p = err_from_is_err_and c.from_residual.result c.from_residual.ensures.1 in
+    let refused = put_refused (contents_of c.self.inside.tables).pages c.args.address 2 c.in_err-put_half.field-0.0 (omega arith) (omega arith) c.in_err-put_half.ensures.refused in
+    let told : IsStoreRefusal (memory_of c.args.self.now) c.args.address 2 (fault_for c.in_err-put_half.field-0.0) =
+    subst (λ (s : SpaceValue). IsStoreRefusal (memory_of s) c.args.address 2 (fault_for c.in_err-put_half.field-0.0)) c.self.view_is refused in
+    rw p.1 (subst (IsStoreRefusal (memory_of c.args.self.now) c.args.address 2) (sym p.2) told)

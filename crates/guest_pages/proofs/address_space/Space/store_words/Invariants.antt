@@ -2,12 +2,13 @@ use Rattle.std.proofs.Common.{◌≡◌, true, drop}
 use Rattle.std.specs.Int.{w32, to_le_bytes}
 use Rattle.rrv_model.specs.CallRows.{all_writable}
 use Rattle.guest_pages.specs.Space.{memory_of, snapshots_of}
-use Rattle.guest_pages.specs.Stores.{stored_at_each}
+use Rattle.guest_pages.specs.Stores.{stored_at_each, AreOwnWords}
 use Rattle.guest_pages.proofs.address_space.Space.store_words.Given as goal
 
 abbrev pub invariant-loop-place : goal.invariant-loop-place
 invariant-loop-place l = record {
-  stored : stored_at_each (drop l.place-index l.places) (to_le_bytes w32 l.word) (memory_of l.self) ≡ stored_at_each l.places (to_le_bytes w32 l.word) (memory_of l.initial.self);
+  stored : stored_at_each (drop l.place-index l.places) (to_le_bytes w32 l.word) (memory_of l.self) ≡ stored_at_each l.places (to_le_bytes w32 l.word) (memory_of l.fn.self);
   allowed : all_writable (memory_of l.self) (drop l.place-index l.places) ≡ true;
-  snapshots : snapshots_of l.self ≡ snapshots_of l.initial.self;
+  own : AreOwnWords l.self l.places;
+  snapshots : snapshots_of l.self ≡ snapshots_of l.fn.self;
 }

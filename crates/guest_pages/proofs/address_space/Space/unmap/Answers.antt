@@ -1,16 +1,22 @@
-use Rattle.std.proofs.Common.{◌∙◌, ◌*◌, ap}
+use Rattle.std.proofs.Common.{◌∙◌, ◌*◌, ap, arith}
 use Rattle.rrv_model.specs.Memory.{unmapped, page_bytes}
+use Rattle.page_tables.specs.Contents.{contents_of}
 use Rattle.guest_pages.specs.Space.{SpaceValue, memory_of}
-use Rattle.guest_pages.proofs.Ranges.{unmapped_in, fewer_pages}
+use Rattle.guest_pages.proofs.Ranges.{unmapped_in, unmapped_each}
+use Rattle.guest_pages.proofs.Spaces.{is_space}
 use Rattle.guest_pages.proofs.address_space.Space.unmap.Goals as goal
 
 pub invariant_of-self : goal.invariant_of-self
 invariant_of-self c =
-    let r = c.remove_range.ensures in
-    fewer_pages c.self.inside.pages.entries c.remove_range.new.pages.entries c.args.page c.args.count c.self.invariant r.removed r.below r.above r.ordered r.len
+    let r = c.remove_range-gone.ensures in
+    let count = c.self.invariant.count in
+    let limit = c.self.invariant.pages.limit in
+    is_space c.self.inside.tables c.remove_range-gone.new.tables c.self.inside.mapped _ c.self.invariant
+    (unmapped_each (contents_of c.self.inside.tables).pages (contents_of c.remove_range-gone.new.tables).pages c.args.page c.args.count c.self.invariant.pages.each r.removed r.below r.above)
+    r.kept (omega (arith, r.count, count)) (omega (arith, r.count, count, limit))
 
 pub returns-clause-memory : goal.returns-clause-memory
 returns-clause-memory c =
-    let r = c.remove_range.ensures in
-    unmapped_in c.self.inside.pages.entries c.remove_range.new.pages.entries c.args.page c.args.count r.removed r.below r.above
+    let r = c.remove_range-gone.ensures in
+    unmapped_in (contents_of c.self.inside.tables).pages (contents_of c.remove_range-gone.new.tables).pages c.args.page c.args.count r.removed r.below r.above
     ∙ ap (λ (s : SpaceValue). unmapped (c.args.page * page_bytes) (c.args.count * page_bytes) (memory_of s)) c.self.view_is

@@ -1,9 +1,8 @@
 use Rattle.std.proofs.Common.{◌∙◌, sym, ap, refl, Bool, Option, Some}
 use Rattle.slab.specs.Slab.{get}
-use Rattle.std.specs.FinMap.{get as get_page}
 use Rattle.page_tables.specs.declared.table.Entry.{Entry}
 use Rattle.page_tables.specs.Table.{entry_at}
-use Rattle.page_tables.specs.Contents.{PageValue}
+use Rattle.page_tables.specs.Contents.{PageValue, at_number}
 use Rattle.page_tables.specs.Changes.{allows_execute, bytes_if}
 use Rattle.page_tables.proofs.Values.{shown_page, shown_not, allowed_mapped, page_of, not_true, not_false}
 use Rattle.page_tables.proofs.page_tables.PageTables.executable.Goals as goal
@@ -11,7 +10,7 @@ use Rattle.page_tables.proofs.page_tables.PageTables.executable.Goals as goal
 pub returns-then-not-entry : goal.returns-then-not-entry
 returns-then-not-entry c =
     let not = shown_not c.self.inside.pool c.self.inside.table c.self.inside.kept.items c.args.self.now c.self.invariant c.self.view_is (λ p. p.execute) allows_execute refl (λ p. refl) c.args.number c.entry-entry.result c.entry-entry.ensures (not_true c.entry-entry.result.permissions.execute c.if-not-entry.true) in
-    sym (ap (λ (b : Bool). bytes_if b (get_page c.args.self.now.pages c.args.number)) not)
+    sym (ap (λ (b : Bool). bytes_if b (at_number c.args.self.now.pages c.args.number)) not)
 
 pub returns : goal.returns
 returns c =
