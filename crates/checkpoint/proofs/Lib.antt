@@ -1,5 +1,4 @@
 pub mod Applied
-pub mod Lines
 pub mod Made
 pub mod Named
 pub mod Paged

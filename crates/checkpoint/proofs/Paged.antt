@@ -7,7 +7,8 @@ use Rattle.std.proofs.lemmas.Bool.{cases_lt}
 use Rattle.std.proofs.lemmas.Bool.Decides.{eqb_tells}
 use Rattle.rrv_model.specs.declared.machine.Permissions.{Permissions}
 use Rattle.rrv_model.specs.declared.record.PagePart.{PagePart}
-use Rattle.rrv_model.specs.Checkpoint.{entry_of, line_byte, mapped_as, patched, patched_byte, patched_cell}
+use Rattle.rrv_model.specs.Checkpoint.{entry_of, mapped_as, patched, patched_byte, patched_cell}
+use Rattle.rrv_model.specs.LineMask.{line_byte}
 use Rattle.rrv_model.specs.Memory.{AlikeCells, Cell, FitsCell, IsPaged, Memory, byte_or_zero, page_bytes}
 use Rattle.checkpoint.specs.Fitting.{HasBytes, IsLine, MayBe}
 
@@ -57,7 +58,7 @@ at_place P [] (suc i) h = tt
 at_place P (x ∷ xs) zero h = h.0
 at_place P (x ∷ xs) (suc i) h = at_place P xs i h.1
 
-line_small : (p : PagePart) (i k : ℕ) → HasBytes p → line_byte p i k < 256
+line_small : (p : PagePart) (i k : ℕ) → HasBytes p → line_byte p.mask p.lines i k < 256
 line_small p i k has = elim (tells (slice_get p.lines (count_ones (p.mask % 2 ^ i)))) [
   | inl e ↦ rw e (omega arith)
   | inr e ↦ rw e.1 (subst (λ o. IfSome o IsLine) e.1 (at_place IsLine p.lines (count_ones (p.mask % 2 ^ i)) has) k)
@@ -72,7 +73,7 @@ old_small None h = omega arith
 old_small (Some c) h = h.0
 
 byte_small : (p : PagePart) (c : Option Cell) (k : ℕ) → HasBytes p → FitsCell c → patched_byte p c k < 256
-byte_small p c k has fits = cond_small (bit_at p.mask (k / 64) == 1) (line_byte p (k / 64) (k % 64)) (byte_or_zero c) (line_small p (k / 64) (k % 64) has) (old_small c fits)
+byte_small p c k has fits = cond_small (bit_at p.mask (k / 64) == 1) (line_byte p.mask p.lines (k / 64) (k % 64)) (byte_or_zero c) (line_small p (k / 64) (k % 64) has) (old_small c fits)
 
 -- ---- the memory
 

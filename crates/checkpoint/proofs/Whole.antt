@@ -1,37 +1,45 @@
--- Parts that name all pages describe the state that they are made of.
-use Rattle.std.proofs.Common.{◌≡◌, ◌∙◌, ℕ, ◌≤◌, List, [], ◌∷◌, ◌++◌, length, Option, Some, None, IfSome, ap, refl, sym, subst}
+-- Parts that name the pages that changed describe the state that they are made of.
+use Rattle.std.proofs.Common.{◌≡◌, ◌∙◌, ℕ, ◌≤◌, List, [], ◌∷◌, ◌++◌, length, map, Option, Some, None, IfSome, ap, append_assoc, refl, sym, subst, arith}
 use Rattle.std.proofs.lemmas.Grind.{flat_map-append}
-use Rattle.std.proofs.lemmas.List.{append-nil}
+use Rattle.std.proofs.lemmas.List.{append-nil, length-map, map-append}
 use Rattle.std.proofs.lemmas.List.Elements.{All-from_recursion}
 use Rattle.std.specs.List.{AllByRecursion}
+use Rattle.std.specs.List.Sorted.{IsStrictlyIncreasing}
 use Rattle.rrv_model.specs.declared.limits.TheConstants.{MAX_PART_PAGES}
 use Rattle.rrv_model.specs.declared.record.CheckpointRest.{CheckpointRest}
 use Rattle.rrv_model.specs.declared.record.PagePart.{PagePart}
 use Rattle.rrv_model.specs.declared.record.Part.{Part}
 use Rattle.rrv_model.specs.Checkpoint.{Describes, EndsWithRest, IsPagePart, all_pages, patched}
-use Rattle.rrv_model.specs.Memory.{IsPaged, Memory}
+use Rattle.rrv_model.specs.Memory.{Memory}
 use Rattle.rrv_model.specs.RecordText.{HasPartText, HasRestText}
 use Rattle.rrv_model.specs.State.{State, IsState}
 use Rattle.rrv_model.proofs.Lists.{AllByRecursion-append}
-use Rattle.checkpoint.specs.Made.{Goes, IsBaseOf, IsNextNamed, IsRestOf}
-use Rattle.checkpoint.proofs.Named.{at_least_none, goes_append, goes_rise, goes_texts, page_parts, patched_is, rising}
+use Rattle.guest_pages.specs.Snapshots.{AreChanges}
+use Rattle.checkpoint.specs.Made.{IsBaseOf, IsMade, IsRestOf, NamesChanges}
+use Rattle.checkpoint.proofs.Named.{changes_of, page_parts, patched_is, rise_back, rise_front, texts_of}
+
+-- the numbers of pages
+abbrev pub numbers_of : List PagePart → List ℕ
+numbers_of pages = map (λ p. p.number) pages
 
 -- a part before the last one
 abbrev pub IsEarlier : Part → Type 0
 IsEarlier part = (part.rest ≡ None) × HasPartText part
 
-pub part_text : (m before : Memory) (first : Option ℕ) (pages : List PagePart) (last : Option ℕ) (rest : Option CheckpointRest) → Goes m before first pages last → length pages ≤ 1024 →
-    IfSome rest HasRestText → HasPartText (record { pages = pages; rest = rest })
-part_text m before first pages last rest goes few has = record {
+-- pages with numbers from among those that rise
+part_text : (before m : Memory) (done : List ℕ) (pages : List PagePart) (left : List ℕ) (rest : Option CheckpointRest) →
+    IsStrictlyIncreasing ((done ++ numbers_of pages) ++ left) → AllByRecursion (IsMade before m) pages → length pages ≤ 1024 → IfSome rest HasRestText →
+    HasPartText (record { pages = pages; rest = rest })
+part_text before m done pages left rest rise made few has = record {
   most = few;
-  rising = rising 0 pages (goes_rise m before 0 first pages last (at_least_none first) goes);
-  pages = goes_texts m before first pages last goes;
+  rising = rise_back done (numbers_of pages) (rise_front (done ++ numbers_of pages) left rise);
+  pages = texts_of before m pages made;
   rest = has;
 }
 
-texts_of : (parts : List Part) → AllByRecursion IsEarlier parts → AllByRecursion HasPartText parts
-texts_of [] h = tt
-texts_of (part ∷ parts) h = (h.0.1, texts_of parts h.1)
+earlier_texts : (parts : List Part) → AllByRecursion IsEarlier parts → AllByRecursion HasPartText parts
+earlier_texts [] h = tt
+earlier_texts (part ∷ parts) h = (h.0.1, earlier_texts parts h.1)
 
 few_of : (parts : List Part) → AllByRecursion HasPartText parts → AllByRecursion (λ p. length p.pages ≤ MAX_PART_PAGES) parts
 few_of [] h = tt
@@ -42,81 +50,137 @@ ends [] last rest earlier flagged = flagged
 ends (p ∷ []) last rest earlier flagged = (earlier.0.0, flagged)
 ends (p ∷ q ∷ parts) last rest earlier flagged = (earlier.0.0, ends (q ∷ parts) last rest earlier.1 flagged)
 
-pub pages_then : (parts : List Part) (last : Part) → all_pages (parts ++ last ∷ []) ≡ all_pages parts ++ last.pages
+pages_then : (parts : List Part) (last : Part) → all_pages (parts ++ last ∷ []) ≡ all_pages parts ++ last.pages
 pages_then parts last = flat_map-append (λ (p : Part). p.pages) parts (last ∷ []) ∙ ap (λ (ps : List PagePart). all_pages parts ++ ps) (append-nil last.pages)
 
-pub texts_then : (parts : List Part) (last : Part) → AllByRecursion IsEarlier parts → HasPartText last → AllByRecursion HasPartText (parts ++ last ∷ [])
-texts_then parts last earlier text = AllByRecursion-append HasPartText parts (last ∷ []) (texts_of parts earlier) (text, tt)
-
--- parts that are made, and the pages behind them, up to the next page
-pub record HasListed (m kept : Memory) (parts : List Part) (pages : List PagePart) (next : Option ℕ) : Type 0 where
-  pub first : Option ℕ
-  pub is_first : IsNextNamed m kept 0 first
-  pub start : Option ℕ
-  pub made : Goes m kept first (all_pages parts) start
-  pub listed : Goes m kept start pages next
-  pub few : length pages ≤ 1024
+-- parts that are made of the first of the numbers, and those that are left
+pub record HasListed (before m : Memory) (parts : List Part) (left : List ℕ) : Type 0 where
+  pub numbers : List ℕ
+  pub changes : AreChanges before m numbers
+  pub split : numbers_of (all_pages parts) ++ left ≡ numbers
+  pub made : AllByRecursion (IsMade before m) (all_pages parts)
   pub earlier : AllByRecursion IsEarlier parts
 
-pub lists_first : (m kept : Memory) (first : Option ℕ) (pages : List PagePart) (next : Option ℕ) → IsNextNamed m kept 0 first → Goes m kept first pages next → length pages ≤ 1024 →
-    HasListed m kept [] pages next
-lists_first m kept first pages next is goes few = record { first = first; is_first = is; start = first; made = refl; listed = goes; few = few; earlier = tt }
+pub lists_none : (before m : Memory) (numbers : List ℕ) → AreChanges before m numbers → HasListed before m [] numbers
+lists_none before m numbers changes = record { numbers = numbers; changes = changes; split = refl; made = tt; earlier = tt }
 
-pub lists_more : (m kept : Memory) (parts : List Part) (pages : List PagePart) (next : Option ℕ) (more : List PagePart) (last : Option ℕ) → HasListed m kept parts pages next →
-    Goes m kept next more last → length more ≤ 1024 → HasListed m kept (parts ++ record { pages = pages; rest = None } ∷ []) more last
-lists_more m kept parts pages next more last h goes few =
+-- with the pages of the next of them
+split_then : (parts : List Part) (pages : List PagePart) (rest : Option CheckpointRest) (numbers left behind : List ℕ) → numbers_of (all_pages parts) ++ left ≡ numbers →
+    numbers_of pages ++ behind ≡ left →
+    (numbers_of (all_pages parts) ++ numbers_of pages) ++ behind ≡ numbers
+split_then parts pages rest numbers left behind split more =
+    append_assoc (numbers_of (all_pages parts)) (numbers_of pages) behind ∙ ap (λ (ns : List ℕ). numbers_of (all_pages parts) ++ ns) more ∙ split
+
+numbers_then : (parts : List Part) (pages : List PagePart) (rest : Option CheckpointRest) →
+    let part : Part = record { pages = pages; rest = rest } in numbers_of (all_pages (parts ++ part ∷ [])) ≡ numbers_of (all_pages parts) ++ numbers_of pages
+numbers_then parts pages rest =
+    let part : Part = record { pages = pages; rest = rest } in
+    ap (λ (ps : List PagePart). numbers_of ps) (pages_then parts part) ∙ map-append (λ (p : PagePart). p.number) (all_pages parts) pages
+
+made_then : (before m : Memory) (parts : List Part) (pages : List PagePart) (rest : Option CheckpointRest) → AllByRecursion (IsMade before m) (all_pages parts) →
+    AllByRecursion (IsMade before m) pages →
+    let part : Part = record { pages = pages; rest = rest } in AllByRecursion (IsMade before m) (all_pages (parts ++ part ∷ []))
+made_then before m parts pages rest made more =
+    let part : Part = record { pages = pages; rest = rest } in
+    subst (λ (ps : List PagePart). AllByRecursion (IsMade before m) ps) (sym (pages_then parts part)) (AllByRecursion-append (IsMade before m) (all_pages parts) pages made more)
+
+next_text : (before m : Memory) (parts : List Part) (left behind : List ℕ) (pages : List PagePart) (rest : Option CheckpointRest) →
+    HasListed before m parts left → numbers_of pages ++ behind ≡ left → AllByRecursion (IsMade before m) pages → length pages ≤ 1024 → IfSome rest HasRestText →
+    HasPartText (record { pages = pages; rest = rest })
+next_text before m parts left behind pages rest h more made few has =
+    part_text before m (numbers_of (all_pages parts)) pages behind rest
+    (subst (λ (ns : List ℕ). IsStrictlyIncreasing ns) (sym (split_then parts pages rest h.numbers left behind h.split more)) h.changes.rising) made few has
+
+pub lists_more : (before m : Memory) (parts : List Part) (left behind : List ℕ) (pages : List PagePart) →
+    HasListed before m parts left → numbers_of pages ++ behind ≡ left → AllByRecursion (IsMade before m) pages → length pages ≤ 1024 →
+    HasListed before m (parts ++ record { pages = pages; rest = None } ∷ []) behind
+lists_more before m parts left behind pages h more made few =
     let part : Part = record { pages = pages; rest = None } in
     record {
-      first = h.first;
-      is_first = h.is_first;
-      start = next;
-      made = subst (λ (ps : List PagePart). Goes m kept h.first ps next) (sym (pages_then parts part)) (goes_append m kept h.first (all_pages parts) h.start pages next h.made h.listed);
-      listed = goes;
-      few = few;
-      earlier = AllByRecursion-append IsEarlier parts (part ∷ []) h.earlier ((refl, part_text m kept h.start pages next None h.listed h.few tt), tt);
+      numbers = h.numbers;
+      changes = h.changes;
+      split = ap (λ (ns : List ℕ). ns ++ behind) (numbers_then parts pages None) ∙ split_then parts pages None h.numbers left behind h.split more;
+      made = made_then before m parts pages None h.made made;
+      earlier = AllByRecursion-append IsEarlier parts (part ∷ []) h.earlier ((refl, next_text before m parts left behind pages None h more made few tt), tt);
     }
 
-pub describes : (kept : Memory) (s : State) (first : Option ℕ) (parts : List Part) (last : Part) (rest : CheckpointRest) → IsNextNamed s.memory kept 0 first →
-    AllByRecursion IsEarlier parts → HasPartText last → last.rest ≡ Some rest → IsRestOf s rest → Goes s.memory kept first (all_pages parts ++ last.pages) None → IsState s →
-    (old : State) → IsBaseOf kept old s → Describes old (parts ++ last ∷ []) s
-describes kept s first parts last rest is_first earlier text flagged told goes is old base =
-    let whole = subst (λ (ps : List PagePart). Goes s.memory kept first ps None) (sym (pages_then parts last)) goes in
-    let pages = all_pages (parts ++ last ∷ []) in
-    let texts = texts_then parts last earlier text in
-    let numbers = rising 0 pages (goes_rise s.memory kept 0 first pages None (at_least_none first) whole) in
-    let patched_kept = patched_is s.memory kept first pages is.rules.memory (subst IsPaged (sym base.memory) base.is_state.rules.memory) is_first whole in
+-- ---- all parts
+
+abbrev pub whole : List Part → List PagePart → CheckpointRest → List Part
+whole parts pages rest = parts ++ record { pages = pages; rest = Some rest } ∷ []
+
+-- parts with the pages of all numbers
+pub record HasAll (before : Memory) (s : State) (parts : List Part) (pages : List PagePart) (rest : CheckpointRest) : Type 0 where
+  pub left : List ℕ
+  pub listed : HasListed before s.memory parts left
+  pub these : numbers_of pages ≡ left
+  pub made : AllByRecursion (IsMade before s.memory) pages
+  pub few : length pages ≤ 1024
+  pub told : IsRestOf s rest
+  pub is_state : IsState s
+
+pub has_all : (before : Memory) (s : State) (parts : List Part) (left : List ℕ) (pages : List PagePart) (rest : CheckpointRest) → HasListed before s.memory parts left →
+    numbers_of pages ≡ left → AllByRecursion (IsMade before s.memory) pages → length left ≤ 1024 → IsRestOf s rest → IsState s → HasAll before s parts pages rest
+has_all before s parts left pages rest listed these made few told is =
+    let as_few : length pages ≤ 1024 = omega (arith, length-map pages (λ (p : PagePart). p.number), ap (λ (ns : List ℕ). length ns) these, few) in
+    record { left = left; listed = listed; these = these; made = made; few = as_few; told = told; is_state = is }
+
+last_text : (before : Memory) (s : State) (parts : List Part) (pages : List PagePart) (rest : CheckpointRest) → HasAll before s parts pages rest →
+    HasPartText (record { pages = pages; rest = Some rest })
+last_text before s parts pages rest h =
+    next_text before s.memory parts h.left [] pages (Some rest) h.listed (append-nil (numbers_of pages) ∙ h.these) h.made h.few h.told.text
+
+pub all_texts : (before : Memory) (s : State) (parts : List Part) (pages : List PagePart) (rest : CheckpointRest) → HasAll before s parts pages rest →
+    AllByRecursion HasPartText (whole parts pages rest)
+all_texts before s parts pages rest h =
+    let last : Part = record { pages = pages; rest = Some rest } in
+    AllByRecursion-append HasPartText parts (last ∷ []) (earlier_texts parts h.listed.earlier) (last_text before s parts pages rest h, tt)
+
+all_changes : (before : Memory) (s : State) (parts : List Part) (pages : List PagePart) (rest : CheckpointRest) → HasAll before s parts pages rest →
+    AreChanges before s.memory (numbers_of (all_pages (whole parts pages rest)))
+all_changes before s parts pages rest h =
+    let are : numbers_of (all_pages (whole parts pages rest)) ≡ h.listed.numbers =
+    numbers_then parts pages (Some rest) ∙ ap (λ (ns : List ℕ). numbers_of (all_pages parts) ++ ns) h.these ∙ h.listed.split in
+    subst (λ (ns : List ℕ). AreChanges before s.memory ns) (sym are) h.listed.changes
+
+all_made : (before : Memory) (s : State) (parts : List Part) (pages : List PagePart) (rest : CheckpointRest) → HasAll before s parts pages rest →
+    AllByRecursion (IsMade before s.memory) (all_pages (whole parts pages rest))
+all_made before s parts pages rest h = made_then before s.memory parts pages (Some rest) h.listed.made h.made
+
+pub names_changes : (before : Memory) (s : State) (parts : List Part) (pages : List PagePart) (rest : CheckpointRest) → HasAll before s parts pages rest →
+    NamesChanges before s.memory (all_pages (whole parts pages rest))
+names_changes before s parts pages rest h = record {
+  named = all_changes before s parts pages rest h;
+  each = changes_of before s.memory (all_pages (whole parts pages rest)) (all_made before s parts pages rest h);
+}
+
+pub described : (before : Memory) (s : State) (parts : List Part) (pages : List PagePart) (rest : CheckpointRest) → HasAll before s parts pages rest →
+    (old : State) → IsBaseOf before old s → Describes old (whole parts pages rest) s
+described before s parts pages rest h old base =
+    let all = whole parts pages rest in
+    let last : Part = record { pages = pages; rest = Some rest } in
+    let changes = all_changes before s parts pages rest h in
+    let made = all_made before s parts pages rest h in
+    let patched_kept = patched_is before s.memory (all_pages all) changes made in
     record {
       describes = record {
         rest = rest;
-        flagged = ends parts last rest earlier flagged;
-        few = All-from_recursion (λ p. length p.pages ≤ MAX_PART_PAGES) (parts ++ last ∷ []) (few_of (parts ++ last ∷ []) texts);
-        rising = numbers;
-        pages = All-from_recursion IsPagePart pages (page_parts pages (goes_texts s.memory kept first pages None whole));
-        tids_rising = told.text.rising;
-        is_state = is.rules;
+        flagged = ends parts last rest h.listed.earlier refl;
+        few = All-from_recursion (λ p. length p.pages ≤ MAX_PART_PAGES) all (few_of all (all_texts before s parts pages rest h));
+        rising = changes.rising;
+        pages = All-from_recursion IsPagePart (all_pages all) (page_parts before s.memory (all_pages all) made);
+        tids_rising = h.told.text.rising;
+        is_state = h.is_state.rules;
         state_is = λ i. record {
-          memory = (sym patched_kept ∙ ap (patched pages) base.memory) i;
-          threads = sym told.threads i;
-          waiting = sym told.waiting i;
-          next_tid = sym told.next_tid i;
+          memory = (sym patched_kept ∙ ap (patched (all_pages all)) base.memory) i;
+          threads = sym h.told.threads i;
+          waiting = sym h.told.waiting i;
+          next_tid = sym h.told.next_tid i;
           opening_break = sym base.opening_break i;
-          program_break = sym told.program_break i;
+          program_break = sym h.told.program_break i;
           reservation = base.reservation i;
           ended = base.ended i;
         };
       };
-      limit = is.limit;
+      limit = h.is_state.limit;
     }
-
--- so do the parts that are listed, with the last
-pub described : (kept : Memory) (s : State) (parts : List Part) (pages : List PagePart) (rest : CheckpointRest) → HasListed s.memory kept parts pages None → IsRestOf s rest → IsState s →
-    (old : State) → IsBaseOf kept old s → Describes old (parts ++ record { pages = pages; rest = Some rest } ∷ []) s
-described kept s parts pages rest h told is =
-    describes kept s h.first parts (record { pages = pages; rest = Some rest }) rest h.is_first h.earlier
-    (part_text s.memory kept h.start pages None (Some rest) h.listed h.few told.text) refl told
-    (goes_append s.memory kept h.first (all_pages parts) h.start pages None h.made h.listed) is
-
-pub all_texts : (kept : Memory) (s : State) (parts : List Part) (pages : List PagePart) (rest : CheckpointRest) → HasListed s.memory kept parts pages None → IsRestOf s rest →
-    AllByRecursion HasPartText (parts ++ record { pages = pages; rest = Some rest } ∷ [])
-all_texts kept s parts pages rest h told =
-    texts_then parts (record { pages = pages; rest = Some rest }) h.earlier (part_text s.memory kept h.start pages None (Some rest) h.listed h.few told.text)

@@ -1,12 +1,11 @@
 -- Pages of a checkpoint, put into a memory one after the other: first those that it unmaps, then all others.
-use Rattle.std.specs.Prelude.{ℕ, ◌/◌, ◌%◌, ◌<◌, ◌==◌, nat_lt, if◌then◌else◌, List, [], ◌∷◌, Option, Some, None}
-use Rattle.std.specs.Int.{bit_at}
+use Rattle.std.specs.Prelude.{ℕ, ◌/◌, ◌%◌, ◌<◌, ◌==◌, if◌then◌else◌, List, [], ◌∷◌, Option, Some, None}
 use Rattle.rrv_model.specs.declared.limits.TheConstants.{MAX_PAGES}
 use Rattle.rrv_model.specs.declared.machine.Permissions.{Permissions}
 use Rattle.rrv_model.specs.declared.record.PagePart.{PagePart}
 use Rattle.rrv_model.specs.declared.record.Part.{Part}
 use Rattle.rrv_model.specs.CallRows.{with_memory}
-use Rattle.rrv_model.specs.Checkpoint.{line_byte, patched_byte}
+use Rattle.rrv_model.specs.Checkpoint.{patched_byte}
 use Rattle.rrv_model.specs.Memory.{Memory, Cell, page_bytes, page_count}
 use Rattle.rrv_model.specs.State.{State}
 use Rattle.checkpoint.specs.declared.fault.ApplyFault.{ApplyFault}
@@ -35,14 +34,6 @@ all_cleared (p ∷ pages) m = all_cleared pages (cleared p m)
 abbrev pub all_set : List PagePart → Memory → Memory
 all_set [] m = m
 all_set (p ∷ pages) m = all_set pages (set p m)
-
--- byte k of a page that has a line for it, or this one
-abbrev pub lined : PagePart → ℕ → ℕ → ℕ
-lined p old k = if bit_at p.mask (k / 64) == 1 then line_byte p (k / 64) (k % 64) else old
-
--- so far as its lines below this one
-abbrev pub lined_below : ℕ → PagePart → ℕ → ℕ → ℕ
-lined_below line p old k = if nat_lt (k / 64) line then lined p old k else old
 
 -- a state with one page, or some, put into its memory
 abbrev pub with_all_cleared : List PagePart → State → State

@@ -9,11 +9,12 @@ use rrv_model::limits::MAX_PART_PAGES;
 use rrv_model::record::{CheckpointRest, Line, PagePart, Part};
 
 /// The pages that may be mapped lie below this one.
-const END_PAGE: u32 = 0x8_0000;
+pub(crate) const END_PAGE: u32 = 0x8_0000;
 
 /// The rest, where the last part has one and no part before it.
 pub(crate) fn rest_of(parts: &[Part]) -> Option<&CheckpointRest>
-    ensures { MatchOption result ((rest : _) → ¬ EndsWithRest parts.now rest) (λ rest. EndsWithRest parts.now rest.now) }
+    ensures { MatchOption result ((rest : _) → ¬ EndsWithRest parts.now rest)
+        (λ rest. EndsWithRest parts.now rest.now) }
 {
     let mut left = parts;
     while let [first, after @ ..] = left {

@@ -1,16 +1,21 @@
 //! The parts of a guest's checkpoint.
 
-ghost use Rattle.std.specs.Prelude.{◌≡◌, ◌<◌, ◌≤◌, ◌+◌, ◌*◌, ◌++◌, ◌∷◌, [], ℕ, None, OnOk, IfOk, IfSome, IsSome, length, slice_index};
+ghost use Rattle.std.specs.Prelude.{◌≡◌, ◌<◌, ◌++◌, ◌∷◌, [], OnOk, IfOk, IsSome, length, map, slice_index};
 ghost use Rattle.std.specs.List.{AllByRecursion};
-ghost use Rattle.rrv_model.specs.Checkpoint.{Describes};
-ghost use Rattle.rrv_model.specs.RecordText.{HasLineText, HasPageText, HasPartText};
+ghost use Rattle.rrv_model.specs.Checkpoint.{Describes, all_pages};
+ghost use Rattle.rrv_model.specs.LineMask.{IsLineMask};
+ghost use Rattle.rrv_model.specs.RecordText.{HasLineText, HasPartText};
 ghost use Rattle.rrv_model.specs.State.{IsState, State};
 ghost use Rattle.guest_calls.specs.Guest.{state_of};
 ghost use Rattle.guest_calls.specs.Snapshots.{guest_snapshots};
-ghost use Rattle.checkpoint.specs.Made.{AreLinesOf, Goes, IsBaseOf, IsLineOf, IsNextNamed, IsRestOf, Says, kept_memory};
+ghost use Rattle.guest_pages.specs.Snapshots.{AreChanges, DifferOn};
+ghost use Rattle.checkpoint.specs.Made.{AreLinesOf, IsBaseOf, IsLineOf, IsMade, IsRestOf, NamesChanges, bytes_of, kept_memory};
 
+use crate::fitting::END_PAGE;
+use crate::pages::zero_page;
 use guest_calls::Guest;
-use guest_pages::Snapshot;
+use guest_pages::{PageView, Snapshot};
+use lane_pages::changed;
 use rrv_model::limits::MAX_PART_PAGES;
 use rrv_model::record::{CheckpointRest, Line, PagePart, Part};
 use rrv_model::refusal::Memory;
@@ -28,28 +33,52 @@ fn line_at(bytes: &[u8; 4096], line: usize) -> Line
     Line { bytes: copy }
 }
 
-/// All lines of a page.
-fn all_lines(alloc: Global, bytes: &[u8; 4096]) -> Result<Sequence<Line>, Memory>
-    ensures lines { IfOk result (AreLinesOf bytes.now 0) }
-    ensures count { IfOk result (λ lines. length lines ≡ 64) }
+/// The lines of a page that a mask names.
+fn masked_lines(alloc: Global, bytes: &[u8; 4096], mask: u64) -> Result<Sequence<Line>, Memory>
+    ensures lines { IfOk result (AreLinesOf bytes.now mask) }
     ensures texts { IfOk result (AllByRecursion HasLineText) }
 {
     let mut lines = Vec::new(alloc);
     for line in 0..64usize {
-        let Ok(()) = lines.push(line_at(bytes, line)) else {
-            return Err(Memory);
-        };
+        if (mask >> line) & 1 == 1 {
+            let Ok(()) = lines.push(line_at(bytes, line)) else {
+                return Err(Memory);
+            };
+        }
     }
     Ok(Sequence::from_vec(lines))
 }
 
-/// All of a page as the guest has it, or that the guest has none there.
-fn page_at(alloc: Global, guest: &Guest, number: u32) -> Result<PagePart, Memory>
-    requires { number < 0x80000 }
-    ensures number { IfOk result (λ page. page.number ≡ number) }
-    ensures text { IfOk result HasPageText }
-    ensures says { IfOk result (Says (state_of guest.now).memory) }
+/// The mask of a page's bytes against those of a page of the base, or against zeros where it has none.
+fn mask_against(bytes: &[u8; 4096], old: Option<PageView<'_>>) -> u64
+    ensures { IsLineMask (slice_index bytes.now) (bytes_of old.entry) result }
 {
+    match old {
+        Some(view) => changed(bytes, view.bytes),
+        None => changed(bytes, &zero_page()),
+    }
+}
+
+/// A law: a page that differs from the base's is one that a guest may have.
+fn is_low(guest: &Guest, base: &Snapshot, number: u32)
+    requires kept { IsSome (guest_snapshots guest.now base.now) }
+    requires differs { DifferOn number (kept_memory guest.now base.now) (state_of guest.now).memory }
+    ensures { number < 0x80000 }
+{
+    let _ = guest.page_count();
+    let space = guest.space();
+    let _ = space.snapshot_page(base, number);
+    let _ = space.snapshot_next_page(base, END_PAGE);
+}
+
+/// A page that differs from the base's, as the guest has it, or that the guest has none there.
+fn page_at(alloc: Global, guest: &Guest, base: &Snapshot, number: u32) -> Result<PagePart, Memory>
+    requires kept { IsSome (guest_snapshots guest.now base.now) }
+    requires differs { DifferOn number (kept_memory guest.now base.now) (state_of guest.now).memory }
+    ensures number { IfOk result (λ page. page.number ≡ number) }
+    ensures made { IfOk result (IsMade (kept_memory guest.now base.now) (state_of guest.now).memory) }
+{
+    is_low(guest, base, number);
     let Some(view) = guest.space().page(number) else {
         return Ok(PagePart {
             number,
@@ -58,57 +87,40 @@ fn page_at(alloc: Global, guest: &Guest, number: u32) -> Result<PagePart, Memory
             lines: Sequence::from_vec(Vec::new(alloc)),
         });
     };
-    let lines = all_lines(alloc, view.bytes)?;
+    let mask = mask_against(view.bytes, guest.space().snapshot_page(base, number));
+    let lines = masked_lines(alloc, view.bytes, mask)?;
     Ok(PagePart {
         number,
         permissions: Some(view.permissions),
-        mask: u64::MAX,
+        mask,
         lines,
     })
 }
 
-/// The least page from a number on that the guest or its base has.
-fn next_named(guest: &Guest, base: &Snapshot, least: u32) -> Option<u32>
-    requires { IsSome (guest_snapshots guest.now base.now) }
-    ensures { IsNextNamed (state_of guest.now).memory (kept_memory guest.now base.now) least result }
-{
-    let here = guest.space().next_page(least);
-    let there = guest.space().snapshot_next_page(base, least);
-    match (here, there) {
-        (Some(here), Some(there)) => Some(here.min(there)),
-        (Some(here), None) => Some(here),
-        (None, there) => there,
-    }
-}
-
-/// The pages of one part, from a page on, and the page that the next part begins with.
+/// The pages of these numbers, each of which differs from the base's.
 fn list_pages(
     alloc: Global,
     guest: &Guest,
     base: &Snapshot,
-    first: Option<u32>,
-) -> Result<(Vec<PagePart>, Option<u32>), Memory>
+    numbers: &[u32],
+) -> Result<Vec<PagePart>, Memory>
     requires kept { IsSome (guest_snapshots guest.now base.now) }
-    requires low { IfSome first (λ number. number < 0x80000) }
-    ensures few { IfOk result (λ listed. length listed.0.items ≤ 1024) }
-    ensures full { IfOk result (λ listed. IsSome listed.1 → length listed.0.items ≡ 1024) }
-    ensures low { IfOk result (λ listed. IfSome listed.1 (λ number. number < 0x80000)) }
-    ensures pages { IfOk result (λ listed.
-        Goes (state_of guest.now).memory (kept_memory guest.now base.now) first listed.0.items listed.1) }
+    requires differ { AllByRecursion
+        (λ n. DifferOn n (kept_memory guest.now base.now) (state_of guest.now).memory) numbers.now }
+    ensures numbers { IfOk result (λ pages. map (λ p. p.number) pages.items ≡ numbers.now) }
+    ensures made { IfOk result (λ pages.
+        AllByRecursion (IsMade (kept_memory guest.now base.now) (state_of guest.now).memory) pages.items) }
 {
     let mut pages = Vec::new(alloc);
-    let mut next = first;
-    while let Some(number) = next {
-        if pages.len() == MAX_PART_PAGES as usize {
-            break;
-        }
-        let page = page_at(alloc, guest, number)?;
+    let mut left = numbers;
+    while let [first, after @ ..] = left {
+        let page = page_at(alloc, guest, base, *first)?;
         let Ok(()) = pages.push(page) else {
             return Err(Memory);
         };
-        next = next_named(guest, base, number + 1);
+        left = after;
     }
-    Ok((pages, next))
+    Ok(pages)
 }
 
 /// A copy of tids.
@@ -153,22 +165,38 @@ fn add_part(
     }
 }
 
+/// The numbers of the pages that differ from the base's, rising.
+fn changed_pages(guest: &Guest, base: &Snapshot) -> Result<Vec<u32>, Memory>
+    requires { IsSome (guest_snapshots guest.now base.now) }
+    ensures { IfOk result (λ numbers.
+        AreChanges (kept_memory guest.now base.now) (state_of guest.now).memory numbers.items) }
+{
+    guest.space().changed_since(base)
+}
+
 /// The parts of a checkpoint of a guest, against the state that its memory is kept of under a live snapshot. Put onto
-/// that state they give the guest's. Refused where a growth is.
+/// that state they give the guest's. They name exactly the pages that differ from that state's, each with the lines that
+/// do. Refused where a growth is.
 pub fn make(alloc: Global, guest: &Guest, base: &Snapshot) -> Result<Vec<Part>, Memory>
     requires { IsSome (guest_snapshots guest.now base.now) }
     ensures texts { IfOk result (λ parts. AllByRecursion HasPartText parts.items) }
     ensures describes { IfOk result (λ parts. (old : State)
         → IsBaseOf (kept_memory guest.now base.now) old (state_of guest.now)
         → Describes old parts.items (state_of guest.now)) }
+    ensures changes { IfOk result (λ parts.
+        NamesChanges (kept_memory guest.now base.now) (state_of guest.now).memory (all_pages parts.items)) }
 {
     let rest = rest_of(alloc, guest)?;
+    let numbers = changed_pages(guest, base)?;
     let mut parts = Vec::new(alloc);
-    let (mut pages, mut next) = list_pages(alloc, guest, base, next_named(guest, base, 0))?;
-    while next.is_some() {
+    let mut left = numbers.as_slice();
+    while left.len() > MAX_PART_PAGES as usize {
+        let (first, behind) = left.split_at(MAX_PART_PAGES as usize);
+        let pages = list_pages(alloc, guest, base, first)?;
         add_part(&mut parts, pages, None)?;
-        (pages, next) = list_pages(alloc, guest, base, next)?;
+        left = behind;
     }
+    let pages = list_pages(alloc, guest, base, left)?;
     add_part(&mut parts, pages, Some(rest))?;
     Ok(parts)
 }

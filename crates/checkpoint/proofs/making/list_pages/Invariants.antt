@@ -1,13 +1,16 @@
-use Rattle.std.proofs.Common.{◌<◌, ◌≤◌, IfSome, length}
+use Rattle.std.proofs.Common.{◌≡◌, ◌++◌, length, map}
+use Rattle.std.specs.List.{AllByRecursion}
 use Rattle.guest_calls.specs.Guest.{state_of}
-use Rattle.checkpoint.specs.Made.{Goes, kept_memory}
-use Rattle.checkpoint.proofs.Named.{pages_left}
+use Rattle.guest_pages.specs.Snapshots.{DifferOn}
+use Rattle.checkpoint.specs.Made.{IsMade, kept_memory}
 use Rattle.checkpoint.proofs.making.list_pages.Given as goal
 
-abbrev pub invariant-loop-next : goal.invariant-loop-next
-invariant-loop-next l =
-    (length l.pages.items ≤ 1024) × Goes (state_of l.guest).memory (kept_memory l.guest l.base) l.fn.first l.pages.items l.next
-    × IfSome l.next (λ n. n < 0x80000)
+abbrev pub invariant-loop-left : goal.invariant-loop-left
+invariant-loop-left l = record {
+  split : map (λ p. p.number) l.pages.items ++ l.left ≡ l.fn.numbers;
+  made : AllByRecursion (IsMade (kept_memory l.guest l.base) (state_of l.guest).memory) l.pages.items;
+  differ : AllByRecursion (λ n. DifferOn n (kept_memory l.guest l.base) (state_of l.guest).memory) l.left;
+}
 
-abbrev pub decreases-loop-next : goal.decreases-loop-next
-decreases-loop-next l = pages_left l.next
+abbrev pub decreases-loop-left : goal.decreases-loop-left
+decreases-loop-left l = length l.left

@@ -1,44 +1,74 @@
-use Rattle.std.proofs.Common.{◌≡◌, ◌∙◌, List, Option, ℕ, None, subst, sym}
+use Rattle.std.proofs.Common.{◌∙◌, ◌≤◌, ◌++◌, [], List, ℕ, ap, arith, length, subst, sym}
+use Rattle.std.proofs.lemmas.List.{length-map}
 use Rattle.std.specs.List.{AllByRecursion}
+use Rattle.rrv_model.specs.declared.record.PagePart.{PagePart}
 use Rattle.rrv_model.specs.declared.record.Part.{Part}
-use Rattle.rrv_model.specs.Checkpoint.{Describes}
+use Rattle.rrv_model.specs.Checkpoint.{Describes, all_pages}
 use Rattle.rrv_model.specs.RecordText.{HasPartText}
 use Rattle.guest_calls.specs.Guest.{state_of}
-use Rattle.checkpoint.specs.Made.{kept_memory}
-use Rattle.checkpoint.proofs.Named.{fewer_then, is_none}
-use Rattle.checkpoint.proofs.Whole.{HasListed, all_texts, described, lists_more}
+use Rattle.guest_pages.specs.Snapshots.{DifferOn}
+use Rattle.checkpoint.specs.Made.{NamesChanges, kept_memory}
+use Rattle.checkpoint.proofs.Named.{of_back, of_contained, of_front, split_of}
+use Rattle.checkpoint.proofs.Whole.{HasListed, all_texts, described, has_all, lists_more, lists_none, names_changes}
 use Rattle.checkpoint.proofs.making.make.Goals as goal
 
-pub loop-alloc-smaller : goal.loop-alloc-smaller
-loop-alloc-smaller c =
-    fewer_then (state_of c.args.guest.now).memory (kept_memory c.args.guest.now c.args.base.now) c.loop-alloc.next c.in_ok-pages-2.field-0-0.items c.in_ok-pages-2.field-0-1
-    (sym c.is_some.ensures ∙ c.loop-alloc-test.true) c.loop-alloc.invariant.1 c.in_ok-pages-2.ensures.pages c.in_ok-pages-2.ensures.low c.in_ok-pages-2.ensures.full
-
-pub loop-alloc-preserved : goal.loop-alloc-preserved
-loop-alloc-preserved c =
+pub loop-left-init : goal.loop-left-init
+loop-left-init c =
     let m = (state_of c.args.guest.now).memory in
-    let kept = kept_memory c.args.guest.now c.args.base.now in
-    let more = c.in_ok-pages-2.field-0-0.items in
-    let last = c.in_ok-pages-2.field-0-1 in (
-      subst (λ (ps : List Part). HasListed m kept ps more last) (sym c.in_ok-add_part.ensures)
-          (lists_more m kept c.loop-alloc.parts.items c.loop-alloc.pages.items c.loop-alloc.next more last c.loop-alloc.invariant.0 c.in_ok-pages-2.ensures.pages c.in_ok-pages-2.ensures.few),
-      c.in_ok-pages-2.ensures.low,
-    )
+    let before = kept_memory c.args.guest.now c.args.base.now in
+    let numbers = c.in_ok-numbers.numbers.items in
+    let P = λ (n : ℕ). DifferOn n before m in
+    record {
+      listed = subst (λ (ps : List Part). HasListed before m ps c.as_slice-left.result.now) (sym c.new-parts.ensures.items)
+          (subst (λ (ns : List ℕ). HasListed before m [] ns) (sym c.as_slice-left.ensures.value) (lists_none before m numbers c.in_ok-numbers.ensures));
+      differ = subst (λ (ns : List ℕ). AllByRecursion P ns) (sym c.as_slice-left.ensures.value) (of_contained P numbers c.in_ok-numbers.ensures.differ);
+    }
+
+pub list_pages-requires-clause-differ : goal.list_pages-requires-clause-differ
+list_pages-requires-clause-differ c =
+    let left = c.loop-left.left.now in
+    let front = c.split_at.result.0.now in
+    let behind = c.split_at.result.1.now in
+    of_front (λ (n : ℕ). DifferOn n (kept_memory c.args.guest.now c.args.base.now) (state_of c.args.guest.now).memory) left front behind
+    (split_of left front behind c.split_at.ensures.front c.split_at.ensures.back) c.loop-left.invariant.differ
+
+pub loop-left-preserved : goal.loop-left-preserved
+loop-left-preserved c =
+    let m = (state_of c.args.guest.now).memory in
+    let before = kept_memory c.args.guest.now c.args.base.now in
+    let left = c.loop-left.left.now in
+    let front = c.split_at.result.0.now in
+    let behind = c.split_at.result.1.now in
+    let pages = c.in_ok-pages.pages.items in
+    let whole = split_of left front behind c.split_at.ensures.front c.split_at.ensures.back in
+    let these = c.in_ok-pages.ensures.numbers in
+    let few : length pages ≤ 1024 = omega (arith, length-map pages (λ (p : PagePart). p.number), ap (λ (ns : List ℕ). length ns) these, c.split_at.ensures.front_len) in
+    record {
+      listed = subst (λ (ps : List Part). HasListed before m ps behind) (sym c.in_ok-add_part.ensures)
+          (lists_more before m c.loop-left.parts.items left behind pages c.loop-left.invariant.listed (ap (λ (ns : List ℕ). ns ++ behind) these ∙ whole) c.in_ok-pages.ensures.made few);
+      differ = of_back (λ (n : ℕ). DifferOn n before m) left front behind whole c.loop-left.invariant.differ;
+    }
 
 pub returns-clause-texts : goal.returns-clause-texts
 returns-clause-texts c =
     let s = state_of c.args.guest.now in
-    let kept = kept_memory c.args.guest.now c.args.base.now in
-    let none : c.loop-alloc.next ≡ None = is_none c.loop-alloc.next (sym c.is_some.ensures ∙ c.loop-alloc-test.false) in
-    let listed = subst (λ (o : Option ℕ). HasListed s.memory kept c.loop-alloc.parts.items c.loop-alloc.pages.items o) none c.loop-alloc.invariant.0 in
-    subst (λ (ps : List Part). AllByRecursion HasPartText ps) (sym c.in_ok-add_part-2.ensures)
-    (all_texts kept s c.loop-alloc.parts.items c.loop-alloc.pages.items c.in_ok-rest.rest listed c.in_ok-rest.ensures.rest)
+    let before = kept_memory c.args.guest.now c.args.base.now in
+    let all = has_all before s c.loop-left.parts.items c.loop-left.left.now c.in_ok-pages-2.pages.items c.in_ok-rest.rest c.loop-left.invariant.listed c.in_ok-pages-2.ensures.numbers
+    c.in_ok-pages-2.ensures.made c.loop-left-test.false c.in_ok-rest.ensures.rest c.rest_of.ensures.is_state in
+    subst (λ (ps : List Part). AllByRecursion HasPartText ps) (sym c.in_ok-add_part-2.ensures) (all_texts before s c.loop-left.parts.items c.in_ok-pages-2.pages.items c.in_ok-rest.rest all)
 
 pub returns-clause-describes : goal.returns-clause-describes
-returns-clause-describes c = λ old base.
+returns-clause-describes c old base =
     let s = state_of c.args.guest.now in
-    let kept = kept_memory c.args.guest.now c.args.base.now in
-    let none : c.loop-alloc.next ≡ None = is_none c.loop-alloc.next (sym c.is_some.ensures ∙ c.loop-alloc-test.false) in
-    let listed = subst (λ (o : Option ℕ). HasListed s.memory kept c.loop-alloc.parts.items c.loop-alloc.pages.items o) none c.loop-alloc.invariant.0 in
-    subst (λ (ps : List Part). Describes old ps s) (sym c.in_ok-add_part-2.ensures)
-    (described kept s c.loop-alloc.parts.items c.loop-alloc.pages.items c.in_ok-rest.rest listed c.in_ok-rest.ensures.rest c.rest_of.ensures.is_state old base)
+    let before = kept_memory c.args.guest.now c.args.base.now in
+    let all = has_all before s c.loop-left.parts.items c.loop-left.left.now c.in_ok-pages-2.pages.items c.in_ok-rest.rest c.loop-left.invariant.listed c.in_ok-pages-2.ensures.numbers
+    c.in_ok-pages-2.ensures.made c.loop-left-test.false c.in_ok-rest.ensures.rest c.rest_of.ensures.is_state in
+    subst (λ (ps : List Part). Describes old ps s) (sym c.in_ok-add_part-2.ensures) (described before s c.loop-left.parts.items c.in_ok-pages-2.pages.items c.in_ok-rest.rest all old base)
+
+pub returns-clause-changes : goal.returns-clause-changes
+returns-clause-changes c =
+    let s = state_of c.args.guest.now in
+    let before = kept_memory c.args.guest.now c.args.base.now in
+    let all = has_all before s c.loop-left.parts.items c.loop-left.left.now c.in_ok-pages-2.pages.items c.in_ok-rest.rest c.loop-left.invariant.listed c.in_ok-pages-2.ensures.numbers
+    c.in_ok-pages-2.ensures.made c.loop-left-test.false c.in_ok-rest.ensures.rest c.rest_of.ensures.is_state in
+    subst (λ (ps : List Part). NamesChanges before s.memory (all_pages ps)) (sym c.in_ok-add_part-2.ensures) (names_changes before s c.loop-left.parts.items c.in_ok-pages-2.pages.items c.in_ok-rest.rest all)
