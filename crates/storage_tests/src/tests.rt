@@ -13,6 +13,7 @@ mod limits;
 mod logs;
 mod machine;
 mod many;
+mod pieces;
 mod rows;
 mod texts;
 mod worked;

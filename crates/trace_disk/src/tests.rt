@@ -70,7 +70,7 @@ fn what_is_no_file_is_refused(rt: HostRuntime) -> Result<(), Fail> {
         "file_disk_refuses/file/store",
         "file_disk_refuses/none/store",
         "file_disk_refuses/a\0b",
-        "/dev/null",
+        "/dev/zero",
         "",
     ];
     for path in paths {

@@ -12,13 +12,29 @@ use std::process::Abort;
 use std::sync::Wait;
 use std::test::Fail;
 use std::thread::Threads;
+use test_guests::bytes::bytes_of;
 use test_guests::files::{EXIT_FIVE, file_of};
 use test_guests::outsides::Nothing;
-use trace_disk::MemDisk;
+use trace_disk::{Disk, MemDisk};
 use trace_log::Log;
 
 /// A program that jumps to itself: `j .`.
 const JUMP: [u32; 1] = [0x0000_006F];
+
+/// A program that stores `hi` and a newline below the stack pointer, writes these three bytes, and exits with 0.
+const HELLO: [u32; 11] = [
+    0xFF01_0593,
+    0x000A_7537,
+    0x9685_0513,
+    0x00A5_A023,
+    0x0010_0513,
+    0x0030_0613,
+    0x0400_0893,
+    0x0000_0073,
+    0x0000_0513,
+    0x05D0_0893,
+    0x0000_0073,
+];
 
 /// What a record is: its kind, and how many instructions or pages it has.
 fn kind_of(record: &Record) -> (&'static str, usize) {
@@ -40,14 +56,13 @@ fn kind_of(record: &Record) -> (&'static str, usize) {
     }
 }
 
-/// The kinds of the records of a program by so many choices of 64 instructions, with checkpoints so far apart. They are
-/// verified too.
-fn recorded<R: Abort + AllocGlobal + Threads + Wait + Sync>(
+/// The store of a program by so many choices of 64 instructions, with checkpoints so far apart.
+fn stored<R: Abort + AllocGlobal + Threads + Wait + Sync>(
     rt: &R,
     program: &[u32],
     choices: usize,
     every: u32,
-) -> Result<Vec<(&'static str, usize)>, Fail> {
+) -> Result<MemDisk, Fail> {
     let alloc = rt.alloc();
     let choice = Choice {
         tid: 1,
@@ -66,7 +81,20 @@ fn recorded<R: Abort + AllocGlobal + Threads + Wait + Sync>(
     let log = Log::create(MemDisk::new(alloc)).ok().ok_or("not made")?;
     let (log, _, result) = record_all(rt, alloc, log, jobs, &OpenGate);
     result.ok().ok_or("not recorded")?;
-    let records = Store::of(alloc, log.close())?.records(alloc, 0)?;
+    Ok(log.close())
+}
+
+/// The kinds of the records of a program by so many choices of 64 instructions, with checkpoints so far apart. They are
+/// verified too.
+fn recorded<R: Abort + AllocGlobal + Threads + Wait + Sync>(
+    rt: &R,
+    program: &[u32],
+    choices: usize,
+    every: u32,
+) -> Result<Vec<(&'static str, usize)>, Fail> {
+    let alloc = rt.alloc();
+    let disk = stored(rt, program, choices, every)?;
+    let records = Store::of(alloc, disk)?.records(alloc, 0)?;
     same(
         rt,
         &"verified",
@@ -80,6 +108,21 @@ fn recorded<R: Abort + AllocGlobal + Threads + Wait + Sync>(
     Ok(kinds)
 }
 
+/// How often these bytes, words of hex digits, stand in a disk.
+fn times_in(alloc: Global, disk: &mut MemDisk, text: &str) -> Result<u32, Fail> {
+    let want = bytes_of(alloc, text).ok_or("no bytes")?;
+    let mut bytes = Vec::new(alloc);
+    bytes.resize(usize::try_from(disk.len())?, 0)?;
+    disk.read_at(0, &mut bytes)?;
+    let mut times = 0u32;
+    for place in 0..bytes.len() {
+        if bytes[place..].starts_with(&want) {
+            times = times.saturating_add(1);
+        }
+    }
+    Ok(times)
+}
+
 #[test]
 fn a_checkpoint_follows_each_second_frame(rt: HostRuntime) -> Result<(), Fail> {
     let kinds = recorded(&rt, &JUMP, 4, 128)?;
@@ -87,10 +130,10 @@ fn a_checkpoint_follows_each_second_frame(rt: HostRuntime) -> Result<(), Fail> {
         ("opening", 0),
         ("preempt", 64),
         ("preempt", 64),
-        ("last part", 257),
+        ("last part", 0),
         ("preempt", 64),
         ("preempt", 64),
-        ("last part", 257),
+        ("last part", 0),
     ];
     same(&rt, &"kinds", kinds.as_slice(), want);
     Ok(())
@@ -101,5 +144,32 @@ fn no_checkpoint_follows_the_end(rt: HostRuntime) -> Result<(), Fail> {
     let kinds = recorded(&rt, &EXIT_FIVE, 1, 1)?;
     let want: &[(&str, usize)] = &[("opening", 0), ("end", 3)];
     same(&rt, &"kinds", kinds.as_slice(), want);
+    Ok(())
+}
+
+#[test]
+fn a_part_has_the_lines_that_changed(rt: HostRuntime) -> Result<(), Fail> {
+    // A record's head, and how its payload begins: the flag and the number of pages, then the number of a page, its permissions,
+    // its mask and its line.
+    let rows: &[(&str, &[u32], usize, u32, &str)] = &[
+        (
+            "no page of 158 bytes",
+            &JUMP,
+            4,
+            128,
+            "00000000 03000000 05 9e000000 01 00000000",
+        ),
+        (
+            "one line of 235 bytes",
+            &HELLO,
+            2,
+            8,
+            "00000000 02000000 05 eb000000 01 01000000 ffff0700 06 0000000000000040 00*16 68690a00",
+        ),
+    ];
+    for (what, program, choices, every, text) in rows {
+        let mut disk = stored(&rt, program, *choices, *every)?;
+        same(&rt, what, times_in(rt.alloc(), &mut disk, text)?, 1);
+    }
     Ok(())
 }

@@ -2,12 +2,15 @@
 
 use super::device::{Device, bytes_of, crashed, lengths_of};
 use super::worked::Store;
-use recover::{Lists, OpenFault, open};
+use recover::{Lists, OpenFault, open, open_in_pieces};
 use rrv_model::record::Record;
 use std::alloc::Global;
 use std::test::Fail;
 use trace_disk::{Disk, FailOnce, MemDisk};
 use trace_log::{Log, LogFault};
+
+// What opening a store gives.
+type Opened = Result<(Log<Device>, Lists), (Device, OpenFault)>;
 
 /// A disk, or a log on it; the records that were there at the last opening; and a body to be committed.
 #[derive(Drop)]
@@ -105,15 +108,33 @@ impl Machine {
     /// Opens the store on the disk.
     pub(crate) fn open(&mut self, alloc: Global) -> Result<Option<OpenFault>, Fail> {
         let device = self.device.take().ok_or("no disk")?;
-        match open(alloc, device) {
+        Ok(self.keep(open(alloc, device)))
+    }
+
+    /// The same, in pieces of so many bytes.
+    pub(crate) fn open_in(
+        &mut self,
+        alloc: Global,
+        piece: usize,
+    ) -> Result<Option<OpenFault>, Fail> {
+        if piece == 0 || piece > 65_536 {
+            return Err(Fail::new("no such piece"));
+        }
+        let device = self.device.take().ok_or("no disk")?;
+        Ok(self.keep(open_in_pieces(alloc, device, piece)))
+    }
+
+    // Keeps what opening gave.
+    fn keep(&mut self, opened: Opened) -> Option<OpenFault> {
+        match opened {
             Ok((log, lists)) => {
                 self.log = Some(log);
                 self.lists = Some(lists);
-                Ok(None)
+                None
             }
             Err((device, fault)) => {
                 self.device = Some(device);
-                Ok(Some(fault))
+                Some(fault)
             }
         }
     }

@@ -34,6 +34,8 @@ pub(crate) enum Row<'a> {
     Close,
     /// Opens the store; the refusal, where it is refused.
     Open(Option<OpenFault>),
+    /// The same, in pieces of so many bytes.
+    OpenIn(usize, Option<OpenFault>),
     /// The guests of the opened store.
     Guests(&'a [u32]),
     /// How many records a guest of it has.
@@ -133,6 +135,7 @@ fn take(
         Row::NextGuest(want) => same(rt, &place, machine.next_guest()?, want),
         Row::Close => machine.close()?,
         Row::Open(want) => same(rt, &place, machine.open(alloc)?, want),
+        Row::OpenIn(piece, want) => same(rt, &place, machine.open_in(alloc, piece)?, want),
         Row::Guests(want) => same(rt, &place, machine.guests()?, want),
         Row::Records(guest, want) => same(rt, &place, machine.records(guest)?, want),
         Row::Opening(guest, elf, name) => {
