@@ -1,4 +1,5 @@
 pub mod Tried
+pub mod Sources
 pub mod Statuses
 pub mod Texts
 pub mod Summaries

@@ -48,12 +48,11 @@ printed_on f xs i x a b c is before now = appends_on a b c (flat_map f (take i x
 
 -- ---- what is printed where all was
 
-pub verified_printed : {T E : Type 0} (r : Result T E) (o : Opening) (frames : List Frame) (last : State) (len records steps : ℕ) (end : Option GuestEnd) (a b : Option (List ℕ))
-    → StateAt o frames (total frames) last → records ≡ len → steps ≡ total frames → end ≡ last.ended → OnOk r (Appends a b (with_newline (verify_line records steps end)))
-    → OnOk r ((s : State) × StateAt o frames (total frames) s × Appends a b (with_newline (verify_line len (total frames) s.ended)))
-verified_printed (Ok x) o frames last len records steps end a b at records_are steps_are end_is printed =
-    (last, at, subst (λ t. Appends a b (with_newline t)) (ap (λ n. verify_line n steps end) records_are ∙ ap (λ n. verify_line len n end) steps_are ∙ ap (verify_line len (total frames)) end_is) printed)
-verified_printed (Err e) o frames last len records steps end a b at records_are steps_are end_is printed = tt
+pub end_printed : {T E : Type 0} (r : Result T E) (len records total steps : ℕ) (last end : Option GuestEnd) (a b : Option (List ℕ)) → records ≡ len → steps ≡ total → end ≡ last
+    → OnOk r (Appends a b (with_newline (verify_line records steps end))) → OnOk r (Appends a b (with_newline (verify_line len total last)))
+end_printed (Ok x) len records total steps last end a b records_are steps_are end_is printed =
+    subst (λ t. Appends a b (with_newline t)) (ap (λ n. verify_line n steps end) records_are ∙ ap (λ n. verify_line len n end) steps_are ∙ ap (verify_line len total) end_is) printed
+end_printed (Err e) len records total steps last end a b records_are steps_are end_is printed = tt
 
 pub state_printed : {T E : Type 0} (r : Result T E) (o : Opening) (frames : List Frame) (s : State) (place at steps : ℕ) (a b : Option (List ℕ))
     → StateAt o frames place s → at ≡ place → steps ≡ total frames → OnOk r (Appends a b (state_lines at steps s))

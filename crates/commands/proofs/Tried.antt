@@ -18,6 +18,8 @@ use Rattle.trace_disk.specs.contracts.mem_disk.MemDiskDisk.TheImpl.{ghosts}
 use Rattle.trace_log.specs.Kept.{Keeps, LogValue}
 use Rattle.recover.specs.declared.fault.OpenFault.{OpenFault}
 use Rattle.recover.specs.declared.fault.OpenFault.TheVariants as open_faults
+use Rattle.replayer.specs.declared.fault.ReadGuestFault.{ReadGuestFault}
+use Rattle.replayer.specs.declared.fault.ReadGuestFault.TheVariants as read_faults
 use Rattle.replayer.specs.declared.fault.VerifyFault.{VerifyFault}
 use Rattle.replayer.specs.Refusals.{RefusesVerify}
 use Rattle.replayer.proofs.Walked.{refuses_recording}
@@ -30,7 +32,7 @@ use Rattle.session.specs.Sessions.{AreRecorded, AreReported, HasRun, IsRecording
 use Rattle.session.specs.Works.{Choosers, Sinks, IsRecordedFrom, opening_for}
 use Rattle.commands.specs.declared.refusal.Refusal.{Refusal}
 use Rattle.commands.specs.declared.refusal.Refusal.TheVariants as refusals
-use Rattle.commands.specs.Told.{open_told, session_told, verify_told}
+use Rattle.commands.specs.Told.{open_told, read_told, session_told, verify_told}
 use Rattle.commands.specs.Tried.{IsOneJob, IsStored, IsTooLong, RefusesTrial, report_of}
 
 settled_store : (state : DiskState) (bodies : List (List ℕ)) → IsSettled state bodies → IsStore state.content bodies
@@ -205,6 +207,12 @@ pub open_refused : (e : Refusal) (fault : OpenFault) (first : Record) → e ≡ 
 open_refused e fault first is which = elim which [
   | inl failed ↦ refused_by_device e first (is ∙ ap open_told failed)
   | inr memory ↦ refused_for_memory e first (is ∙ ap open_told memory)
+]
+
+pub read_refused : (e : ReadGuestFault) (first : Record) → (e ≡ read_faults.DeviceFailed) ⊎ (e ≡ read_faults.Memory) → RefusesTrial (read_told e) first
+read_refused e first which = elim which [
+  | inl failed ↦ refused_by_device (read_told e) first (ap read_told failed)
+  | inr memory ↦ refused_for_memory (read_told e) first (ap read_told memory)
 ]
 
 -- what was recorded verifies, unless memory is lacking

@@ -1,5 +1,5 @@
 -- The jobs of a recording.
-use Rattle.std.specs.Prelude.{◌≡◌, ℕ, ◌+◌, List, [], ◌∷◌, length, vec_items}
+use Rattle.std.specs.Prelude.{◌≡◌, ℕ, ◌+◌, List, [], ◌∷◌, vec_items}
 use Rattle.host.specs.Seen.{Seen}
 use Rattle.host.specs.Stream.{opening_bytes}
 use Rattle.serial_sched.specs.declared.chooser.RoundRobin.{RoundRobin}

@@ -5,6 +5,7 @@ use Rattle.recover.specs.declared.fault.OpenFault.{OpenFault}
 use Rattle.recover.specs.Opened.{IsFailure, IsFaultOf}
 use Rattle.replayer.specs.declared.fault.VerifyFault.TheVariants as verify_faults
 use Rattle.replayer.specs.Refusals.{RefusesVerify}
+use Rattle.replayer.specs.Sourced.{RefusesSource}
 use Rattle.commands.specs.declared.refusal.Refusal.{Refusal}
 use Rattle.commands.specs.declared.refusal.Refusal.TheVariants as refusals
 use Rattle.commands.specs.Told.{open_told}
@@ -18,13 +19,8 @@ RefusesStore bytes e =
 abbrev pub IsFailed : Refusal → Type 0
 IsFailed e = (e ≡ refusals.DeviceFailed) ⊎ (e ≡ refusals.Memory)
 
--- a guest has no records, or there was no memory
-abbrev pub RefusesRead : Refusal → List Record → Type 0
-RefusesRead refusals.NoSuchGuest records = records ≡ []
-RefusesRead refusals.Memory records = 1 ≤ length records
-RefusesRead _ records = ⊥
-
--- a guest has no records, or some that are no recording, and then the first bad one is named, or there was no memory
+-- a guest has no records, or some that are no recording, and then the first bad one is named, or one that was not read, or
+-- there was no memory
 abbrev pub RefusesGuest : Refusal → List Record → Type 0
 RefusesGuest refusals.NoSuchGuest records = records ≡ []
 RefusesGuest refusals.BadOpening records =
@@ -32,6 +28,7 @@ RefusesGuest refusals.BadOpening records =
 RefusesGuest (refusals.Mismatch index) records = RefusesVerify (verify_faults.Mismatch index) records
 RefusesGuest (refusals.BadCheckpoint index) records = RefusesVerify (verify_faults.BadCheckpoint index) records
 RefusesGuest refusals.Memory records = 1 ≤ length records
+RefusesGuest (refusals.Unreadable index) records = RefusesSource (verify_faults.Unreadable index) records
 RefusesGuest _ records = ⊥
 
 -- why the state so many instructions before a place isn't printed
@@ -46,9 +43,14 @@ RefusesPlace _ total from count = ⊥
 abbrev pub RefusesPrint : Refusal → Type 0
 RefusesPrint e = (e ≡ refusals.Memory) ⊎ (e ≡ refusals.OutputFailed)
 
+-- why lines of what a disk holds aren't printed
+abbrev pub RefusesList : Refusal → Type 0
+RefusesList e = (e ≡ refusals.DeviceFailed) ⊎ RefusesPrint e
+
 -- why the lines of a guest's records aren't printed
 abbrev pub RefusesDump : Refusal → List Record → Type 0
 RefusesDump refusals.NoSuchGuest records = records ≡ []
+RefusesDump refusals.DeviceFailed records = 1 ≤ length records
 RefusesDump refusals.Memory records = 1 ≤ length records
 RefusesDump refusals.OutputFailed records = 1 ≤ length records
 RefusesDump _ records = ⊥

@@ -50,6 +50,7 @@ verify_told (verify_faults.Mismatch index) = refusals.Mismatch index
 verify_told (verify_faults.BadCheckpoint index) = refusals.BadCheckpoint index
 verify_told verify_faults.BadOpening = refusals.BadOpening
 verify_told verify_faults.Memory = refusals.Memory
+verify_told (verify_faults.Unreadable index) = refusals.Unreadable index
 
 -- of a guest's file
 abbrev pub elf_told : ℕ → ElfFault → Refusal

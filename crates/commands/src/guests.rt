@@ -3,8 +3,9 @@
 ghost use Rattle.std.specs.Prelude.{◌≡◌, ◌+◌, ◌-◌, ◌^◌, ◌<◌, ◌≤◌, IfErr, IfOk, List, OnOk, length, ℕ};
 ghost use Rattle.std.specs.Io.KnownBytes.{Appends};
 ghost use Rattle.rrv_model.specs.Recovered.{of_guest};
+ghost use Rattle.recover.specs.Spots.{records_of, StandOn};
 ghost use Rattle.commands.specs.Printed.{AddsItem, IsList, IsSummary, dump_lines, guest_line, with_newline};
-ghost use Rattle.commands.specs.Stores.{RefusesDump, RefusesPrint};
+ghost use Rattle.commands.specs.Stores.{IsFailed, RefusesDump, RefusesList};
 
 use crate::printing::{finish, in_blocks, print_line};
 use crate::refusal::Refusal;
@@ -56,9 +57,10 @@ fn summary_of<D: Disk>(
     disk: &mut D,
     guest: u32,
 ) -> Result<Summary, Refusal>
-    ensures summary { IfOk result (λ s.
-        IsSummary (of_guest guest lists.now) s.name.items s.frames s.instructions) }
-    ensures refused { IfErr result (λ e. e ≡ Refusal.Memory) }
+    ensures summary { StandOn D.honest D.state disk.old lists.now → IfOk result (λ s.
+        IsSummary (of_guest guest (records_of lists.now)) s.name.items s.frames s.instructions) }
+    ensures refused { StandOn D.honest D.state disk.old lists.now → IfErr result IsFailed }
+    ensures on { StandOn D.honest D.state disk.old lists.now → StandOn D.honest D.state disk.new lists.now }
 {
     let mut summary = Summary {
         name: Vec::new(alloc),
@@ -80,9 +82,11 @@ fn print_guest<D: Disk, W: Write>(
     guest: u32,
     out: &mut W,
 ) -> Result<(), Refusal>
-    ensures printed { OnOk result (Appends (W.contents out.old) (W.contents out.new)
-        (with_newline (guest_line guest (of_guest guest lists.now)))) }
-    ensures refused { IfErr result RefusesPrint }
+    ensures printed { StandOn D.honest D.state disk.old lists.now
+        → OnOk result (Appends (W.contents out.old) (W.contents out.new)
+        (with_newline (guest_line guest (of_guest guest (records_of lists.now))))) }
+    ensures refused { StandOn D.honest D.state disk.old lists.now → IfErr result RefusesList }
+    ensures on { StandOn D.honest D.state disk.old lists.now → StandOn D.honest D.state disk.new lists.now }
 {
     let summary = summary_of(alloc, lists, disk, guest)?;
     let records = u64::from(lists.len(guest));
@@ -103,9 +107,10 @@ fn print_guests<D: Disk, W: Write>(
     disk: &mut D,
     out: &mut W,
 ) -> Result<(), Refusal>
-    ensures printed { OnOk result ((text : List ℕ) × IsList lists.now text
+    ensures printed { StandOn D.honest D.state disk.old lists.now
+        → OnOk result ((text : List ℕ) × IsList (records_of lists.now) text
         × Appends (W.contents out.old) (W.contents out.new) text) }
-    ensures refused { IfErr result RefusesPrint }
+    ensures refused { StandOn D.honest D.state disk.old lists.now → IfErr result RefusesList }
 {
     for guest in lists.guests() {
         print_guest(alloc, lists, disk, *guest, out)?;
@@ -121,10 +126,12 @@ fn print_records<D: Disk, W: Write>(
     number: u64,
     out: &mut W,
 ) -> Result<(), Refusal>
-    ensures printed { OnOk result (Appends (W.contents out.old) (W.contents out.new)
-        (dump_lines (of_guest number lists.now))) }
-    ensures some { OnOk result (1 ≤ length (of_guest number lists.now)) }
-    ensures refused { IfErr result (λ e. RefusesDump e (of_guest number lists.now)) }
+    ensures printed { StandOn D.honest D.state disk.old lists.now
+        → OnOk result (Appends (W.contents out.old) (W.contents out.new)
+        (dump_lines (of_guest number (records_of lists.now)))) }
+    ensures some { OnOk result (1 ≤ length (of_guest number (records_of lists.now))) }
+    ensures refused { StandOn D.honest D.state disk.old lists.now
+        → IfErr result (λ e. RefusesDump e (of_guest number (records_of lists.now))) }
 {
     let guest = guest_in(lists, number)?;
     for index in 0..lists.len(guest) {

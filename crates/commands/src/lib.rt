@@ -14,6 +14,7 @@ mod running;
 mod silence;
 mod states;
 mod store;
+mod stored;
 mod terminals;
 mod trial;
 mod verifying;

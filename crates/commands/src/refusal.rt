@@ -50,7 +50,7 @@ pub enum Refusal {
     NewerVersion,
     /// The store no longer holds a record that it held.
     #[error("record {index} unreadable")]
-    Unreadable { index: u32 },
+    Unreadable { index: usize },
     /// A record doesn't follow from those before it.
     #[error("record {index} does not replay")]
     Mismatch { index: usize },
@@ -166,7 +166,9 @@ impl From<ReadGuestFault> for Refusal {
     fn from(fault: ReadGuestFault) -> Self {
         match fault {
             ReadGuestFault::DeviceFailed => Refusal::DeviceFailed,
-            ReadGuestFault::Unreadable { index } => Refusal::Unreadable { index },
+            ReadGuestFault::Unreadable { index } => Refusal::Unreadable {
+                index: index as usize,
+            },
             ReadGuestFault::Memory => Refusal::Memory,
         }
     }
@@ -180,6 +182,7 @@ impl From<VerifyFault> for Refusal {
             VerifyFault::Mismatch { index } => Refusal::Mismatch { index },
             VerifyFault::BadCheckpoint { index } => Refusal::BadCheckpoint { index },
             VerifyFault::BadOpening => Refusal::BadOpening,
+            VerifyFault::Unreadable { index } => Refusal::Unreadable { index },
             VerifyFault::Memory => Refusal::Memory,
         }
     }

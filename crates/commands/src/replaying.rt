@@ -1,16 +1,15 @@
-//! A verified recording, told and put out again.
+//! The end of a verified recording, told, and its output, put out again.
 
 ghost use Rattle.std.specs.Prelude.{◌≡◌, [], IfErr, OnOk};
 ghost use Rattle.std.specs.Io.KnownBytes.{Appends};
-ghost use Rattle.rrv_model.specs.State.{State};
-ghost use Rattle.rrv_model.specs.StateAt.{StateAt, total};
+ghost use Rattle.guest_calls.specs.Guest.{state_of};
 ghost use Rattle.trace_text.specs.Lines.{verify_line};
 ghost use Rattle.commands.specs.Printed.{with_newline};
 ghost use Rattle.commands.specs.Stores.{RefusesPrint};
 
 use crate::printing::{finish, in_blocks, print_line, print_put};
 use crate::refusal::Refusal;
-use replayer::Verified;
+use replayer::{Verified, VerifiedEnd};
 use rrv_model::sink::{Sink, SinkError};
 use std::alloc::Global;
 use std::io::Write;
@@ -18,27 +17,19 @@ use std::sync::Wait;
 use trace_text::VerifyLine;
 
 /// Prints how many records and instructions a recording has, and how it ends.
-fn print_verified<W: Write>(alloc: Global, verified: &Verified, out: &mut W) -> Result<(), Refusal>
-    ensures printed { OnOk result ((last : State)
-        × StateAt verified.now.opening verified.now.frames (total verified.now.frames) last
-        × Appends (W.contents out.old) (W.contents out.new)
-        (with_newline (verify_line verified.now.len (total verified.now.frames) last.ended))) }
+fn print_end<W: Write>(end: &VerifiedEnd, out: &mut W) -> Result<(), Refusal>
+    ensures printed { OnOk result (Appends (W.contents out.old) (W.contents out.new)
+        (with_newline (verify_line end.now.len end.now.total (state_of end.now.guest).ended))) }
     ensures refused { IfErr result RefusesPrint }
 {
-    let total = verified.total();
-    let last = verified.state_at(alloc, total)?;
-    let line = VerifyLine::new(verified.len() as u64, total, last.ended());
+    let line = VerifyLine::new(end.len as u64, end.total, end.guest.ended());
     print_line(out, &line)
 }
 
 /// Prints the same in blocks.
-pub(crate) fn tell<O: Write>(
-    alloc: Global,
-    verified: &Verified,
-    out: &mut O,
-) -> Result<(), Refusal> {
+pub(crate) fn tell<O: Write>(alloc: Global, end: &VerifiedEnd, out: &mut O) -> Result<(), Refusal> {
     let mut out = in_blocks(alloc, out)?;
-    print_verified(alloc, verified, &mut out)?;
+    print_end(end, &mut out)?;
     finish(&mut out)
 }
 

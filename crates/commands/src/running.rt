@@ -17,10 +17,10 @@ use crate::states::{show_back, show_last};
 use crate::store::{make_store, open_store};
 use crate::terminals::Terminals;
 use crate::trial::try_image;
-use crate::verifying::verified_in;
+use crate::verifying::{end_in, verified_in};
 use clap::error::ErrorKind as LineFault;
 use command_line::{GuestOf, Request, line};
-use replayer::Verified;
+use replayer::{Verified, VerifiedEnd};
 use std::alloc::Global;
 use std::convert::AsStr;
 use std::fs::File;
@@ -142,8 +142,8 @@ fn perform<
         Request::List { store } => list(alloc, open_store(rt, store)?, out),
         Request::Dump { guest } => dump(alloc, open_store(rt, guest.store)?, guest.number, out),
         Request::Verify { guest, progress } => {
-            let verified = guest_verified(rt, guest, progress || terminals.err, err)?;
-            tell(alloc, &verified, out)
+            let end = guest_end(rt, guest, progress || terminals.err, err)?;
+            tell(alloc, &end, out)
         }
         Request::Replay {
             guest,
@@ -171,7 +171,20 @@ fn perform<
     }
 }
 
-/// A guest's recording in a store in a file, verified. The store is closed again. How far it is goes to `err`, where `is_shown` says so.
+/// Where a guest's recording in a store in a file ends, once it is verified. The store is closed again. How far it is goes to `err`,
+/// where `is_shown` says so.
+fn guest_end<R: Files<File = File> + AllocGlobal + Clock, E: Write + Drop>(
+    rt: &R,
+    guest: GuestOf<'_>,
+    is_shown: bool,
+    err: &mut E,
+) -> Result<VerifiedEnd, Refusal> {
+    let store = open_store(rt, guest.store)?;
+    end_in(rt, rt.alloc(), store, guest.number, is_shown, err)
+}
+
+/// A guest's recording in a store in a file, verified. The store is closed again. How far it is goes to `err`, where
+/// `is_shown` says so.
 fn guest_verified<R: Files<File = File> + AllocGlobal + Clock, E: Write + Drop>(
     rt: &R,
     guest: GuestOf<'_>,

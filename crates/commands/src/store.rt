@@ -1,15 +1,16 @@
 //! Stores in files, and the guests that they hold.
 
-ghost use Rattle.std.specs.Prelude.{◌≡◌, ◌<◌, ◌≤◌, [], IfErr, IfOk, List, OnOk, Some, false, length, slice_get, ℕ};
+ghost use Rattle.std.specs.Prelude.{◌≡◌, ◌<◌, ◌≤◌, [], IfErr, IfOk, List, Some, false, length, slice_get, ℕ};
 ghost use Rattle.rrv_model.specs.Recovered.{IsRecovered, of_guest};
 ghost use Rattle.rrv_model.specs.StoreText.{IsStore};
 ghost use Rattle.rrv_model.specs.declared.record.Record.{Record};
 ghost use Rattle.recover.specs.Opened.{IsOpened, IsReady};
-ghost use Rattle.commands.specs.Stores.{IsFailed, RefusesRead, RefusesStore};
+ghost use Rattle.recover.specs.Spots.{records_of, StandOn};
+ghost use Rattle.commands.specs.Stores.{IsFailed, RefusesStore};
 
 use crate::refusal::Refusal;
 use recover::{Lists, open};
-use replayer::{ReadGuestFault, read_guest};
+use replayer::ReadGuestFault;
 use rrv_model::record::Record;
 use std::alloc::Global;
 use std::fs::File;
@@ -75,8 +76,8 @@ pub(crate) fn open_store<R: Files<File = File> + AllocGlobal>(
 
 /// The guest of this number.
 pub(crate) fn guest_in(lists: &Lists, number: u64) -> Result<u32, Refusal>
-    ensures there { IfOk result (λ guest. (guest ≡ number) × (1 ≤ length (of_guest guest lists.now))) }
-    ensures none { IfErr result (λ e. (e ≡ Refusal.NoSuchGuest) × (of_guest number lists.now ≡ [])) }
+    ensures there { IfOk result (λ guest. (guest ≡ number) × (1 ≤ length (of_guest guest (records_of lists.now)))) }
+    ensures none { IfErr result (λ e. (e ≡ Refusal.NoSuchGuest) × (of_guest number (records_of lists.now) ≡ [])) }
 {
     let guests = lists.guests();
     let Ok(guest) = u32::try_from(number) else {
@@ -96,27 +97,14 @@ pub(crate) fn record_in<D: Disk>(
     guest: u32,
     index: u32,
 ) -> Result<Record, Refusal>
-    requires { index < length (of_guest guest lists.now) }
-    ensures record { IfOk result (λ r. slice_get (of_guest guest lists.now) index ≡ Some r) }
-    ensures refused { IfErr result (λ e. e ≡ Refusal.Memory) }
+    requires { index < length (of_guest guest (records_of lists.now)) }
+    ensures record { StandOn D.honest D.state disk.old lists.now
+        → IfOk result (λ r. slice_get (of_guest guest (records_of lists.now)) index ≡ Some r) }
+    ensures refused { StandOn D.honest D.state disk.old lists.now → IfErr result IsFailed }
+    ensures on { StandOn D.honest D.state disk.old lists.now → StandOn D.honest D.state disk.new lists.now }
 {
     match lists.item(alloc, disk, guest, index) {
         Ok(entry) => Ok(entry),
         Err(fault) => Err(Refusal::from(ReadGuestFault::of_item(index, fault))),
     }
-}
-
-/// The records of the guest of this number.
-pub(crate) fn records_in<D: Disk>(
-    alloc: Global,
-    lists: &Lists,
-    disk: &mut D,
-    number: u64,
-) -> Result<Vec<Record>, Refusal>
-    ensures records { IfOk result (λ records. records.items ≡ of_guest number lists.now) }
-    ensures some { OnOk result (1 ≤ length (of_guest number lists.now)) }
-    ensures refused { IfErr result (λ e. RefusesRead e (of_guest number lists.now)) }
-{
-    let guest = guest_in(lists, number)?;
-    Ok(read_guest(alloc, lists, disk, guest)?)
 }

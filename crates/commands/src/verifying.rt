@@ -1,57 +1,115 @@
 //! The verification of a guest's records.
 
-ghost use Rattle.std.specs.Prelude.{◌≡◌, IfErr, IfOk};
+ghost use Rattle.std.specs.Prelude.{◌≡◌, ◌<◌, ◌↔◌, IfErr, IfOk, length};
 ghost use Rattle.rrv_model.specs.Recovered.{of_guest};
+ghost use Rattle.recover.specs.Spots.{records_of, StandOn};
 ghost use Rattle.replayer.specs.declared.fault.VerifyFault.{VerifyFault};
-ghost use Rattle.replayer.specs.Refusals.{RefusesVerify};
+ghost use Rattle.replayer.specs.Sourced.{IsEndOf, RefusesSource};
 ghost use Rattle.replayer.specs.Verified.{Keeps};
 ghost use Rattle.commands.specs.Stores.{RefusesGuest};
 ghost use Rattle.commands.specs.Told.{verify_told};
 
 use crate::refusal::Refusal;
-use crate::store::{Store, records_in};
+use crate::store::{Store, guest_in};
+use crate::stored::StoredGuest;
 use progress::{Count, VerifyProgress};
-use replayer::{Verified, verify_watched};
-use rrv_model::record::{Item, Record};
+use replayer::{Source, Verified, VerifiedEnd, verify_source_end, verify_source_watched};
+use rrv_model::record::Item;
 use std::alloc::Global;
 use std::io::Write;
 use std::sync::atomic::AtomicBool;
 use std::time::Clock;
 use trace_disk::Disk;
 
-/// The number of records, and of the instructions that their frames count.
-fn count_of(records: &[Record]) -> Count {
-    let mut instructions = 0u64;
-    for entry in records {
-        if let Item::Frame(frame) = &entry.item {
-            instructions = instructions.saturating_add(u64::from(frame.count));
-        }
+/// The instructions that the record at a place of a source counts: none where it isn't given, or is no frame.
+fn instructions_at<S: Source>(alloc: Global, source: &mut S, index: usize) -> u64
+    ensures records { S.records source.new ≡ S.records source.old }
+    ensures honest { S.honest source.new ↔ S.honest source.old }
+{
+    if index >= source.len() {
+        return 0;
     }
+    let Ok(entry) = source.item(alloc, index) else {
+        return 0;
+    };
+    match &entry.item {
+        Item::Frame(frame) => u64::from(frame.count),
+        _ => 0,
+    }
+}
+
+/// The instructions that the frames of a source count.
+fn instructions_of<S: Source>(alloc: Global, source: &mut S) -> u64
+    ensures records { S.records source.new ≡ S.records source.old }
+    ensures honest { S.honest source.new ↔ S.honest source.old }
+{
+    let mut instructions = 0u64;
+    for index in 0..source.len() {
+        let count = instructions_at(alloc, source, index);
+        instructions = instructions.saturating_add(count);
+    }
+    instructions
+}
+
+/// How many records a source has and, where it is shown how far their verification is, how many instructions they count: then
+/// each record is asked for twice.
+fn count_of<S: Source>(alloc: Global, source: &mut S, is_shown: bool) -> Count
+    ensures records { S.records source.new ≡ S.records source.old }
+    ensures honest { S.honest source.new ↔ S.honest source.old }
+{
+    let records = source.len() as u64;
+    let instructions = if is_shown {
+        instructions_of(alloc, source)
+    } else {
+        0
+    };
     Count {
-        records: records.len() as u64,
+        records,
         instructions,
     }
 }
 
-/// The recording that a guest's records are. How far it is goes to `err`, where `is_shown` says so.
-fn verified<R: Clock, E: Write + Drop>(
+/// The recording that a source's records are. How far it is goes to `err`, where `is_shown` says so.
+fn verified<R: Clock, S: Source, E: Write + Drop>(
     rt: &R,
     alloc: Global,
-    records: &[Record],
+    source: &mut S,
     is_shown: bool,
     err: &mut E,
 ) -> Result<Verified, Refusal>
-    ensures keeps { IfOk result (λ verified. Keeps verified records.now) }
-    ensures refused { IfErr result (λ e. (fault : VerifyFault) × (e ≡ verify_told fault) × RefusesVerify fault records.now) }
+    ensures keeps { S.honest source.old → IfOk result (λ verified. Keeps verified (S.records source.old)) }
+    ensures refused { S.honest source.old → IfErr result (λ e.
+        (fault : VerifyFault) × (e ≡ verify_told fault) × RefusesSource fault (S.records source.old)) }
 {
+    let all = count_of(alloc, source, is_shown);
     let line = AtomicBool::new(false);
-    let mut progress = VerifyProgress::new(rt, err, &line, count_of(records), is_shown);
-    let result = verify_watched(alloc, records, &mut progress);
+    let mut progress = VerifyProgress::new(rt, err, &line, all, is_shown);
+    let result = verify_source_watched(alloc, source, &mut progress);
     progress.end();
     Ok(result?)
 }
 
-/// The recording of the guest of this number of a store, which is then let go.
+/// Where the recording that a source's records are ends. How far it is goes to `err`, where `is_shown` says so.
+fn verified_end<R: Clock, S: Source, E: Write + Drop>(
+    rt: &R,
+    alloc: Global,
+    source: &mut S,
+    is_shown: bool,
+    err: &mut E,
+) -> Result<VerifiedEnd, Refusal>
+    ensures ends { S.honest source.old → IfOk result (λ end. IsEndOf end (S.records source.old)) }
+    ensures refused { S.honest source.old → IfErr result (λ e.
+        (fault : VerifyFault) × (e ≡ verify_told fault) × RefusesSource fault (S.records source.old)) }
+{
+    let all = count_of(alloc, source, is_shown);
+    let line = AtomicBool::new(false);
+    let mut progress = VerifyProgress::new(rt, err, &line, all, is_shown);
+    let result = verify_source_end(alloc, source, &mut progress);
+    progress.end();
+    Ok(result?)
+}
+
+/// The recording of the guest of this number of a store, whose records are read one at a time.
 pub(crate) fn verified_in<R: Clock, D: Disk + Drop, E: Write + Drop>(
     rt: &R,
     alloc: Global,
@@ -60,12 +118,43 @@ pub(crate) fn verified_in<R: Clock, D: Disk + Drop, E: Write + Drop>(
     is_shown: bool,
     err: &mut E,
 ) -> Result<Verified, Refusal>
-    ensures keeps { IfOk result (λ verified. Keeps verified (of_guest number store.lists)) }
-    ensures refused { IfErr result (λ e. RefusesGuest e (of_guest number store.lists)) }
+    ensures keeps { StandOn D.honest D.state store.disk store.lists
+        → IfOk result (λ verified. Keeps verified (of_guest number (records_of store.lists))) }
+    ensures refused { StandOn D.honest D.state store.disk store.lists
+        → IfErr result (λ e. RefusesGuest e (of_guest number (records_of store.lists))) }
 {
-    let Store { lists, mut disk } = store;
-    let records = records_in(alloc, &lists, &mut disk, number)?;
-    drop(disk);
-    drop(lists);
-    verified(rt, alloc, &records, is_shown, err)
+    let Store { lists, disk } = store;
+    let guest = guest_in(&lists, number)?;
+    let mut source = StoredGuest {
+        lists,
+        disk,
+        guest,
+        withheld: false,
+    };
+    verified(rt, alloc, &mut source, is_shown, err)
+}
+
+/// Where the recording of the guest of this number of a store ends. Its records are read one at a time, and none is kept.
+pub(crate) fn end_in<R: Clock, D: Disk + Drop, E: Write + Drop>(
+    rt: &R,
+    alloc: Global,
+    store: Store<D>,
+    number: u64,
+    is_shown: bool,
+    err: &mut E,
+) -> Result<VerifiedEnd, Refusal>
+    ensures ends { StandOn D.honest D.state store.disk store.lists
+        → IfOk result (λ end. IsEndOf end (of_guest number (records_of store.lists))) }
+    ensures refused { StandOn D.honest D.state store.disk store.lists
+        → IfErr result (λ e. RefusesGuest e (of_guest number (records_of store.lists))) }
+{
+    let Store { lists, disk } = store;
+    let guest = guest_in(&lists, number)?;
+    let mut source = StoredGuest {
+        lists,
+        disk,
+        guest,
+        withheld: false,
+    };
+    verified_end(rt, alloc, &mut source, is_shown, err)
 }

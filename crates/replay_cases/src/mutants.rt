@@ -118,6 +118,36 @@ fn without_parts(alloc: Global, records: Vec<Record>) -> Option<Vec<Record>> {
     numbered(alloc, items)
 }
 
+/// Tests whether both are in the same state at a place, to which the other one goes from the start.
+fn is_same_at(
+    alloc: Global,
+    cursor: &mut Cursor<'_>,
+    other: &mut Cursor<'_>,
+    place: u64,
+) -> Option<bool> {
+    cursor.seek(alloc, place).ok()?;
+    other.seek(alloc, 0).ok()?;
+    other.forward(alloc, place).ok()?;
+    Some(cursor.guest().same(other.guest()))
+}
+
+/// Tests whether both are in the same state at some places of so many instructions.
+fn are_same(
+    alloc: Global,
+    cursor: &mut Cursor<'_>,
+    other: &mut Cursor<'_>,
+    total: u64,
+    random: &mut Random,
+) -> Option<bool> {
+    for _ in 0..PLACES {
+        let place = random.below((total as usize).saturating_add(1)) as u64;
+        if !is_same_at(alloc, cursor, other, place)? {
+            return Some(false);
+        }
+    }
+    Some(true)
+}
+
 /// Tests whether a list leads to the same states as its frames alone, which are gone through from the start.
 fn is_right(
     alloc: Global,
@@ -131,41 +161,39 @@ fn is_right(
     }
     let mut cursor = Cursor::new(alloc, verified).ok()?;
     let mut other = Cursor::new(alloc, &plain).ok()?;
-    for _ in 0..PLACES {
-        let place = random.below((verified.total() as usize).saturating_add(1)) as u64;
-        cursor.seek(alloc, place).ok()?;
-        other.seek(alloc, 0).ok()?;
-        other.forward(alloc, place).ok()?;
-        if !cursor.guest().same(other.guest()) {
-            return Some(false);
-        }
+    are_same(alloc, &mut cursor, &mut other, verified.total(), random)
+}
+
+/// What a list comes to that is refused for a record: those before it have to be a recording.
+fn refused(alloc: Global, records: &[Record], bad: usize, outcome: Outcome) -> Outcome {
+    match records.get(..bad) {
+        Some(before) if verify(alloc, before).is_ok() => outcome,
+        _ => Outcome::Wrong,
     }
-    Some(true)
+}
+
+/// What becomes of a list of records.
+fn outcome_of_records(alloc: Global, records: Vec<Record>, random: &mut Random) -> Outcome {
+    match verify(alloc, &records) {
+        Ok(verified) => match is_right(alloc, &verified, records, random) {
+            Some(true) => Outcome::Taken,
+            _ => Outcome::Wrong,
+        },
+        Err(VerifyFault::Mismatch { index }) => refused(alloc, &records, index, Outcome::Mismatch),
+        Err(VerifyFault::BadCheckpoint { index }) => {
+            refused(alloc, &records, index, Outcome::BadCheckpoint)
+        }
+        Err(VerifyFault::BadOpening) => Outcome::BadOpening,
+        Err(VerifyFault::Memory | VerifyFault::Unreadable { .. }) => Outcome::Wrong,
+    }
 }
 
 /// What becomes of the list whose texts the bytes are.
 fn outcome_of(alloc: Global, bytes: &[u8], random: &mut Random) -> Outcome {
-    let records = match read_list(alloc, bytes) {
-        Ok(records) => records,
-        Err(RecordFault::Memory) => return Outcome::Wrong,
-        Err(fault) => return Outcome::Unread(fault),
-    };
-    let (outcome, bad) = match verify(alloc, &records) {
-        Ok(verified) => {
-            return match is_right(alloc, &verified, records, random) {
-                Some(true) => Outcome::Taken,
-                _ => Outcome::Wrong,
-            };
-        }
-        Err(VerifyFault::Mismatch { index }) => (Outcome::Mismatch, index),
-        Err(VerifyFault::BadCheckpoint { index }) => (Outcome::BadCheckpoint, index),
-        Err(VerifyFault::BadOpening) => return Outcome::BadOpening,
-        Err(VerifyFault::Memory) => return Outcome::Wrong,
-    };
-    // the records before the first bad one are a recording
-    match records.get(..bad) {
-        Some(before) if verify(alloc, before).is_ok() => outcome,
-        _ => Outcome::Wrong,
+    match read_list(alloc, bytes) {
+        Ok(records) => outcome_of_records(alloc, records, random),
+        Err(RecordFault::Memory) => Outcome::Wrong,
+        Err(fault) => Outcome::Unread(fault),
     }
 }
 

@@ -4,7 +4,7 @@ use crate::lists::{joined, read_list, texts_of};
 use crate::made::record;
 use crate::moves::{Move, go, move_of};
 use crate::mutants::{Outcome, Random, count_of, mutate, outcome_named};
-use crate::told::{State, told_of};
+use crate::told::{State, Told, told_of};
 use replayer::{Verified, verify};
 use reverse_step::Cursor;
 use rrv_model::record::Record;
@@ -48,23 +48,34 @@ fn move_in(words: &[&str]) -> Option<Move> {
     move_of(kind, number)
 }
 
+/// Makes the moves that words say, adds what they answer, and answers what is asked behind them.
+fn make_moves(
+    alloc: Global,
+    cursor: &mut Cursor<'_>,
+    words: &[&str],
+    text: &mut String,
+) -> Option<Told> {
+    let mut told = None;
+    for pair in words.chunks(2) {
+        match move_in(pair) {
+            Some(step) => go(alloc, cursor, step, text)?,
+            None => told = told_of(pair),
+        }
+    }
+    told
+}
+
 /// What a cursor answers to moves, and what is told of the state where it then is.
 fn tell_moves(alloc: Global, verified: &Verified, words: &[&str]) -> Option<String> {
     let mut cursor = Cursor::new(alloc, verified).ok()?;
     let mut text = String::new(alloc);
-    let mut told = None;
-    for pair in words.chunks(2) {
-        match move_in(pair) {
-            Some(step) => go(alloc, &mut cursor, step, &mut text)?,
-            None => told = told_of(pair),
-        }
-    }
+    let told = make_moves(alloc, &mut cursor, words, &mut text)?;
     let state = State {
         guest: cursor.guest(),
         place: cursor.place(),
         total: verified.total(),
     };
-    state.tell(alloc, told?, &mut text).ok()?;
+    state.tell(alloc, told, &mut text).ok()?;
     Some(text)
 }
 
@@ -88,19 +99,13 @@ fn mutate_list<R: Files + AllocGlobal>(rt: &R, words: &[&str]) -> Option<Vec<Out
     let [name, other, count, seed] = words else {
         return None;
     };
-    let texts = texts_in(rt, name)?;
-    let others = texts_in(rt, other)?;
+    let count = count.parse().ok()?;
     let mut random = Random {
         state: seed.parse().ok()?,
     };
-    mutate(
-        rt.alloc(),
-        &texts,
-        &others,
-        count.parse().ok()?,
-        &mut random,
-    )
-    .ok()
+    let texts = texts_in(rt, name)?;
+    let others = texts_in(rt, other)?;
+    mutate(rt.alloc(), &texts, &others, count, &mut random).ok()
 }
 
 /// Records a guest of the file that words name.

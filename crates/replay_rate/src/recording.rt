@@ -1,11 +1,16 @@
 //! A guest of one thread, recorded with checkpoints.
 
+ghost use Rattle.std.specs.Prelude.{IsSome};
+ghost use Rattle.guest_calls.specs.Snapshots.{guest_snapshots};
+
 use checkpoint::make;
 use guest_calls::Guest;
+use guest_pages::Snapshot;
 use rrv_model::record::{Choice, Item, Opening, Record};
 use rrv_model::sequence::Sequence;
 use serial_sched::slice;
 use std::alloc::Global;
+use std::mem;
 use test_guests::files::guest_of_file;
 use test_guests::outsides::Nothing;
 
@@ -29,20 +34,37 @@ fn add(records: &mut Vec<Record>, item: Item) -> Option<()> {
     records.push(record).ok()
 }
 
-/// Adds the parts of a checkpoint. No page is unmapped, so its own memory serves as its base.
-fn add_checkpoint(alloc: Global, guest: &mut Guest, records: &mut Vec<Record>) -> Option<()> {
-    let base = guest.snapshot().ok()?;
-    let parts = make(alloc, guest, &base);
-    guest.drop_snapshot(base);
-    for part in parts.ok()? {
-        add(records, Item::Part(part))?;
+/// A guest that is recorded, with its memory at the last checkpoint, or at the start.
+#[derive(Drop)]
+struct Recorded {
+    guest: Guest,
+    base: Snapshot,
+    ghost keeps_base: { IsSome (guest_snapshots guest base) },
+}
+
+impl Recorded {
+    /// One at its start.
+    fn start(guest: Guest) -> Option<Recorded> {
+        let mut guest = guest;
+        let base = guest.snapshot().ok()?;
+        Some(Recorded { guest, base })
     }
-    Some(())
+
+    /// Adds the parts of a checkpoint against the last one, or against the start.
+    fn add_checkpoint(&mut self, alloc: Global, records: &mut Vec<Record>) -> Option<()> {
+        let parts = make(alloc, &self.guest, &self.base).ok()?;
+        let next = self.guest.snapshot().ok()?;
+        self.guest.drop_snapshot(mem::replace(&mut self.base, next));
+        for part in parts {
+            add(records, Item::Part(part))?;
+        }
+        Some(())
+    }
 }
 
 /// Records a program's slices up to its end, with checkpoints so many instructions apart at the least, or none where that is 0.
 pub fn record(alloc: Global, elf: &[u8], every: u64) -> Option<Vec<Record>> {
-    let mut guest = guest_of_file(alloc, elf, 0)?;
+    let mut recorded = Recorded::start(guest_of_file(alloc, elf, 0)?)?;
     let mut records = Vec::new(alloc);
     let opening = Opening {
         elf: Sequence::from_vec(elf.to_vec(alloc).ok()?),
@@ -52,14 +74,14 @@ pub fn record(alloc: Global, elf: &[u8], every: u64) -> Option<Vec<Record>> {
     add(&mut records, Item::Opening(opening))?;
     let mut last = 0;
     for _ in 0..SLICES {
-        let frame = slice(alloc, &mut guest, CHOICE, &mut Nothing).ok()?;
+        let frame = slice(alloc, &mut recorded.guest, CHOICE, &mut Nothing).ok()?;
         add(&mut records, Item::Frame(frame))?;
-        if guest.ended().is_some() {
+        if recorded.guest.ended().is_some() {
             return Some(records);
         }
-        if every != 0 && every <= guest.ran().saturating_sub(last) {
-            add_checkpoint(alloc, &mut guest, &mut records)?;
-            last = guest.ran();
+        if every != 0 && every <= recorded.guest.ran().saturating_sub(last) {
+            recorded.add_checkpoint(alloc, &mut records)?;
+            last = recorded.guest.ran();
         }
     }
     None

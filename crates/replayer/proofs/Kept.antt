@@ -2,7 +2,7 @@
 use Rattle.std.proofs.Common.{◌≡◌, ℕ, suc, ◌+◌, ◌-◌, ◌<◌, ◌≤◌, true, false, nat_le, List, [], ◌∷◌, ◌++◌, length, take, drop, refl, sym, ◌∙◌, ap, subst, arith, Option, Some, None}
 use Rattle.std.specs.Prelude.{MatchBool, IsSomeAnd, slice_get}
 use Rattle.std.proofs.lemmas.Bool.Decides.{nat_tests}
-use Rattle.std.proofs.lemmas.List.{append-nil, append_assoc, length-append, length-take-le, take_all}
+use Rattle.std.proofs.lemmas.List.{append-nil, append_assoc, length-append, take_all}
 use Rattle.std.proofs.lemmas.List.Sums.{sum_by-cons}
 use Rattle.rrv_model.specs.declared.record.Frame.{Frame}
 use Rattle.rrv_model.specs.declared.record.CheckpointRest.{CheckpointRest}
@@ -17,8 +17,6 @@ use Rattle.rrv_model.specs.Recording.{ItemsFollow, Starts, PartFits, frames_of, 
 use Rattle.rrv_model.proofs.RunLaws.{at_total_first, at_total_of_first, at_total_append}
 use Rattle.replayer.specs.declared.recording.Mark.{Mark}
 use Rattle.replayer.specs.declared.recording.Track.{Track}
-use Rattle.std.proofs.Common.{get_or}
-use Rattle.std.proofs.Math.Seq.{take-suc}
 use Rattle.rrv_model.specs.declared.record.Record.{Record}
 use Rattle.rrv_model.specs.Recording.{IsRecording, items_of}
 use Rattle.replayer.specs.Walks.{Stands}
@@ -40,7 +38,7 @@ marks_more : (xs : List Item) (it : Item) (rest : List Item) (row : List Part) (
     marks_of [] 0 0 ((xs ++ it ∷ []) ++ rest) ≡ marks ++ marks_of row n steps (it ∷ rest)
 marks_more xs it rest row n steps marks h = ap (λ (is : List Item). marks_of [] 0 0 is) (append_assoc xs (it ∷ []) rest) ∙ h (it ∷ rest)
 
-total-push : (frames : List Frame) (f : Frame) → total (frames ++ f ∷ []) ≡ total frames + f.count
+pub total-push : (frames : List Frame) (f : Frame) → total (frames ++ f ∷ []) ≡ total frames + f.count
 total-push [] f = sum_by-cons (λ (g : Frame). g.count) f [] ∙ omega arith
 total-push (g ∷ frames) f =
     sum_by-cons (λ (h : Frame). h.count) g (frames ++ f ∷ []) ∙ ap (λ n. g.count + n) (total-push frames f) ∙ omega (arith, sum_by-cons (λ (h : Frame). h.count) g frames)
@@ -84,21 +82,9 @@ items_of_append : (records more : List Record) → items_of (records ++ more) �
 items_of_append [] more = refl
 items_of_append (q ∷ records) more = ap (λ rest. q.item ∷ rest) (items_of_append records more)
 
-drop_first : (records more : List Record) → 1 ≤ length records → drop 1 (items_of (records ++ more)) ≡ drop 1 (items_of records) ++ items_of more
+pub drop_first : (records more : List Record) → 1 ≤ length records → drop 1 (items_of (records ++ more)) ≡ drop 1 (items_of records) ++ items_of more
 drop_first [] more some = absurd (omega arith)
 drop_first (q ∷ records) more some = items_of_append records more
-
-pub keeps_at : (records : List Record) (index : ℕ) (r : Record) (row row' : List Part) (frames frames' : List Frame) (marks marks' : List Mark) (steps steps' : ℕ) →
-    1 ≤ index → index < length records → r ≡ get_or records index r → KeepsAll (drop 1 (items_of (take index records))) row frames marks steps →
-    KeepsOn r.item row frames marks steps frames' marks' steps' → RowIs r.item row row' → KeepsAll (drop 1 (items_of (take (index + 1) records))) row' frames' marks' steps'
-keeps_at records index r row row' frames frames' marks marks' steps steps' some below there h k is =
-    let len : length (take index records) ≡ index = length-take-le index records (omega arith) in
-    let longer : take (index + 1) records ≡ take index records ++ r ∷ [] =
-    ap (λ n. take n records) (one_more index) ∙ take-suc records index r below ∙ ap (λ q. take index records ++ q ∷ []) (sym there) in
-    let same : drop 1 (items_of (take (index + 1) records)) ≡ drop 1 (items_of (take index records)) ++ r.item ∷ [] =
-    ap (λ (rs : List Record). drop 1 (items_of rs)) longer ∙ drop_first (take index records) (r ∷ []) (omega (arith, len)) in
-    subst (λ (is : List Item). KeepsAll is row' frames' marks' steps') (sym same)
-    (keeps_on (drop 1 (items_of (take index records))) r.item row row' frames frames' marks marks' steps steps' h k is)
 
 -- the opening alone keeps nothing
 pub keeps_first : KeepsAll [] [] [] [] 0

@@ -1,3 +1,4 @@
+pub mod Sourced
 pub mod Steps
 pub mod Walked
 pub mod Kept

@@ -11,7 +11,7 @@ use Rattle.rrv_model.specs.declared.record.Part.{Part}
 use Rattle.rrv_model.specs.declared.record.Record.{Record}
 use Rattle.rrv_model.specs.State.{State}
 use Rattle.rrv_model.specs.Opening.{Opens}
-use Rattle.rrv_model.specs.Recording.{IsNumbered, IsRecording, Starts, items_of}
+use Rattle.rrv_model.specs.Recording.{EndsIn, IsNumbered, IsRecording, Starts, items_of}
 use Rattle.rrv_model.proofs.RecordingLaws.{beginnings_are_recordings}
 use Rattle.rrv_model.proofs.RunLaws.{items-append, numbered-append}
 use Rattle.replayer.specs.declared.fault.VerifyFault.{VerifyFault}
@@ -37,22 +37,16 @@ stands_first r o base s index_is item_is opens_base opens =
       behind = subst (λ (it : Item). StandsBehind (it ∷ []) base [] s) (sym item_is) behind;
     }
 
+-- the opening alone ends in the state that it opens
+pub ends_first : (it : Item) (o : Opening) (s : State) → it ≡ items.Opening o → Opens o.elf o.name o.random s → EndsIn (it ∷ []) s
+ends_first it o s is opens = subst (λ (i : Item). EndsIn (i ∷ []) s) (sym is) (s, opens, (refl, refl))
+
 pub stands_next : (guest : ℕ) (records : List Record) (r : Record) (base : State) (row : List Part) (s base' : State) (row' : List Part) (s' : State) →
     Stands guest records base row s → LeadsOn guest (length records) r base row s base' row' s' → Stands guest (records ++ r ∷ []) base' row' s'
 stands_next guest records r base row s base' row' s' h next = record {
   numbered = numbered-append guest 0 records r h.numbered next.guest_is (omega (arith, next.index_is));
   behind = subst (λ (is : List Item). StandsBehind is base' row' s') (sym (items-append records r)) (next_behind (items_of records) r.item base row s base' row' s' h.behind next.leads);
 }
-
-pub stands_at : (guest : ℕ) (records : List Record) (index : ℕ) (r : Record) (base : State) (row : List Part) (s base' : State) (row' : List Part) (s' : State) →
-    index < length records → r ≡ get_or records index r → Stands guest (take index records) base row s → LeadsOn guest index r base row s base' row' s' →
-    Stands guest (take (index + 1) records) base' row' s'
-stands_at guest records index r base row s base' row' s' below there h next =
-    let len : length (take index records) ≡ index = length-take-le index records (omega arith) in
-    let longer : take (index + 1) records ≡ take index records ++ r ∷ [] =
-    ap (λ n. take n records) (one_more index) ∙ take-suc records index r below ∙ ap (λ q. take index records ++ q ∷ []) (sym there) in
-    subst (λ (rs : List Record). Stands guest rs base' row' s') (sym longer)
-    (stands_next guest (take index records) r base row s base' row' s' h (subst (λ n. LeadsOn guest n r base row s base' row' s') (sym len) next))
 
 -- where records stand they are a recording
 pub recording_of : (guest : ℕ) (records : List Record) (base : State) (row : List Part) (s : State) → Stands guest records base row s → IsRecording records
@@ -137,6 +131,7 @@ refused_at (faults.BadCheckpoint place) guest records index r base row s below t
     )
 refused_at faults.Memory guest records index r base row s below there h opened refuses = opened
 refused_at faults.BadOpening guest records index r base row s below there h opened refuses = absurd refuses
+refused_at (faults.Unreadable place) guest records index r base row s below there h opened refuses = absurd refuses
 
 -- the first record
 pub first_there : (P : Record → Type 0) (records : List Record) (first : Record) (rest : List Record) → records ≡ first ∷ rest → P first → IsSomeAnd (slice_get records 0) P
@@ -147,12 +142,14 @@ refused_first faults.BadOpening records first rest is refuses = λ h. refuses (s
 refused_first faults.Memory records first rest is refuses = first_there TakesMemory records first rest is refuses
 refused_first (faults.Mismatch index) records first rest is refuses = absurd refuses
 refused_first (faults.BadCheckpoint index) records first rest is refuses = absurd refuses
+refused_first (faults.Unreadable index) records first rest is refuses = absurd refuses
 
 pub refused_opening : (e : VerifyFault) (r : Record) (o : Opening) → r.index ≡ 0 → r.item ≡ items.Opening o → RefusesOpening e o → RefusesFirst e r
 refused_opening faults.BadOpening r o zero_is is refuses = λ h. let starts : Starts (items.Opening o ∷ []) = subst (λ (it : Item). Starts (it ∷ [])) is h.starts in refuses starts.0 starts.1
 refused_opening faults.Memory r o zero_is is refuses = (zero_is, (o, is, refuses))
 refused_opening (faults.Mismatch index) r o zero_is is refuses = absurd refuses
 refused_opening (faults.BadCheckpoint index) r o zero_is is refuses = absurd refuses
+refused_opening (faults.Unreadable index) r o zero_is is refuses = absurd refuses
 
 -- what opened took memory
 pub opened : (r : Record) (o : Opening) (s : State) → r.index ≡ 0 → r.item ≡ items.Opening o → Opens o.elf o.name o.random s → TakesMemory r
@@ -168,3 +165,4 @@ refuses_recording (faults.Mismatch index) records recording refuses =
     absurd (refuses.0.stops (subst (λ n. IsRecording (take n records)) (sym (one_more index)) (beginnings_are_recordings records index recording)))
 refuses_recording (faults.BadCheckpoint index) records recording refuses =
     absurd (refuses.0.stops (subst (λ n. IsRecording (take n records)) (sym (one_more index)) (beginnings_are_recordings records index recording)))
+refuses_recording (faults.Unreadable index) records recording refuses = absurd refuses

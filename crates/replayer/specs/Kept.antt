@@ -50,6 +50,12 @@ pub record AreKept (o : Opening) (frames : List Frame) (marks : List Mark) : Typ
   pub ends : StateAtFrom first frames (total frames) last
   pub are_marks : AreMarks first frames first marks
 
+-- the instructions that an item counts
+abbrev pub instructions_in : Item → ℕ
+instructions_in (items.Opening o) = 0
+instructions_in (items.Frame f) = f.count
+instructions_in (items.Part p) = 0
+
 -- what is kept of an item, behind a row of parts
 abbrev pub KeepsOn : Item → List Part → List Frame → List Mark → ℕ → List Frame → List Mark → ℕ → Type 0
 KeepsOn (items.Opening o) row frames marks steps frames' marks' steps' = ⊥

@@ -1,3 +1,4 @@
+pub mod Sourced
 pub mod Told
 pub mod Refusals
 pub mod Walks

@@ -22,6 +22,7 @@ RefusesOpening faults.BadOpening o = (s : State) → Opens o.elf o.name o.random
 RefusesOpening faults.Memory o = IsName o.name × IsPastRefusal 12 o.elf
 RefusesOpening (faults.Mismatch index) o = ⊥
 RefusesOpening (faults.BadCheckpoint index) o = ⊥
+RefusesOpening (faults.Unreadable index) o = ⊥
 
 -- memory is taken for a first record only
 abbrev pub TakesMemory : Record → Type 0
@@ -33,6 +34,7 @@ RefusesFirst faults.BadOpening first = IsRecording (first ∷ []) → ⊥
 RefusesFirst faults.Memory first = TakesMemory first
 RefusesFirst (faults.Mismatch index) first = ⊥
 RefusesFirst (faults.BadCheckpoint index) first = ⊥
+RefusesFirst (faults.Unreadable index) first = ⊥
 
 -- the last part of a complete checkpoint
 abbrev pub IsLastPart : Item → Type 0
@@ -49,12 +51,14 @@ abbrev pub FrameRefused : VerifyFault → ℕ → Frame → State → Type 0
 FrameRefused (faults.Mismatch place) index f s = (place ≡ index) × ((new : State) → FrameStep s f new → ⊥)
 FrameRefused (faults.BadCheckpoint place) index f s = ⊥
 FrameRefused faults.BadOpening index f s = ⊥
+FrameRefused (faults.Unreadable place) index f s = ⊥
 FrameRefused faults.Memory index f s = Unit {0}
 
 abbrev pub CheckpointRefused : VerifyFault → ℕ → State → List Part → State → Type 0
 CheckpointRefused (faults.Mismatch place) index base parts s = ⊥
 CheckpointRefused (faults.BadCheckpoint place) index base parts s = (place ≡ index) × (Describes base parts s → ⊥)
 CheckpointRefused faults.BadOpening index base parts s = ⊥
+CheckpointRefused (faults.Unreadable place) index base parts s = ⊥
 CheckpointRefused faults.Memory index base parts s = Unit {0}
 
 abbrev pub PartRefused : VerifyFault → ℕ → Part → State → List Part → State → Type 0
@@ -62,6 +66,7 @@ PartRefused (faults.Mismatch place) index p base row s = ⊥
 PartRefused (faults.BadCheckpoint place) index p base row s =
     (place ≡ index) × IsSome p.rest × (PartFits p.rest base (row ++ p ∷ []) s → ⊥)
 PartRefused faults.BadOpening index p base row s = ⊥
+PartRefused (faults.Unreadable place) index p base row s = ⊥
 PartRefused faults.Memory index p base row s = Unit {0}
 
 -- why a record behind these isn't followed
@@ -71,6 +76,7 @@ RefusesNext (faults.Mismatch place) guest index r base row s =
 RefusesNext (faults.BadCheckpoint place) guest index r base row s =
     (place ≡ index) × (r.guest ≡ guest) × (r.index ≡ index) × IsLastPart r.item × Fails r.item base row s
 RefusesNext faults.BadOpening guest index r base row s = ⊥
+RefusesNext (faults.Unreadable place) guest index r base row s = ⊥
 RefusesNext faults.Memory guest index r base row s = Unit {0}
 
 -- the records before this place are a recording, and with the one there they are none
@@ -91,3 +97,4 @@ RefusesVerify faults.BadOpening records = IsRecording (take 1 records) → ⊥
 RefusesVerify (faults.Mismatch index) records = StopsAt index records × (EndsCheckpointAt index records → ⊥)
 RefusesVerify (faults.BadCheckpoint index) records = StopsAt index records × EndsCheckpointAt index records
 RefusesVerify faults.Memory records = IsSomeAnd (slice_get records 0) TakesMemory
+RefusesVerify (faults.Unreadable index) records = ⊥

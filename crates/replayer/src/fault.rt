@@ -47,7 +47,21 @@ impl<T: Drop> From<AllocFailed<T>> for ReadGuestFault {
     }
 }
 
-/// Why records are no recording, by the first that is bad.
+/// Why a source gave no record.
+#[derive(Clone, Copy, Debug, PartialEq, Eq, Error)]
+pub enum SourceFault {
+    /// A call of the device that it reads failed.
+    #[error("device failed")]
+    DeviceFailed,
+    /// It no longer holds the record.
+    #[error("damaged record")]
+    Damaged,
+    /// A growth was refused.
+    #[error("out of memory")]
+    Memory,
+}
+
+/// Why records are no recording, by the first that is bad or isn't read.
 #[derive(Clone, Copy, Debug, PartialEq, Eq, Error)]
 pub enum VerifyFault {
     /// A record doesn't follow from those before it.
@@ -59,6 +73,9 @@ pub enum VerifyFault {
     /// The first record is no opening of a guest.
     #[error("bad opening")]
     BadOpening,
+    /// The source gave no record here.
+    #[error("record {index} unreadable")]
+    Unreadable { index: usize },
     /// A growth was refused.
     #[error("out of memory")]
     Memory,

@@ -11,13 +11,19 @@ mod place;
 mod position;
 mod reading;
 mod recording;
+mod source;
 mod track;
 mod verified;
+mod verified_end;
 mod verifying;
 mod walk;
 
-pub use fault::{OutputFault, ReadGuestFault, VerifyFault};
+pub use fault::{OutputFault, ReadGuestFault, SourceFault, VerifyFault};
 pub use place::Place;
 pub use reading::read_guest;
+pub use source::Source;
 pub use verified::Verified;
-pub use verifying::{Watch, verify, verify_watched};
+pub use verified_end::VerifiedEnd;
+pub use verifying::{
+    Watch, verify, verify_source, verify_source_end, verify_source_watched, verify_watched,
+};

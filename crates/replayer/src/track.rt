@@ -32,6 +32,7 @@ impl Track {
             Err(VerifyFault::BadOpening) => unreachable!(),
             Err(VerifyFault::Mismatch { .. }) => unreachable!(),
             Err(VerifyFault::BadCheckpoint { .. }) => unreachable!(),
+            Err(VerifyFault::Unreadable { .. }) => unreachable!(),
         };
         Ok(Position {
             guest,

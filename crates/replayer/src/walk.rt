@@ -1,11 +1,12 @@
 //! A replay, record by record.
 
-ghost use Rattle.std.specs.Prelude.{◌≡◌, ◌≤◌, ◌^◌, ◌*◌, ◌+◌, ◌++◌, ◌∷◌, [], IfErr, IfOk, OnOk, length};
+ghost use Rattle.std.specs.Prelude.{◌≡◌, ◌≤◌, ◌^◌, ◌*◌, ◌+◌, ◌++◌, ◌∷◌, [], true, IfErr, IfOk, OnOk, length};
 ghost use Rattle.rrv_model.specs.declared.record.Item.TheVariants as items;
 ghost use Rattle.rrv_model.specs.Checkpoint.{Describes};
+ghost use Rattle.rrv_model.specs.Recording.{EndsIn};
 ghost use Rattle.rrv_model.specs.Standing.{Leads};
 ghost use Rattle.guest_calls.specs.Guest.{state_of};
-ghost use Rattle.replayer.specs.Kept.{KeepsOn, RowIs};
+ghost use Rattle.replayer.specs.Kept.{KeepsOn, RowIs, instructions_in};
 ghost use Rattle.replayer.specs.Refusals.{CheckpointRefused, FrameRefused, PartRefused, RefusesFirst, RefusesNext, TakesMemory};
 ghost use Rattle.replayer.specs.Walks.{LeadsOn, Stands};
 
@@ -27,19 +28,23 @@ pub(crate) struct Walk {
     pub(crate) guest: Guest,
     pub(crate) base: Guest,
     pub(crate) row: Vec<Part>,
+    /// Whether frames and complete checkpoints are kept, from which each place can be gone to.
+    pub(crate) keeps: bool,
     pub(crate) frames: Vec<Frame>,
     pub(crate) marks: Vec<Mark>,
     pub(crate) total: u64,
 }
 
 /// The walk behind a first record, which is an opening of index 0.
-pub(crate) fn open_first(alloc: Global, first: &Record) -> Result<Walk, VerifyFault>
+pub(crate) fn open_first(alloc: Global, first: &Record, keeps: bool) -> Result<Walk, VerifyFault>
     ensures stands { IfOk result (λ w.
         Stands first.now.guest (first.now ∷ []) (state_of w.base) w.row.items (state_of w.guest)) }
     ensures row { IfOk result (λ w. w.row.items ≡ []) }
     ensures frames { IfOk result (λ w. w.frames.items ≡ []) }
     ensures marks { IfOk result (λ w. w.marks.items ≡ []) }
     ensures total { IfOk result (λ w. w.total ≡ 0) }
+    ensures keeps { IfOk result (λ w. w.keeps ≡ keeps) }
+    ensures ends { IfOk result (λ w. EndsIn (first.now.item ∷ []) (state_of w.guest)) }
     ensures opened { OnOk result (TakesMemory first.now) }
     ensures refused { IfErr result (λ e. RefusesFirst e first.now) }
 {
@@ -55,6 +60,7 @@ pub(crate) fn open_first(alloc: Global, first: &Record) -> Result<Walk, VerifyFa
         guest,
         base,
         row: Vec::new(alloc),
+        keeps,
         frames: Vec::new(alloc),
         marks: Vec::new(alloc),
         total: 0,
@@ -73,6 +79,13 @@ pub(crate) fn opening_of(first: &Record) -> Result<Opening, VerifyFault>
     }
 }
 
+fn copied_frame(frame: &Frame) -> Result<Frame, VerifyFault>
+    ensures copy { IfOk result (λ copy. copy ≡ frame.now) }
+    ensures memory { IfErr result (λ e. e ≡ VerifyFault.Memory) }
+{
+    Ok(frame.clone()?)
+}
+
 fn follow_frame(
     alloc: Global,
     walk: &mut Walk,
@@ -80,9 +93,11 @@ fn follow_frame(
     frame: &Frame,
 ) -> Result<(), VerifyFault>
     requires { walk.old.total ≤ 2 ^ 60 }
-    ensures keeps { OnOk result (KeepsOn (items.Frame frame.now)
+    ensures keeps { walk.old.keeps ≡ true → OnOk result (KeepsOn (items.Frame frame.now)
         walk.old.row.items walk.old.frames.items walk.old.marks.items walk.old.total
         walk.new.frames.items walk.new.marks.items walk.new.total) }
+    ensures goes_on { walk.new.keeps ≡ walk.old.keeps }
+    ensures counted { OnOk result (walk.new.total ≡ walk.old.total + frame.now.count) }
     ensures grown { OnOk result (walk.new.total ≤ walk.old.total + 2 ^ 20) }
     ensures leads { OnOk result (Leads (items.Frame frame.now)
         (state_of walk.old.base) walk.old.row.items (state_of walk.old.guest)
@@ -94,7 +109,9 @@ fn follow_frame(
         Err(FollowFault::GoesNowhere) => return Err(VerifyFault::Mismatch { index }),
         Err(FollowFault::Memory) => return Err(VerifyFault::Memory),
     }
-    walk.frames.push(frame.clone()?)?;
+    if walk.keeps {
+        walk.frames.push(copied_frame(frame)?)?;
+    }
     walk.total += u64::from(frame.count);
     walk.row.clear();
     Ok(())
@@ -108,7 +125,8 @@ fn complete(alloc: Global, walk: &mut Walk, index: usize) -> Result<(), VerifyFa
     ensures row { OnOk result (walk.new.row.items ≡ []) }
     ensures frames { walk.new.frames.items ≡ walk.old.frames.items }
     ensures total { walk.new.total ≡ walk.old.total }
-    ensures marks { OnOk result (walk.new.marks.items ≡ walk.old.marks.items ++ (record {
+    ensures goes_on { walk.new.keeps ≡ walk.old.keeps }
+    ensures marks { walk.old.keeps ≡ true → OnOk result (walk.new.marks.items ≡ walk.old.marks.items ++ (record {
       frames = length walk.old.frames.items;
       at = walk.old.total;
       parts = walk.old.row.items;
@@ -126,11 +144,13 @@ fn complete(alloc: Global, walk: &mut Walk, index: usize) -> Result<(), VerifyFa
         return Err(VerifyFault::BadCheckpoint { index });
     }
     let parts = replace(&mut walk.row, Vec::new(alloc));
-    walk.marks.push(Mark {
-        frames: walk.frames.len(),
-        at: walk.total,
-        parts: Sequence::from_vec(parts),
-    })?;
+    if walk.keeps {
+        walk.marks.push(Mark {
+            frames: walk.frames.len(),
+            at: walk.total,
+            parts: Sequence::from_vec(parts),
+        })?;
+    }
     Ok(())
 }
 
@@ -142,9 +162,11 @@ fn copied_part(part: &Part) -> Result<Part, VerifyFault>
 }
 
 fn follow_part(alloc: Global, walk: &mut Walk, index: usize, part: &Part) -> Result<(), VerifyFault>
-    ensures keeps { OnOk result (KeepsOn (items.Part part.now)
+    ensures keeps { walk.old.keeps ≡ true → OnOk result (KeepsOn (items.Part part.now)
         walk.old.row.items walk.old.frames.items walk.old.marks.items walk.old.total
         walk.new.frames.items walk.new.marks.items walk.new.total) }
+    ensures goes_on { walk.new.keeps ≡ walk.old.keeps }
+    ensures counted { OnOk result (walk.new.total ≡ walk.old.total) }
     ensures leads { OnOk result (Leads (items.Part part.now)
         (state_of walk.old.base) walk.old.row.items (state_of walk.old.guest)
         (state_of walk.new.base) walk.new.row.items (state_of walk.new.guest)) }
@@ -168,9 +190,11 @@ pub(crate) fn follow_record(
     entry: &Record,
 ) -> Result<(), VerifyFault>
     requires { walk.old.total ≤ index * 2 ^ 20 }
-    ensures keeps { OnOk result (KeepsOn entry.now.item
+    ensures keeps { walk.old.keeps ≡ true → OnOk result (KeepsOn entry.now.item
         walk.old.row.items walk.old.frames.items walk.old.marks.items walk.old.total
         walk.new.frames.items walk.new.marks.items walk.new.total) }
+    ensures goes_on { walk.new.keeps ≡ walk.old.keeps }
+    ensures counted { OnOk result (walk.new.total ≡ walk.old.total + instructions_in entry.now.item) }
     ensures row { OnOk result (RowIs entry.now.item walk.old.row.items walk.new.row.items) }
     ensures grown { OnOk result (walk.new.total ≤ walk.old.total + 2 ^ 20) }
     ensures leads { OnOk result (LeadsOn number index entry.now

@@ -134,7 +134,7 @@ fn sixteen_programs_are_recorded_at_once(rt: HostRuntime) -> Result<(), Fail> {
 #[test]
 fn checkpoints_are_made_as_often_as_asked(rt: HostRuntime) -> Result<(), Fail> {
     let dump: &[u8] = b"0 opening name=g0 elf=128\n1 call tid=1 count=8 result=00000003 written=0\n\
-        2 part pages=257 last=yes\n3 call tid=1 count=3 result=00000000 written=0\n";
+        2 part pages=1 last=yes\n3 call tid=1 count=3 result=00000000 written=0\n";
     play(
         &rt,
         &[

@@ -1,12 +1,14 @@
 //! Guests that are recorded to a disk in memory, and found there again.
 
-ghost use Rattle.std.specs.Prelude.{◌≡◌, false};
+ghost use Rattle.std.specs.Prelude.{⊤, ◌≡◌, false};
+ghost use Rattle.rrv_model.specs.declared.record.Record.{Record};
 
 use super::kit::same;
 use recorder::MemSink;
 use recover::{Lists, open};
-use replayer::{read_guest, verify};
+use replayer::{Source, SourceFault, VerifyFault, read_guest, verify, verify_source};
 use rrv_model::machine::GuestEnd;
+use rrv_model::record::Record;
 use serial_sched::RoundRobin;
 use session::{GuestReport, Job, OpenGate, SessionFault, record_all};
 use std::alloc::Global;
@@ -109,5 +111,99 @@ fn a_failed_call_of_the_disk_leaves_a_beginning(rt: HostRuntime) -> Result<(), F
         let kept = is_kept_by_failing(&rt, call)?;
         same(&rt, &call, kept, call == 6);
     }
+    Ok(())
+}
+
+/// Records that are given one at a time, but for the one at a place.
+#[derive(Drop)]
+struct Given<'a> {
+    records: &'a [Record],
+    fails: usize,
+    fault: SourceFault,
+    withheld: bool,
+}
+
+impl Source for Given<'_> {
+    ghost honest = { λ _. ⊤ };
+
+    ghost records = { λ s. s.records.now };
+
+    ghost withheld = { λ s. s.withheld };
+
+    fn len(&self) -> usize {
+        self.records.len()
+    }
+
+    fn item(&mut self, _alloc: Global, index: usize) -> Result<Record, SourceFault> {
+        if index == self.fails {
+            return match self.fault {
+                SourceFault::Memory => Err(SourceFault::Memory),
+                SourceFault::DeviceFailed => {
+                    self.withheld = true;
+                    Err(SourceFault::DeviceFailed)
+                }
+                SourceFault::Damaged => {
+                    self.withheld = true;
+                    Err(SourceFault::Damaged)
+                }
+            };
+        }
+        let Ok(entry) = self.records[index].clone() else {
+            return Err(SourceFault::Memory);
+        };
+        Ok(entry)
+    }
+}
+
+/// How many records are verified of a source that gives these, but for the one at a place; or why they are none.
+fn verified_of(
+    alloc: Global,
+    records: &[Record],
+    fails: usize,
+    fault: SourceFault,
+) -> Result<usize, VerifyFault> {
+    let mut source = Given {
+        records,
+        fails,
+        fault,
+        withheld: false,
+    };
+    let verified = verify_source(alloc, &mut source)?;
+    Ok(verified.len())
+}
+
+#[test]
+fn a_record_that_is_not_given_is_named(rt: HostRuntime) -> Result<(), Fail> {
+    let alloc = rt.alloc();
+    let log = Log::create(MemDisk::new(alloc)).ok().ok_or("not made")?;
+    let (log, _) = recorded(&rt, log)?;
+    let (log, lists) = open(alloc, log.close()).ok().ok_or("not opened")?;
+    let records = read_guest(alloc, &lists, &mut log.close(), 0)?;
+    let rows = [
+        (2, SourceFault::Damaged, Ok(2)),
+        (
+            0,
+            SourceFault::Damaged,
+            Err(VerifyFault::Unreadable { index: 0 }),
+        ),
+        (
+            1,
+            SourceFault::Damaged,
+            Err(VerifyFault::Unreadable { index: 1 }),
+        ),
+        (
+            1,
+            SourceFault::DeviceFailed,
+            Err(VerifyFault::Unreadable { index: 1 }),
+        ),
+        (0, SourceFault::Memory, Err(VerifyFault::Memory)),
+        (1, SourceFault::Memory, Err(VerifyFault::Memory)),
+    ];
+    for (fails, fault, want) in rows {
+        let found = verified_of(alloc, &records, fails, fault);
+        same(&rt, &(fails, fault), found, want);
+    }
+    let none = verified_of(alloc, &[], 0, SourceFault::Damaged);
+    same(&rt, &"no records", none, Err(VerifyFault::BadOpening));
     Ok(())
 }

@@ -139,6 +139,7 @@ fn refusals_of_a_verification(rt: HostRuntime) -> Result<(), Fail> {
             "checkpoint 7 is wrong",
         ),
         (VerifyFault::BadOpening, "bad opening"),
+        (VerifyFault::Unreadable { index: 1 }, "record 1 unreadable"),
         (VerifyFault::Memory, "out of memory"),
     ];
     for (fault, want) in faults {

@@ -1,9 +1,10 @@
-use Rattle.std.proofs.Common.{List, ℕ, length, get_or, refl, subst}
+use Rattle.std.proofs.Common.{List, ℕ, get_or, refl, subst}
 use Rattle.std.specs.Prelude.{flat_map}
 use Rattle.std.specs.Io.KnownBytes.{Appends}
 use Rattle.std.proofs.lemmas.List.{take_all}
 use Rattle.std.proofs.lemmas.Option.{slice_get-get_or}
 use Rattle.rrv_model.specs.Recovered.{of_guest}
+use Rattle.recover.specs.Spots.{records_of}
 use Rattle.commands.specs.Printed.{guest_line, with_newline}
 use Rattle.commands.proofs.Texts.{printed_on}
 use Rattle.commands.proofs.guests.print_guests.Goals as goal
@@ -12,15 +13,18 @@ pub loop-guest-preserved : goal.loop-guest-preserved
 loop-guest-preserved g c =
     let guests = c.guests-guest-items.result.now in
     let i = c.loop-guest.guest-index in
-    printed_on (λ guest. with_newline (guest_line guest (of_guest guest c.args.lists.now))) guests i (get_or guests i 0) _ _ _
-    (slice_get-get_or guests i 0 c.loop-guest-test.true) c.loop-guest.invariant c.in_ok-print_guest.ensures.printed
+    let before = c.loop-guest.invariant in (
+      λ on. printed_on (λ guest. with_newline (guest_line guest (of_guest guest (records_of c.args.lists.now)))) guests i (get_or guests i 0) _ _ _
+          (slice_get-get_or guests i 0 c.loop-guest-test.true) (before.0 on) (c.in_ok-print_guest.ensures.printed (before.1 on)),
+      λ on. c.in_ok-print_guest.ensures.on (before.1 on),
+    )
 
 pub returns-clause-printed : goal.returns-clause-printed
-returns-clause-printed g c =
+returns-clause-printed g c = λ on.
     let guests = c.guests-guest-items.result.now in
-    let line : ℕ → List ℕ = λ guest. with_newline (guest_line guest (of_guest guest c.args.lists.now)) in (
+    let line : ℕ → List ℕ = λ guest. with_newline (guest_line guest (of_guest guest (records_of c.args.lists.now))) in (
       flat_map line guests,
       record { guests = guests; rising = c.guests-guest-items.ensures.rising; each = c.guests-guest-items.ensures.each; text_is = refl },
       subst (λ (xs : List ℕ). Appends (g.W.Write.contents c.args.out.now) (g.W.Write.contents c.loop-guest.out) (flat_map line xs))
-          (take_all c.loop-guest.guest-index guests c.loop-guest-test.false) c.loop-guest.invariant,
+          (take_all c.loop-guest.guest-index guests c.loop-guest-test.false) (c.loop-guest.invariant.0 on),
     )

@@ -1,4 +1,4 @@
-use Rattle.std.proofs.Common.{◌≡◌, arith, length, get_or, None, rules, ◌∙◌}
+use Rattle.std.proofs.Common.{arith, length, get_or, None, ◌∙◌}
 use Rattle.std.proofs.lemmas.List.{length-take-le}
 use Rattle.std.proofs.lemmas.Option.{slice_get-get_or}
 use Rattle.session.specs.declared.report.GuestReport.{GuestReport}

@@ -1,4 +1,4 @@
-use Rattle.std.proofs.Common.{List, subst}
+use Rattle.std.proofs.Common.{List, subst, sym}
 use Rattle.std.specs.Prelude.{flat_map}
 use Rattle.std.proofs.lemmas.Result.{err_from_is_err_and}
 use Rattle.rrv_model.specs.declared.record.Record.{Record}
@@ -7,11 +7,14 @@ use Rattle.guest_calls.specs.Guest.{state_of}
 use Rattle.recorder.specs.Recorded.{opening_of}
 use Rattle.guest_calls.specs.declared.put.Put.{Put}
 use Rattle.recorder.specs.Owed.{bytes_of}
+use Rattle.trace_disk.specs.MemDisk.{memory_state}
+use Rattle.trace_disk.specs.declared.mem_disk.MemDisk.{MemDisk}
+use Rattle.recover.specs.Spots.{records_of, StandIn}
 use Rattle.replayer.specs.Puts.{PutsAll}
 use Rattle.replayer.specs.Refusals.{RefusesVerify}
 use Rattle.replayer.specs.Verified.{Keeps}
 use Rattle.replayer.proofs.Last.{total_is_the_end}
-use Rattle.commands.proofs.Tried.{found_again, open_refused, recorded_again, same_report, verify_refused}
+use Rattle.commands.proofs.Tried.{found_again, open_refused, read_refused, recorded_again, same_report, verify_refused}
 use Rattle.commands.proofs.trial.try_image.Goals as goal
 
 pub returns-in-Err-clause-refused : goal.returns-in-Err-clause-refused
@@ -19,12 +22,21 @@ returns-in-Err-clause-refused g c =
     let s = c.in_ok-disk.ensures.stored in
     open_refused c.from.result c.in-Err.fault (opening_of 0 c.args.image c.args.name.now c.args.random) c.from.ensures ((c.in-Err.ensures.outcome tt).opens s.bodies s.store s.records s.recovered)
 
+pub returns-in_err-records-clause-refused : goal.returns-in_err-records-clause-refused
+returns-in_err-records-clause-refused g c =
+    let on : StandIn (memory_state c.close-disk.result).content c.in-Ok.opened.1 =
+    subst (λ (d : MemDisk). StandIn (memory_state d).content c.in-Ok.opened.1) (sym c.close-disk.ensures) (c.in-Ok.ensures.outcome tt).opened.stand in
+    let p = err_from_is_err_and c.from_residual-in_err-records.result c.from_residual-in_err-records.ensures.1 in
+    rw (p.1, p.2) (read_refused c.in_err-records.field-0.0 (opening_of 0 c.args.image c.args.name.now c.args.random) (c.in_err-records.ensures.readable (record { is_honest = tt; stand = on })))
+
 pub returns-in_err-verified-clause-refused : goal.returns-in_err-verified-clause-refused
 returns-in_err-verified-clause-refused g c =
     let first = opening_of 0 c.args.image c.args.name.now c.args.random in
     let s = c.in_ok-disk.ensures.stored in
     let p = err_from_is_err_and c.from_residual-in_err-verified.result c.from_residual-in_err-verified.ensures.1 in
-    let found = found_again first c.in_ok-disk.disk c.in_ok-disk.recorded c.in-Ok.opened.1 c.in_ok-records.records.items s ((c.in-Ok.ensures.outcome tt).opens s.bodies s.store).1 c.in_ok-records.ensures.records in
+    let on : StandIn (memory_state c.close-disk.result).content c.in-Ok.opened.1 =
+    subst (λ (d : MemDisk). StandIn (memory_state d).content c.in-Ok.opened.1) (sym c.close-disk.ensures) (c.in-Ok.ensures.outcome tt).opened.stand in
+    let found = found_again first c.in_ok-disk.disk c.in_ok-disk.recorded (records_of c.in-Ok.opened.1) c.in_ok-records.records.items s ((c.in-Ok.ensures.outcome tt).opens s.bodies s.store).1 (c.in_ok-records.ensures.records (record { is_honest = tt; stand = on })) in
     rw (p.1, p.2) (verify_refused c.in_err-verified.field-0.0 first c.in_ok-records.records.items s.state (recorded_again first c.in_ok-disk.disk c.in_ok-disk.recorded c.in_ok-records.records.items s found)
     (subst (λ (rs : List Record). RefusesVerify c.in_err-verified.field-0.0 rs) c.deref.ensures.value c.in_err-verified.ensures.refused))
 
@@ -32,7 +44,9 @@ pub returns-clause-program : goal.returns-clause-program
 returns-clause-program g c =
     let first = opening_of 0 c.args.image c.args.name.now c.args.random in
     let s = c.in_ok-disk.ensures.stored in
-    let found = found_again first c.in_ok-disk.disk c.in_ok-disk.recorded c.in-Ok.opened.1 c.in_ok-records.records.items s ((c.in-Ok.ensures.outcome tt).opens s.bodies s.store).1 c.in_ok-records.ensures.records in
+    let on : StandIn (memory_state c.close-disk.result).content c.in-Ok.opened.1 =
+    subst (λ (d : MemDisk). StandIn (memory_state d).content c.in-Ok.opened.1) (sym c.close-disk.ensures) (c.in-Ok.ensures.outcome tt).opened.stand in
+    let found = found_again first c.in_ok-disk.disk c.in_ok-disk.recorded (records_of c.in-Ok.opened.1) c.in_ok-records.records.items s ((c.in-Ok.ensures.outcome tt).opens s.bodies s.store).1 (c.in_ok-records.ensures.records (record { is_honest = tt; stand = on })) in
     (recorded_again first c.in_ok-disk.disk c.in_ok-disk.recorded c.in_ok-records.records.items s found).opens
 
 pub returns-clause-verified : goal.returns-clause-verified
@@ -58,7 +72,9 @@ returns-clause-same g c =
     let s = c.in_ok-disk.ensures.stored in
     let v = c.in_ok-verified.verified in
     let last = state_of c.in-Ok-state_at.replayed in
-    let found = found_again first c.in_ok-disk.disk c.in_ok-disk.recorded c.in-Ok.opened.1 c.in_ok-records.records.items s ((c.in-Ok.ensures.outcome tt).opens s.bodies s.store).1 c.in_ok-records.ensures.records in
+    let on : StandIn (memory_state c.close-disk.result).content c.in-Ok.opened.1 =
+    subst (λ (d : MemDisk). StandIn (memory_state d).content c.in-Ok.opened.1) (sym c.close-disk.ensures) (c.in-Ok.ensures.outcome tt).opened.stand in
+    let found = found_again first c.in_ok-disk.disk c.in_ok-disk.recorded (records_of c.in-Ok.opened.1) c.in_ok-records.records.items s ((c.in-Ok.ensures.outcome tt).opens s.bodies s.store).1 (c.in_ok-records.ensures.records (record { is_honest = tt; stand = on })) in
     same_report first c.in_ok-disk.disk c.in_ok-disk.recorded c.in_ok-records.records.items last s found
     (total_is_the_end v c.in_ok-records.records.items last
     (subst (λ (rs : List Record). Keeps v rs) c.deref.ensures.value c.in_ok-verified.ensures.keeps)

@@ -1,0 +1,56 @@
+//! Where the records of a guest come from, one at a time.
+
+ghost use Rattle.std.specs.Prelude.{◌≡◌, ◌⊎◌, ◌<◌, ◌↔◌, ◌||◌, Bool, IfErr, IfOk, List, Some, length, slice_get};
+ghost use Rattle.rrv_model.specs.declared.record.Record.{Record};
+ghost use Rattle.replayer.specs.declared.fault.VerifyFault.TheVariants as verify_faults;
+ghost use Rattle.replayer.specs.Sourced.{ends_withheld, withholds};
+
+use crate::fault::{SourceFault, VerifyFault};
+use rrv_model::record::Record;
+use std::alloc::Global;
+
+/// The records of a guest, given one at a time. What is promised of them is promised of an honest source alone.
+pub trait Source {
+    /// What it gives is as the contracts say.
+    ghost honest: { Self → Type 0 };
+
+    /// The records that it stands for.
+    ghost records: { Self → List Record };
+
+    /// Whether it has withheld a record: one that was asked for was not given, though there was memory.
+    ghost withheld: { Self → Bool };
+
+    /// How many records there are.
+    fn len(&self) -> usize
+        ensures { result ≡ length (records self.now) };
+
+    /// The record at this place.
+    fn item(&mut self, alloc: Global, index: usize) -> Result<Record, SourceFault>
+        requires { index < length (records self.old) }
+        ensures record { honest self.old → IfOk result (λ r. slice_get (records self.old) index ≡ Some r) }
+        ensures records { records self.new ≡ records self.old }
+        ensures honest { honest self.new ↔ honest self.old }
+        ensures withheld { withheld self.new ≡ (withholds result || withheld self.old) };
+}
+
+/// The record at a place of a source.
+pub(crate) fn given<S: Source>(
+    alloc: Global,
+    source: &mut S,
+    index: usize,
+) -> Result<Record, VerifyFault>
+    requires { index < length (S.records source.old) }
+    ensures record { S.honest source.old → IfOk result (λ r. slice_get (S.records source.old) index ≡ Some r) }
+    ensures refused { IfErr result (λ e. (e ≡ verify_faults.Memory) ⊎ (e ≡ verify_faults.Unreadable index)) }
+    ensures records { S.records source.new ≡ S.records source.old }
+    ensures honest { S.honest source.new ↔ S.honest source.old }
+    ensures withheld { S.withheld source.new ≡ (ends_withheld result || S.withheld source.old) }
+{
+    match source.item(alloc, index) {
+        Ok(entry) => Ok(entry),
+        Err(SourceFault::Memory) => Err(VerifyFault::Memory),
+        Err(SourceFault::DeviceFailed | SourceFault::Damaged) => Err(VerifyFault::Unreadable {
+            index,
+        }),
+    }
+}
