@@ -4,13 +4,13 @@ use Rattle.std.specs.List.{AllByRecursion}
 use Rattle.rrv_model.specs.declared.record.Item.{Item}
 use Rattle.rrv_model.specs.declared.record.Item.TheVariants as items
 use Rattle.rrv_model.specs.declared.record.Part.{Part}
-use Rattle.rrv_model.specs.Checkpoint.{Describes}
+use Rattle.rrv_model.specs.Checkpoint.{Describes, all_pages}
 use Rattle.rrv_model.specs.RecordText.{HasPartText}
 use Rattle.rrv_model.specs.Standing.{StandsBehind}
 use Rattle.rrv_model.specs.State.{State, IsState}
 use Rattle.guest_calls.specs.Guest.{GuestValue, state_of}
 use Rattle.guest_calls.specs.Snapshots.{guest_snapshots}
-use Rattle.checkpoint.specs.Made.{IsBaseOf, kept_memory}
+use Rattle.checkpoint.specs.Made.{IsBaseOf, NamesChanges, kept_memory}
 use Rattle.recorder.specs.declared.checkpoints.Checkpoints.{Checkpoints}
 use Rattle.recorder.specs.Owed.{Owed}
 
@@ -64,6 +64,7 @@ pub record MakesCheckpoint (old new : Checkpoints) (guest guest' : GuestValue) (
   pub texts : AllByRecursion HasPartText parts
   pub describes : (base : State) → IsBaseOf (kept_memory guest old.base) base (state_of guest)
       → Describes base parts (state_of guest)
+  pub changes : NamesChanges (kept_memory guest old.base) (state_of guest).memory (all_pages parts)
   pub items_are : its' ≡ its ++ map items.Part parts
   pub released : owed'.released ≡ owed.released
   pub owed_is : owed'.owed ≡ owed.owed ++ replicate (length parts) []

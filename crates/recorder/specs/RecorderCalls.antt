@@ -9,7 +9,7 @@ use Rattle.rrv_model.specs.declared.record.Item.{Item}
 use Rattle.rrv_model.specs.declared.record.Item.TheVariants as items
 use Rattle.rrv_model.specs.declared.record.Part.{Part}
 use Rattle.rrv_model.specs.declared.record.Record.{Record}
-use Rattle.rrv_model.specs.Checkpoint.{EndsWithRest}
+use Rattle.rrv_model.specs.Checkpoint.{EndsWithRest, all_pages}
 use Rattle.recorder.specs.declared.checkpoints.Parts.{Parts}
 use Rattle.recorder.specs.declared.checkpoints.Parts.TheVariants as outcomes
 use Rattle.recorder.specs.Checkpoints.{IsDue}
@@ -17,11 +17,13 @@ use Rattle.rrv_model.specs.declared.record.Opening.{Opening}
 use Rattle.rrv_model.specs.Failures.{HasFailed}
 use Rattle.rrv_model.specs.Opening.{Opens}
 use Rattle.rrv_model.specs.Output.{Chunk, FramePuts, call_in, spread}
-use Rattle.rrv_model.specs.Recording.{frame_record}
+use Rattle.rrv_model.specs.Standing.{StandsBehind}
+use Rattle.rrv_model.specs.Recording.{frame_record, items_of}
 use Rattle.rrv_model.specs.State.{State, thread_at, IsRunning}
 use Rattle.rrv_model.specs.Step.{ThreadMayTakeMemory}
 use Rattle.guest_calls.specs.declared.put.Put.{Put}
 use Rattle.guest_calls.specs.Guest.{GuestValue, chunks_of, state_of}
+use Rattle.checkpoint.specs.Made.{NamesChanges}
 use Rattle.serial_sched.specs.declared.fault.SliceFault.{SliceFault}
 use Rattle.serial_sched.specs.declared.fault.SliceFault.TheVariants as slice_faults
 use Rattle.serial_sched.specs.Asking.{Gives}
@@ -86,11 +88,17 @@ pub record MakesFrame {O : Type 0} (gives : Gives O) (old : GuestRecorder) (choi
 abbrev pub part_records : GuestRecorder → List Part → List Record
 part_records r parts = records_from r.seat.guest (length (made r)) (map items.Part parts)
 
+-- the parts name exactly the pages that differ from those of the base behind what was made, each with the lines that do
+pub record NamesWhatChanged (old : GuestRecorder) (parts : List Part) : Type 0 where
+  pub base : State
+  pub behind : StandsBehind (items_of (made old)) base [] (state_of old.guest)
+  pub changes : NamesChanges base.memory (state_of old.guest).memory (all_pages parts)
+
 -- what became of the parts of a checkpoint: these were kept, all of one, where one was due, or none
 abbrev pub TellsParts : Parts → GuestRecorder → List Part → ℕ → Type 0
 TellsParts outcomes.NotDue old parts last = ¬ IsDue old.every old.last old.guest × (parts ≡ []) × (last ≡ old.last)
 TellsParts outcomes.Kept old parts last = IsDue old.every old.last old.guest
-    × ((rest : CheckpointRest) × EndsWithRest parts rest) × (last ≡ old.guest.ran)
+    × ((rest : CheckpointRest) × EndsWithRest parts rest) × (last ≡ old.guest.ran) × NamesWhatChanged old parts
 TellsParts outcomes.LeftOut old parts last = IsDue old.every old.last old.guest × (parts ≡ []) × (last ≡ old.last)
 
 -- Parts were made as this tells. The guest stays, and what had left.
