@@ -1,7 +1,10 @@
 # 4,000,000 turns of a loop of eight instructions, without a load or a store; then exit(0).
+#ifndef TURNS
+#define TURNS 4000000
+#endif
     .globl _start
 _start:
-    li   t0, 4000000
+    li   t0, TURNS
     li   a0, 1
     li   a1, 0x1234567
 1:  add  a0, a0, t0

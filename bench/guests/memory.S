@@ -1,7 +1,10 @@
 # 4,000,000 turns of a loop of ten instructions, with two loads and two stores, over sixteen pages; then exit(0).
+#ifndef TURNS
+#define TURNS 4000000
+#endif
     .globl _start
 _start:
-    li   t0, 4000000
+    li   t0, TURNS
     la   t1, table
     li   t2, 0
     li   t3, 0xFFFC

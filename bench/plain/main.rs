@@ -1,40 +1,13 @@
 //! The interpreter of rrv in plain Rust, without proofs, to measure against: a decoder to an enum, and a step over an ordered map
 //! of pages. It runs a static RV32IMA program up to its first call or fault and says how many instructions that took.
 
+mod elf;
+mod instr;
+
+use elf::{Page, STACK_POINTER};
+use instr::{Instr, decode, operation};
 use std::collections::BTreeMap;
 use std::{env, fs, process};
-
-#[derive(Clone, Copy)]
-struct Permissions {
-    read: bool,
-    write: bool,
-    execute: bool,
-}
-
-struct Page {
-    permissions: Permissions,
-    bytes: Box<[u8; 4096]>,
-}
-
-#[derive(Clone, Copy)]
-enum Instr {
-    Lui { rd: u8, immediate: u32 },
-    Auipc { rd: u8, immediate: u32 },
-    Jal { rd: u8, offset: u32 },
-    Jalr { rd: u8, rs1: u8, immediate: u32 },
-    Branch { test: u8, rs1: u8, rs2: u8, offset: u32 },
-    Load { kind: u8, rd: u8, rs1: u8, immediate: u32 },
-    Store { kind: u8, rs1: u8, rs2: u8, immediate: u32 },
-    OpImm { op: u8, rd: u8, rs1: u8, immediate: u32 },
-    Shift { op: u8, rd: u8, rs1: u8, amount: u8 },
-    Op { op: u8, rd: u8, rs1: u8, rs2: u8 },
-    Fence,
-    Ecall,
-    Ebreak,
-    Lr { rd: u8, rs1: u8 },
-    Sc { rd: u8, rs1: u8, rs2: u8 },
-    Amo { op: u8, rd: u8, rs1: u8, rs2: u8 },
-}
 
 enum Stepped {
     Next,
@@ -47,95 +20,6 @@ struct Machine {
     pc: u32,
     registers: [u32; 32],
     reservation: Option<u32>,
-}
-
-fn field(word: u32, low: u32, count: u32) -> u8 {
-    ((word >> low) & ((1 << count) - 1)) as u8
-}
-
-#[inline(always)]
-fn decode(word: u32) -> Option<Instr> {
-    let rd = field(word, 7, 5);
-    let rs1 = field(word, 15, 5);
-    let rs2 = field(word, 20, 5);
-    let funct3 = field(word, 12, 3);
-    let funct7 = field(word, 25, 7);
-    let i = ((word as i32) >> 20) as u32;
-    Some(match word & 0x7F {
-        0x37 => Instr::Lui { rd, immediate: word & 0xFFFF_F000 },
-        0x17 => Instr::Auipc { rd, immediate: word & 0xFFFF_F000 },
-        0x6F => {
-            let offset = ((word as i32 >> 31) as u32) << 20
-                | (word & 0xF_F000)
-                | (word >> 20 & 1) << 11
-                | (word >> 21 & 0x3FF) << 1;
-            Instr::Jal { rd, offset }
-        }
-        0x67 if funct3 == 0 => Instr::Jalr { rd, rs1, immediate: i },
-        0x63 if funct3 != 2 && funct3 != 3 => {
-            let offset = ((word as i32 >> 31) as u32) << 12
-                | (word >> 7 & 1) << 11
-                | (word >> 25 & 0x3F) << 5
-                | (word >> 8 & 0xF) << 1;
-            Instr::Branch { test: funct3, rs1, rs2, offset }
-        }
-        0x03 if matches!(funct3, 0 | 1 | 2 | 4 | 5) => Instr::Load { kind: funct3, rd, rs1, immediate: i },
-        0x23 if funct3 < 3 => Instr::Store {
-            kind: funct3,
-            rs1,
-            rs2,
-            immediate: (i & 0xFFFF_FFE0) | u32::from(rd),
-        },
-        0x13 => match (funct3, funct7) {
-            (1, 0) => Instr::Shift { op: 0, rd, rs1, amount: rs2 },
-            (5, 0) => Instr::Shift { op: 1, rd, rs1, amount: rs2 },
-            (5, 0x20) => Instr::Shift { op: 2, rd, rs1, amount: rs2 },
-            (1 | 5, _) => return None,
-            _ => Instr::OpImm { op: funct3, rd, rs1, immediate: i },
-        },
-        0x33 => match funct7 {
-            0 => Instr::Op { op: funct3, rd, rs1, rs2 },
-            1 => Instr::Op { op: 16 + funct3, rd, rs1, rs2 },
-            0x20 if funct3 == 0 || funct3 == 5 => Instr::Op { op: 8 + funct3, rd, rs1, rs2 },
-            _ => return None,
-        },
-        0x0F if funct3 < 2 => Instr::Fence,
-        0x73 if word == 0x73 => Instr::Ecall,
-        0x73 if word == 0x10_0073 => Instr::Ebreak,
-        0x2F if funct3 == 2 => match funct7 >> 2 {
-            2 if rs2 == 0 => Instr::Lr { rd, rs1 },
-            3 => Instr::Sc { rd, rs1, rs2 },
-            op @ (0 | 1 | 4 | 8 | 12 | 16 | 20 | 24 | 28) => Instr::Amo { op, rd, rs1, rs2 },
-            _ => return None,
-        },
-        _ => return None,
-    })
-}
-
-fn operation(op: u8, a: u32, b: u32) -> u32 {
-    let (sa, sb) = (a as i32, b as i32);
-    match op {
-        0 => a.wrapping_add(b),
-        1 => a << (b & 31),
-        2 => u32::from(sa < sb),
-        3 => u32::from(a < b),
-        4 => a ^ b,
-        5 => a >> (b & 31),
-        6 => a | b,
-        7 => a & b,
-        8 => a.wrapping_sub(b),
-        13 => (sa >> (b & 31)) as u32,
-        16 => a.wrapping_mul(b),
-        17 => ((i64::from(sa) * i64::from(sb)) >> 32) as u32,
-        18 => ((i64::from(sa) * i64::from(b)) >> 32) as u32,
-        19 => ((u64::from(a) * u64::from(b)) >> 32) as u32,
-        20 if b == 0 => u32::MAX,
-        20 => sa.wrapping_div(sb) as u32,
-        21 => a.checked_div(b).unwrap_or(u32::MAX),
-        22 if b == 0 => a,
-        22 => sa.wrapping_rem(sb) as u32,
-        _ => a.checked_rem(b).unwrap_or(a),
-    }
 }
 
 impl Machine {
@@ -348,47 +232,13 @@ impl Machine {
     }
 }
 
-fn number(file: &[u8], at: usize) -> Option<u32> {
-    Some(u32::from_le_bytes(file.get(at..at + 4)?.try_into().ok()?))
-}
-
-fn open(file: &[u8]) -> Option<Machine> {
-    let mut pages = BTreeMap::new();
-    let headers = number(file, 28)? as usize;
-    for k in 0..usize::from(file[44]) {
-        let header = headers + 32 * k;
-        let (kind, offset, address) = (number(file, header)?, number(file, header + 4)?, number(file, header + 8)?);
-        let (file_len, memory_len, flags) = (number(file, header + 16)?, number(file, header + 20)?, number(file, header + 24)?);
-        if kind != 1 {
-            continue;
-        }
-        for at in 0..memory_len {
-            let place = address + at;
-            let page = pages.entry(place / 4096).or_insert_with(|| Page {
-                permissions: Permissions { read: false, write: false, execute: false },
-                bytes: Box::new([0; 4096]),
-            });
-            page.permissions.read |= flags & 6 != 0;
-            page.permissions.write |= flags & 2 != 0;
-            page.permissions.execute |= flags & 1 != 0;
-            if at < file_len {
-                page.bytes[place as usize % 4096] = file[(offset + at) as usize];
-            }
-        }
-    }
-    for number in 0x7FF00..0x80000 {
-        let permissions = Permissions { read: true, write: true, execute: false };
-        pages.insert(number, Page { permissions, bytes: Box::new([0; 4096]) });
-    }
-    let mut registers = [0; 32];
-    registers[2] = 0x7FFF_FFA0;
-    Some(Machine { pages, pc: number(file, 24)?, registers, reservation: None })
-}
-
 fn main() {
     let Some(path) = env::args().nth(1) else { process::exit(2) };
     let file = fs::read(path).expect("a file");
-    let mut machine = open(&file).expect("a program");
+    let program = elf::open(&file).expect("a program");
+    let mut registers = [0; 32];
+    registers[2] = STACK_POINTER;
+    let mut machine = Machine { pages: program.pages, pc: program.entry, registers, reservation: None };
     let mut steps = 0u64;
     let end = loop {
         steps += 1;

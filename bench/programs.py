@@ -1,0 +1,42 @@
+"""The programs that are measured, and the guests of bench/guests, as the scripts of this folder build them."""
+
+import pathlib
+import shutil
+import subprocess
+import sys
+
+ROOT = pathlib.Path(__file__).resolve().parent.parent
+GUESTS = ROOT / "bench" / "guests"
+GCC = "riscv64-unknown-elf-gcc"
+# how the ELF files beside the sources were made
+GUEST_FLAGS = (
+    "-march=rv32ima -mabi=ilp32 -O2 -fno-tree-loop-distribute-patterns -nostdlib -static "
+    "-Wl,-z,max-page-size=4096 -Wl,--build-id=none -s"
+)
+
+
+def build(name):
+    """The words that run a program of crates/, built by `rt run`."""
+    crate = ROOT / "crates" / name
+    done = subprocess.run(["rt", "run"], cwd=crate, capture_output=True, text=True, check=False)
+    if done.returncode != 0:
+        sys.exit(done.stdout + done.stderr)
+    return [str(crate / "out" / name)]
+
+
+def build_plain(name):
+    """The words that run a program of bench/plain; None where rustc isn't installed."""
+    if not shutil.which("rustc"):
+        return None
+    out = ROOT / "crates" / "step_rate" / "out" / f"plain_{name}"
+    source = ROOT / "bench" / "plain" / f"{name}.rs"
+    subprocess.run(["rustc", "--edition", "2024", "-O", "-C", "target-cpu=x86-64-v2", "-o", str(out), str(source)], check=True)
+    return [str(out)]
+
+
+def build_guest(name, turns, folder):
+    """A guest of bench/guests with so many turns, as an ELF file in a folder."""
+    source = next(it for it in (GUESTS / f"{name}.S", GUESTS / f"{name}.c") if it.exists())
+    elf = folder / f"{name}_{turns}.elf"
+    subprocess.run([GCC, *GUEST_FLAGS.split(), f"-DTURNS={turns}", "-o", str(elf), str(source)], check=True)
+    return elf
