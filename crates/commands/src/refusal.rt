@@ -48,7 +48,7 @@ pub enum Refusal {
     /// A newer version wrote the store.
     #[error("newer version")]
     NewerVersion,
-    /// The store no longer holds a record that it held.
+    /// A record of the store was not read: the store no longer holds it, or the device failed.
     #[error("record {index} unreadable")]
     Unreadable { index: usize },
     /// A record doesn't follow from those before it.

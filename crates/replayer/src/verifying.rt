@@ -35,7 +35,7 @@ impl Watch for Unwatched {
 /// Verifies a guest's records: replays each against what the guest's state makes of it, and tests each complete
 /// checkpoint against the state there. `BadOpening` is a list that begins with no opening from which a guest starts.
 /// `Mismatch` names the first record that doesn't follow from those before it, and `BadCheckpoint` says so of one that
-/// ends a checkpoint. `Memory` is a growth that was refused, which comes only where a guest starts.
+/// ends a checkpoint. `Memory` is a growth that was refused, which comes only for an opening that takes memory.
 pub fn verify(alloc: Global, records: &[Record]) -> Result<Verified, VerifyFault>
     ensures keeps { IfOk result (λ verified. Keeps verified records.now) }
     ensures refused { IfErr result (λ e. RefusesVerify e records.now) }
@@ -92,8 +92,8 @@ fn kept_of(first: &Record, walk: Walk, len: usize) -> Result<Verified, VerifyFau
 }
 
 /// Verifies the records that a source gives, one at a time. The refusals are those of the list, and `Unreadable` names a
-/// record that the source withheld: with every record given it answers what [`verify`] does. What is kept are the frames
-/// and the checkpoints.
+/// record that the source withheld: with every record given it answers what [`verify`] does, or `Memory`. What is kept
+/// are the opening, the frames and the checkpoints.
 pub fn verify_source<S: Source>(alloc: Global, source: &mut S) -> Result<Verified, VerifyFault>
     ensures keeps { S.honest source.old → IfOk result (λ verified. Keeps verified (S.records source.old)) }
     ensures refused { S.honest source.old → IfErr result (λ e. RefusesSource e (S.records source.old)) }
@@ -123,8 +123,8 @@ pub fn verify_source_watched<S: Source, W: Watch>(
     kept_of(&first, walk, len)
 }
 
-/// Verifies the records that a source gives as [`verify_source`] does, and keeps nothing of them but where they end: one
-/// record is held at a time, and the parts of one checkpoint. It tells after each record how far it is.
+/// Verifies the records that a source gives as [`verify_source`] does, and keeps nothing of them but where they end. It
+/// holds the opening, one record more and the parts of one checkpoint at a time, and tells after each record how far it is.
 pub fn verify_source_end<S: Source, W: Watch>(
     alloc: Global,
     source: &mut S,
