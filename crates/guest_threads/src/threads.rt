@@ -17,7 +17,6 @@ use std::collections::BTreeMap;
 use std::marker::Model;
 
 /// The threads of a guest: by tid, with the waiting order and the next tid.
-#[derive(Drop)]
 pub struct Threads {
     pub(crate) threads: BTreeMap<u32, Thread>,
     /// The tids of the waiting threads, in the waiting order.
@@ -34,6 +33,17 @@ impl Model for Threads {
     ghost view = { λ a. record { threads = a.threads.entries; waiting = a.waiting.items; next_tid = a.next_tid } };
 
     ghost invariant = { λ a. AreThreads (thread_map a.threads.entries) a.waiting.items a.next_tid };
+}
+
+// Written out: where one goes, a proof has one call, and not one for each of its parts.
+impl Drop for Threads {
+    fn drop(self) {
+        let Threads {
+            threads: _,
+            waiting: _,
+            next_tid: _,
+        } = self;
+    }
 }
 
 impl Threads {

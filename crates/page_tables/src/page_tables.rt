@@ -42,7 +42,6 @@ pub enum PutError {
 
 /// The pages of a guest and of its live snapshots. Page numbers lie below 0x80000. A snapshot shares its pages with the current
 /// table; a shared page is copied before it is written.
-#[derive(Drop)]
 pub struct PageTables {
     alloc: Global,
     pool: Slab<Page>,
@@ -63,6 +62,18 @@ impl Model for PageTables {
     ghost view = { λ s. value_of (contents_in s.pool s.table s.kept.items) };
 
     ghost invariant = { λ s. AreShared (get s.pool) (entry_at s.table) s.kept.items };
+}
+
+// Written out: where one goes, a proof has one call, and not one for each of its parts.
+impl Drop for PageTables {
+    fn drop(self) {
+        let PageTables {
+            alloc: _,
+            pool: _,
+            table: _,
+            kept: _,
+        } = self;
+    }
 }
 
 impl PageTables {

@@ -63,12 +63,22 @@ pub enum Question {
 }
 
 /// A guest, what its last call recorded, and its outside.
-#[derive(Drop)]
 pub struct Trial<'a> {
     /// The guest.
     pub guest: Guest,
     record: Option<CallRecord>,
     outside: Scripted<'a>,
+}
+
+// Written out: where one goes, a proof has one call, and not one for each of its parts.
+impl Drop for Trial<'_> {
+    fn drop(self) {
+        let Trial {
+            guest: _,
+            record: _,
+            outside: _,
+        } = self;
+    }
 }
 
 /// A thread with the number of a call in a7, and the arguments in a0 to a4.
