@@ -39,11 +39,14 @@ of_store name = with_rule (new_app name) (needed (codes "STORE"))
 abbrev pub of_guest : Text → App
 of_guest name = with_rule (of_store name) (needed (codes "GUEST"))
 
--- the options, and last the files
-abbrev pub record_options : App
-record_options = with_rule (with_rule (with_rule (with_rule (with_rule (of_store (codes "record"))
+-- the numbers, the other options, and last the files
+abbrev pub record_numbers : App
+record_numbers = with_rule (with_rule (of_store (codes "record"))
     (option_or (codes "quantum") (codes "50000")))
-    (option_or (codes "every") (codes "1048576")))
+    (option_or (codes "every") (codes "1048576"))
+
+abbrev pub record_options : App
+record_options = with_rule (with_rule (with_rule record_numbers
     (option (codes "input")))
     (option (codes "seed")))
     (flag (codes "progress"))

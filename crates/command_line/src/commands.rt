@@ -2,7 +2,7 @@
 
 ghost use Rattle.std.specs.Prelude.{◌≡◌, IfOk, true};
 ghost use Rattle.clap.specs.Words.{is_simple_and_free};
-ghost use Rattle.command_line.specs.Commands.{IsCommand, back_command, bare_program, last_command, program};
+ghost use Rattle.command_line.specs.Commands.{IsCommand, back_command, bare_program, last_command, program, record_numbers};
 ghost use Rattle.command_line.specs.Commands.{record_command, record_options, replay_command, showing_program, verify_command, writing_program};
 
 use crate::builder::{
@@ -17,10 +17,11 @@ const VERSION: &str = "0.1.0";
 /// What `--progress` does.
 const PROGRESS: &str = "show how far it is, on standard error";
 
-/// The options of `record STORE ELF..`.
-fn record_options<'a>(alloc: Global) -> Result<Command<'a>, AllocError>
-    ensures { IfOk result (IsCommand record_options) }
+/// `record STORE ELF..` with its numbers alone.
+fn record_numbers<'a>(alloc: Global) -> Result<Command<'a>, AllocError>
+    ensures { IfOk result (IsCommand record_numbers) }
 {
+    let command = of_store(alloc, "record", "records 1 to 16 programs at once")?;
     let quantum = option_or(
         alloc,
         "quantum",
@@ -28,6 +29,7 @@ fn record_options<'a>(alloc: Global) -> Result<Command<'a>, AllocError>
         "50000",
         "instructions of a slice at most, 64 to 1048576",
     );
+    let command = with_argument(command, quantum)?;
     let every = option_or(
         alloc,
         "every",
@@ -35,17 +37,22 @@ fn record_options<'a>(alloc: Global) -> Result<Command<'a>, AllocError>
         "1048576",
         "instructions between checkpoints, 0 for none",
     );
+    with_argument(command, every)
+}
+
+/// And with its other options.
+fn record_options<'a>(alloc: Global) -> Result<Command<'a>, AllocError>
+    ensures { IfOk result (IsCommand record_options) }
+{
+    let command = record_numbers(alloc)?;
     let input = option(
         alloc,
         "input",
         "FILE",
         "what each guest reads, up to 1048576 bytes",
     );
-    let seed = option(alloc, "seed", "HEX", "the seed of random bytes, 32 digits");
-    let command = of_store(alloc, "record", "records 1 to 16 programs at once")?;
-    let command = with_argument(command, quantum)?;
-    let command = with_argument(command, every)?;
     let command = with_argument(command, input)?;
+    let seed = option(alloc, "seed", "HEX", "the seed of random bytes, 32 digits");
     let command = with_argument(command, seed)?;
     with_argument(command, flag(alloc, "progress", PROGRESS))
 }
@@ -54,8 +61,9 @@ fn record_options<'a>(alloc: Global) -> Result<Command<'a>, AllocError>
 fn record<'a>(alloc: Global) -> Result<Command<'a>, AllocError>
     ensures { IfOk result (IsCommand record_command) }
 {
+    let command = record_options(alloc)?;
     let files = several(alloc, "ELF", 16, "static RISC-V programs (ELF32, RV32IMA)");
-    with_argument(record_options(alloc)?, files)
+    with_argument(command, files)
 }
 
 /// `verify STORE GUEST`.
@@ -70,13 +78,13 @@ fn verify<'a>(alloc: Global) -> Result<Command<'a>, AllocError>
 fn replay<'a>(alloc: Global) -> Result<Command<'a>, AllocError>
     ensures { IfOk result (IsCommand replay_command) }
 {
+    let command = of_guest(alloc, "replay", "puts a guest's output out again")?;
     let at = option(
         alloc,
         "at",
         "T",
         "print the state behind T instructions instead",
     );
-    let command = of_guest(alloc, "replay", "puts a guest's output out again")?;
     let command = with_argument(command, at)?;
     with_argument(command, flag(alloc, "progress", PROGRESS))
 }
@@ -85,10 +93,10 @@ fn replay<'a>(alloc: Global) -> Result<Command<'a>, AllocError>
 fn back<'a>(alloc: Global) -> Result<Command<'a>, AllocError>
     ensures { IfOk result (IsCommand back_command) }
 {
-    let from = needed(alloc, "FROM", "the place to go back from, in instructions");
-    let count = needed(alloc, "N", "how many instructions to go back");
     let command = of_guest(alloc, "back", "prints the state so many instructions back")?;
+    let from = needed(alloc, "FROM", "the place to go back from, in instructions");
     let command = with_argument(command, from)?;
+    let count = needed(alloc, "N", "how many instructions to go back");
     with_argument(command, count)
 }
 
@@ -96,18 +104,18 @@ fn back<'a>(alloc: Global) -> Result<Command<'a>, AllocError>
 fn last<'a>(alloc: Global) -> Result<Command<'a>, AllocError>
     ensures { IfOk result (IsCommand last_command) }
 {
-    let from = needed(alloc, "FROM", "the place to go back from, in instructions");
-    let address = needed(
-        alloc,
-        "ADDR",
-        "the byte's address, 1 to 8 hexadecimal digits",
-    );
     let command = of_guest(
         alloc,
         "last",
         "prints the state before a byte's last change",
     )?;
+    let from = needed(alloc, "FROM", "the place to go back from, in instructions");
     let command = with_argument(command, from)?;
+    let address = needed(
+        alloc,
+        "ADDR",
+        "the byte's address, 1 to 8 hexadecimal digits",
+    );
     with_argument(command, address)
 }
 

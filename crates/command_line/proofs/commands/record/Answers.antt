@@ -4,4 +4,4 @@ use Rattle.command_line.proofs.commands.record.Goals as goal
 
 pub returns : goal.returns
 returns c =
-    c.with_argument.ensures record_options (several 1 16 (codes "ELF")) c.in_ok-record_options.ensures c.several-files.ensures.rule
+    c.with_argument.ensures record_options (several 1 16 (codes "ELF")) c.in_ok-command.ensures c.several-files.ensures.rule
