@@ -13,12 +13,23 @@ use trace_log::{Log, LogFault};
 type Opened = Result<(Log<Device>, Lists), (Device, OpenFault)>;
 
 /// A disk, or a log on it; the records that were there at the last opening; and a body to be committed.
-#[derive(Drop)]
 pub(crate) struct Machine {
     device: Option<Device>,
     log: Option<Log<Device>>,
     lists: Option<Lists>,
     body: Vec<u8>,
+}
+
+// Written out: where one goes, a proof has one call, and not one for each of its parts.
+impl Drop for Machine {
+    fn drop(self) {
+        let Machine {
+            device: _,
+            log: _,
+            lists: _,
+            body: _,
+        } = self;
+    }
 }
 
 impl Machine {
@@ -177,7 +188,13 @@ impl Machine {
 
     /// The disk, of which no call fails from then on.
     pub(crate) fn into_disk(self) -> Result<MemDisk, Fail> {
-        Ok(self.device.ok_or("no disk")?.into_inner())
+        let Machine {
+            device,
+            log: _,
+            lists: _,
+            body: _,
+        } = self;
+        Ok(device.ok_or("no disk")?.into_inner())
     }
 
     /// What the opened store is; its log is closed.
