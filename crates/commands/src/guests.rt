@@ -35,17 +35,19 @@ impl Summary {
         ensures frames { result.frames ≤ self.frames + 1 }
         ensures instructions { result.instructions ≤ self.instructions + 2 ^ 32 }
     {
-        match entry.item {
-            Item::Opening(opening) => Summary {
-                name: opening.name.into_vec(),
-                ..self
-            },
-            Item::Frame(frame) => Summary {
+        if let Item::Frame(frame) = &entry.item {
+            return Summary {
                 frames: self.frames + 1,
                 instructions: self.instructions + u64::from(frame.count),
                 ..self
+            };
+        }
+        match entry.item.into_opening() {
+            Some(opening) => Summary {
+                name: opening.into_name().into_vec(),
+                ..self
             },
-            Item::Part(_) => self,
+            None => self,
         }
     }
 }

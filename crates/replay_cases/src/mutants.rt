@@ -110,9 +110,8 @@ fn change(
 fn without_parts(alloc: Global, records: Vec<Record>) -> Option<Vec<Record>> {
     let mut items = Vec::new(alloc);
     for record in records {
-        match record.item {
-            Item::Part(_) => {}
-            item => items.push(item).ok()?,
+        if !matches!(&record.item, Item::Part(_)) {
+            items.push(record.item).ok()?;
         }
     }
     numbered(alloc, items)
