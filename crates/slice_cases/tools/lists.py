@@ -1,14 +1,13 @@
 #!/usr/bin/env python3
 """Prints lines of ../stdin: what the guest of four_threads.S does under lists of choices, by a restatement of the guest's rules in Python
-(`threads.py`, in another crate's tools).
+(`threads.py` of tools/guests).
 """
 
 import pathlib
 import sys
 
 HERE = pathlib.Path(__file__).resolve().parent
-CRATES = HERE.parents[1]
-sys.path.insert(0, str(next(CRATES.glob("*/tools/threads.py")).parent))
+sys.path.insert(0, str(HERE.parents[2] / "tools" / "guests"))
 
 from threads import MASK, Guest
 

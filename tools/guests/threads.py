@@ -1,7 +1,7 @@
 #!/usr/bin/env python3
-"""Makes guests that a compiler makes: one thread that sieves and sorts, and several threads. It writes each into ../data, with what it
-prints and with its records as `rrv dump` and `rrv verify` have to print them: those are worked out here, by a restatement of the guest's rules that shares
-nothing with rrv. It covers what these guests do: no faults.
+"""Makes guests that a compiler makes: one thread that sieves and sorts, and several threads. It writes each into this folder, with
+what it prints and with its records as `rrv dump` and `rrv verify` have to print them: those are worked out here, by a restatement of the
+guest's rules that shares nothing with rrv. It covers what these guests do: no faults.
 
 Needs riscv64-unknown-elf-gcc and qemu-riscv32. Run in this folder.
 """
@@ -13,7 +13,6 @@ import tempfile
 ASM = "-march=rv32ima -mabi=ilp32 -nostdlib -static -s -Wl,-z,max-page-size=4096 -Wl,--build-id=none".split()
 C = ASM + "-ffreestanding -Os".split()
 WITH_SYMBOLS = "-march=rv32ima -mabi=ilp32 -static -nostdlib -ffreestanding -O1 -Wl,-z,max-page-size=4096 -Wl,--build-id=none".split()
-DATA = "../data"
 QUANTUM = 50_000
 MASK = 0xFFFFFFFF
 BASIC, ALLOWED = 0x10F00, 0x17D0F00
@@ -268,7 +267,7 @@ def made(name, source, flags, at):
 
 
 def keep(name, source, flags, at, steady):
-    """Writes a guest into ../data, with its output and its records. A steady one prints the same in each run."""
+    """Writes a guest into this folder, with its output and its records. A steady one prints the same in each run."""
     elf, runs = made(name, source, flags, at)
     guest = Guest(elf, b"g0")
     lines, total = guest.run(round_robin())
@@ -277,7 +276,7 @@ def keep(name, source, flags, at, steady):
     end = f"ok records={len(lines) + 1} instructions={total} end exited {guest.ended}"
     records = "".join(f"{line}\n" for line in [opening, *lines, end])
     for suffix, content in [("elf", elf), ("out", guest.output), ("records", records.encode())]:
-        with open(f"{DATA}/{name}.{suffix}", "wb") as file:
+        with open(f"{name}.{suffix}", "wb") as file:
             file.write(content)
 
 

@@ -1,6 +1,6 @@
 #!/usr/bin/env python3
-"""Writes the guest of every_instruction.S into ../data, with what it puts out under qemu-riscv32; and the same guest with a breakpoint in
-place of its last call.
+"""Writes the guest of every_instruction.S into this folder, with what it puts out under qemu-riscv32; and the same guest with a breakpoint
+in place of its last call.
 
 Needs riscv64-unknown-elf-gcc and qemu-riscv32. Run in this folder.
 """
@@ -40,7 +40,7 @@ def made(at):
 
 
 def written(name, data):
-    with open(f"../data/{name}", "wb") as file:
+    with open(name, "wb") as file:
         file.write(data)
 
 
@@ -61,6 +61,7 @@ def main():
     written("every_instruction.elf", guest)
     written("every_instruction.out", output)
     written("breakpoint.elf", guest[:last] + bytes.fromhex("73001000") + guest[last + 4 :])
+    written("breakpoint.out", output)
 
 
 main()

@@ -1,5 +1,5 @@
 /* A guest that runs every instruction of RV32IMA and FENCE.I but EBREAK, writes x1 to x31 twice to descriptor 1, and exits.
-   every_instruction.py makes of it what ../src/every_instruction.rt holds. */
+   every_instruction.py makes every_instruction.elf of it. */
 
     .option norelax
 
