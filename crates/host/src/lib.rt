@@ -5,8 +5,6 @@ mod clocks;
 mod machine;
 mod random;
 mod streams;
-#[cfg(test)]
-mod tests;
 
 pub use machine::Machine;
 pub use random::opening_random;

@@ -8,6 +8,7 @@ mod device;
 mod disk_rows;
 mod disks;
 mod failures;
+mod file_disk;
 mod guests;
 mod limits;
 mod logs;

@@ -6,8 +6,6 @@ mod fail_once;
 mod file_disk;
 mod history;
 mod mem_disk;
-#[cfg(test)]
-mod tests;
 
 pub use disk::{Disk, DiskFailed, cut_through, write_through};
 pub use fail_once::FailOnce;

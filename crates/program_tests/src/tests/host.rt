@@ -1,22 +1,17 @@
-//! Tests of what guests get: bytes that come from outside, shared input and streams, and clocks and writers that fail.
+//! What guests get from the host: random bytes, a shared input, shared streams, and clocks and writers that fail.
 
 ghost use Rattle.std.specs.Prelude.{◌≤◌, length};
 
-use crate::{Machine, StreamSink, Streams, opening_random};
+use super::kit::same;
 use guest_calls::Outside;
+use host::{Machine, StreamSink, Streams, opening_random};
 use rrv_model::sink::{Sink, SinkError};
-use std::fmt::Debug;
 use std::io;
 use std::io::{ErrorKind, Write};
 use std::process::Abort;
 use std::sync::{Mutex, Wait};
 use std::test::Fail;
 use std::time::{Clock, Duration, Instant};
-
-/// Ends the test where something else is found than wanted.
-fn same<T: PartialEq + Debug + Drop>(rt: &impl Abort, what: &impl Debug, found: T, want: T) {
-    assert_eq!(rt; found, want, "{what:?}");
-}
 
 /// Clocks that stand still. One that is missing fails.
 #[derive(Drop)]
