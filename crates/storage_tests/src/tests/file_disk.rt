@@ -68,6 +68,7 @@ fn read(disk: &mut FileDisk, from: u64, into: &mut [u8]) -> Result<Result<(), Di
     Ok(disk.read_at(from, into))
 }
 
+// A row that takes the open disk.
 fn call(rt: &impl Abort, disk: &mut FileDisk, place: usize, row: &FileRow) -> Result<(), Fail> {
     let mut room = [0; 8];
     match *row {
@@ -100,6 +101,7 @@ fn is_taken<R: Files<File = File>>(rt: &R, path: &str) -> bool {
     matches!(FileDisk::create(rt, path), Err(CannotOpen))
 }
 
+// A row that says where there is no disk to be had.
 fn refuse<R: Abort + Files<File = File>>(rt: &R, place: usize, row: &FileRow) {
     match *row {
         FileRow::NotOpened(path) => same(rt, &place, is_refused(rt, path), true),
@@ -112,6 +114,7 @@ fn refuse<R: Abort + Files<File = File>>(rt: &R, place: usize, row: &FileRow) {
     }
 }
 
+// A row that other programs do.
 fn change<R: Files<File = File>>(rt: &R, row: &FileRow) -> io::Result<()> {
     match *row {
         FileRow::WriteFile(path, bytes) => fs::write(rt, path, bytes),
@@ -173,6 +176,7 @@ fn take_all<R: Abort + AllocGlobal + Files<File = File>>(
     Ok(())
 }
 
+// Has the open disk, and lets it go where its one call ends.
 fn play_within<R: Abort + AllocGlobal + Files<File = File>>(
     rt: &R,
     rows: &[FileRow],
