@@ -28,7 +28,7 @@ def build_plain(name):
     """The words that run a program of bench/plain; None where rustc isn't installed."""
     if not shutil.which("rustc"):
         return None
-    out = ROOT / "crates" / "step_rate" / "out" / f"plain_{name}"
+    out = ROOT / "crates" / "rates" / "out" / f"plain_{name}"
     source = ROOT / "bench" / "plain" / f"{name}.rs"
     subprocess.run(["rustc", "--edition", "2024", "-O", "-C", "target-cpu=x86-64-v2", "-o", str(out), str(source)], check=True)
     return [str(out)]
