@@ -5,7 +5,7 @@ ghost use Rattle.std.specs.List.{AllByRecursion};
 ghost use Rattle.crossbeam_queue.specs.Passes.{view};
 ghost use Rattle.commit_group.specs.Numbers.{base, IsPlaced};
 ghost use Rattle.commit_group.specs.Queue.{received_of};
-ghost use Rattle.commit_group.specs.Reports.{HasEnded, HasJoined, IsTakenIn};
+ghost use Rattle.commit_group.specs.Reports.{HasEnded, IsTakenIn};
 ghost use Rattle.commit_group.specs.Seats.{RecorderValue, AllOf, id_of};
 ghost use Rattle.commit_group.specs.Started.{AreFlushers, KnowSame};
 ghost use Rattle.commit_group.specs.Words.{flusher_of};
@@ -14,7 +14,6 @@ use crate::flusher_seat::FlusherSeat;
 use crate::group::Group;
 use crate::queue::QueuePass;
 use crate::recorder_seat::RecorderSeat;
-use crate::steps;
 use crate::words::WordSeat;
 
 /// How many records each guest sent, how many of these are committed, and how many of these it saw durable; by its place, and
@@ -24,34 +23,6 @@ pub struct Report {
     pub sent: [u32; 16],
     pub committed: [u32; 16],
     pub seen: [u32; 16],
-}
-
-/// Takes in one seat, and tells how much it sent and how much it saw.
-fn join(
-    group: &Group,
-    pass: &mut QueuePass,
-    seat: &mut WordSeat,
-    recorder: RecorderSeat,
-) -> (u32, u32)
-    requires flusher { AreFlushers group.now pass.old seat.old }
-    requires of_group { recorder.group ≡ id_of group.now }
-    ensures flusher { AreFlushers group.now pass.new seat.new }
-    ensures same { KnowSame pass.old pass.new seat.old seat.new }
-    ensures counts { (result.0 ≡ length recorder.sent) × (result.1 ≡ recorder.seen) }
-    ensures joined { HasJoined (received_of (view pass.old)) (flusher_of seat.old.me.0) recorder }
-{
-    let RecorderSeat {
-        group: _,
-        pass: their_pass,
-        seat: their_seat,
-        guest,
-        sent,
-        seen,
-        knows_halt: _,
-        has_left: _,
-    } = recorder;
-    steps::take_in(group, pass, seat, their_pass, their_seat, guest);
-    (sent, seen)
 }
 
 /// Takes in all seats, and tells how much each sent and how much it saw.
@@ -73,7 +44,7 @@ fn join_all(
     let mut seen = [0; 16];
     while let Some(recorder) = recorders.pop() {
         let guest = recorders.len();
-        let counts = join(group, pass, seat, recorder);
+        let counts = recorder.join(group, pass, seat);
         sent[guest] = counts.0;
         seen[guest] = counts.1;
     }
