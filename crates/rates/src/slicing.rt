@@ -1,11 +1,11 @@
-//! How guests of one thread are cut into slices.
+//! How guests are cut into slices.
 
 use rrv_model::record::Choice;
 
 /// The most instructions in a slice.
 pub const QUANTUM: u32 = 50_000;
 
-/// Each slice is one of the first thread.
+/// What is chosen each time for a guest of one thread.
 pub const CHOICE: Choice = Choice {
     tid: 1,
     quantum: QUANTUM,
