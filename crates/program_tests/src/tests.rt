@@ -1,8 +1,8 @@
 //! Lines that are done, guests that are recorded, what they get from the host, and printed texts.
 
 mod faults;
+mod from_host;
 mod guests;
-mod host;
 mod kit;
 mod lines;
 mod programs;
