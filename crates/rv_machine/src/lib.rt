@@ -12,7 +12,6 @@ mod decoded_pages;
 mod execute;
 mod hart;
 mod memory;
-mod operate;
 mod page_decoding;
 mod page_slots;
 mod perform;

@@ -8,10 +8,9 @@ ghost use Rattle.rv_machine.specs.Performs.{Performs, StoresWithoutFault};
 ghost use Rattle.guest_pages.specs.Space.{memory_of, snapshots_of};
 
 use crate::decoded::Decoded;
-use crate::operate::operate;
 use crate::{Stepped, atomic, compute, memory};
 use guest_pages::Space;
-use rrv_model::instr::{BranchTest, LoadKind, StoreKind};
+use rrv_model::instr::{BranchTest, ImmediateOp, LoadKind, RegisterOp, ShiftOp, StoreKind};
 use rrv_model::machine::{FaultKind, Regs, Reservation};
 use rrv_model::refusal::Memory;
 
@@ -138,6 +137,189 @@ pub(crate) fn perform(
             rs2,
             immediate,
         } => memory::store(regs, space, StoreKind::Sw, *rs1, *rs2, *immediate),
+        Decoded::Addi { rd, rs1, immediate } => Ok(compute::operate_immediate(
+            regs,
+            ImmediateOp::Addi,
+            *rd,
+            *rs1,
+            *immediate,
+        )),
+        Decoded::Slti { rd, rs1, immediate } => Ok(compute::operate_immediate(
+            regs,
+            ImmediateOp::Slti,
+            *rd,
+            *rs1,
+            *immediate,
+        )),
+        Decoded::Sltiu { rd, rs1, immediate } => Ok(compute::operate_immediate(
+            regs,
+            ImmediateOp::Sltiu,
+            *rd,
+            *rs1,
+            *immediate,
+        )),
+        Decoded::Xori { rd, rs1, immediate } => Ok(compute::operate_immediate(
+            regs,
+            ImmediateOp::Xori,
+            *rd,
+            *rs1,
+            *immediate,
+        )),
+        Decoded::Ori { rd, rs1, immediate } => Ok(compute::operate_immediate(
+            regs,
+            ImmediateOp::Ori,
+            *rd,
+            *rs1,
+            *immediate,
+        )),
+        Decoded::Andi { rd, rs1, immediate } => Ok(compute::operate_immediate(
+            regs,
+            ImmediateOp::Andi,
+            *rd,
+            *rs1,
+            *immediate,
+        )),
+        Decoded::Slli { rd, rs1, amount } => Ok(compute::shift(
+            regs,
+            ShiftOp::Slli,
+            *rd,
+            *rs1,
+            *amount,
+        )),
+        Decoded::Srli { rd, rs1, amount } => Ok(compute::shift(
+            regs,
+            ShiftOp::Srli,
+            *rd,
+            *rs1,
+            *amount,
+        )),
+        Decoded::Srai { rd, rs1, amount } => Ok(compute::shift(
+            regs,
+            ShiftOp::Srai,
+            *rd,
+            *rs1,
+            *amount,
+        )),
+        Decoded::Add { rd, rs1, rs2 } => Ok(compute::operate(
+            regs,
+            RegisterOp::Add,
+            *rd,
+            *rs1,
+            *rs2,
+        )),
+        Decoded::Sub { rd, rs1, rs2 } => Ok(compute::operate(
+            regs,
+            RegisterOp::Sub,
+            *rd,
+            *rs1,
+            *rs2,
+        )),
+        Decoded::Sll { rd, rs1, rs2 } => Ok(compute::operate(
+            regs,
+            RegisterOp::Sll,
+            *rd,
+            *rs1,
+            *rs2,
+        )),
+        Decoded::Slt { rd, rs1, rs2 } => Ok(compute::operate(
+            regs,
+            RegisterOp::Slt,
+            *rd,
+            *rs1,
+            *rs2,
+        )),
+        Decoded::Sltu { rd, rs1, rs2 } => Ok(compute::operate(
+            regs,
+            RegisterOp::Sltu,
+            *rd,
+            *rs1,
+            *rs2,
+        )),
+        Decoded::Xor { rd, rs1, rs2 } => Ok(compute::operate(
+            regs,
+            RegisterOp::Xor,
+            *rd,
+            *rs1,
+            *rs2,
+        )),
+        Decoded::Srl { rd, rs1, rs2 } => Ok(compute::operate(
+            regs,
+            RegisterOp::Srl,
+            *rd,
+            *rs1,
+            *rs2,
+        )),
+        Decoded::Sra { rd, rs1, rs2 } => Ok(compute::operate(
+            regs,
+            RegisterOp::Sra,
+            *rd,
+            *rs1,
+            *rs2,
+        )),
+        Decoded::Or { rd, rs1, rs2 } => Ok(compute::operate(regs, RegisterOp::Or, *rd, *rs1, *rs2)),
+        Decoded::And { rd, rs1, rs2 } => Ok(compute::operate(
+            regs,
+            RegisterOp::And,
+            *rd,
+            *rs1,
+            *rs2,
+        )),
+        Decoded::Mul { rd, rs1, rs2 } => Ok(compute::operate(
+            regs,
+            RegisterOp::Mul,
+            *rd,
+            *rs1,
+            *rs2,
+        )),
+        Decoded::Mulh { rd, rs1, rs2 } => Ok(compute::operate(
+            regs,
+            RegisterOp::Mulh,
+            *rd,
+            *rs1,
+            *rs2,
+        )),
+        Decoded::Mulhsu { rd, rs1, rs2 } => Ok(compute::operate(
+            regs,
+            RegisterOp::Mulhsu,
+            *rd,
+            *rs1,
+            *rs2,
+        )),
+        Decoded::Mulhu { rd, rs1, rs2 } => Ok(compute::operate(
+            regs,
+            RegisterOp::Mulhu,
+            *rd,
+            *rs1,
+            *rs2,
+        )),
+        Decoded::Div { rd, rs1, rs2 } => Ok(compute::operate(
+            regs,
+            RegisterOp::Div,
+            *rd,
+            *rs1,
+            *rs2,
+        )),
+        Decoded::Divu { rd, rs1, rs2 } => Ok(compute::operate(
+            regs,
+            RegisterOp::Divu,
+            *rd,
+            *rs1,
+            *rs2,
+        )),
+        Decoded::Rem { rd, rs1, rs2 } => Ok(compute::operate(
+            regs,
+            RegisterOp::Rem,
+            *rd,
+            *rs1,
+            *rs2,
+        )),
+        Decoded::Remu { rd, rs1, rs2 } => Ok(compute::operate(
+            regs,
+            RegisterOp::Remu,
+            *rd,
+            *rs1,
+            *rs2,
+        )),
         Decoded::Fence | Decoded::FenceI => Ok(compute::fence(regs)),
         Decoded::Ecall => Ok(compute::ecall(regs)),
         Decoded::Ebreak => Ok(Stepped::Fault(FaultKind::Breakpoint)),
@@ -163,6 +345,5 @@ pub(crate) fn perform(
             rs2,
             ..
         } => atomic::change(regs, space, *op, *rd, *rs1, *rs2),
-        _ => Ok(operate(regs, decoded)),
     }
 }

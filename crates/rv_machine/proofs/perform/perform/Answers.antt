@@ -1,5 +1,4 @@
 use Rattle.std.proofs.Common.{Result, Ok, Err, refl, OnErr}
-use Rattle.rv_machine.proofs.Operations.{operation}
 use Rattle.rv_machine.proofs.perform.perform.Goals as goal
 
 -- what holds of an error, holds of it together
@@ -43,11 +42,3 @@ returns-in-Amo-clause-performs c = rw c.in-Amo.is (c.change.ensures.executes c.i
 
 pub returns-in-Amo-clause-takes : goal.returns-in-Amo-clause-takes
 returns-in-Amo-clause-takes c = rw c.in-Amo.is (both _ _ _ (always _ _ refl) (c.change.ensures.goes c.in-Amo.ordering _))
-
-pub operate-requires : goal.operate-requires
-operate-requires c =
-    let not = c.in_default in
-    record {
-      regs = c.requires;
-      operation = operation c.args.decoded.now not.not-NoInstruction not.not-Lui not.not-Auipc not.not-Jal not.not-Jalr not.not-Beq not.not-Bne not.not-Blt not.not-Bge not.not-Bltu not.not-Bgeu not.not-Lb not.not-Lh not.not-Lw not.not-Lbu not.not-Lhu not.not-Sb not.not-Sh not.not-Sw not.not-Fence not.not-FenceI not.not-Ecall not.not-Ebreak not.not-Lr not.not-Sc not.not-Amo;
-    }
