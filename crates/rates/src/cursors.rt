@@ -1,12 +1,12 @@
-//! What a cursor is asked.
+//! The moves that a cursor is asked to make.
 
 use replayer::Verified;
 use reverse_step::Cursor;
 use std::alloc::Global;
 
-/// What a cursor is asked to do.
+/// Where a cursor is asked to go.
 #[derive(Clone, Copy, Debug)]
-pub enum Asked {
+pub enum Moves {
     /// To go to one place so often.
     Seek { place: u64, count: u32 },
     /// To go to so many places at random.
@@ -16,20 +16,19 @@ pub enum Asked {
 }
 
 /// What words ask; None where that is nothing.
-pub fn asked_of(words: &[String]) -> Option<Asked> {
-    let kind = words.first()?.as_str();
-    let first = words.get(1)?.as_str();
-    match kind {
-        "seek" => Some(Asked::Seek {
-            place: first.parse().ok()?,
-            count: words.get(2)?.parse().ok()?,
+pub fn moves_of(words: &[String]) -> Option<Moves> {
+    let (kind, further) = words.split_first()?;
+    match (kind.as_str(), further) {
+        ("seek", [place, count]) => Some(Moves::Seek {
+            place: place.parse().ok()?,
+            count: count.parse().ok()?,
         }),
-        "places" => Some(Asked::Places {
-            seed: first.parse().ok()?,
-            count: words.get(2)?.parse().ok()?,
+        ("places", [seed, count]) => Some(Moves::Places {
+            seed: seed.parse().ok()?,
+            count: count.parse().ok()?,
         }),
-        "change" => Some(Asked::Change {
-            address: u32::from_str_radix(first, 16).ok()?,
+        ("change", [address]) => Some(Moves::Change {
+            address: u32::from_str_radix(address, 16).ok()?,
         }),
         _ => None,
     }
@@ -53,11 +52,11 @@ fn seek_often(alloc: Global, cursor: &mut Cursor<'_>, place: u64, count: u32) ->
 }
 
 /// Does what is asked. It answers how many instructions that executed, or where the byte last changed.
-pub fn answer(alloc: Global, verified: &Verified, asked: Asked) -> Option<u64> {
+pub fn make_moves(alloc: Global, verified: &Verified, moves: Moves) -> Option<u64> {
     let mut cursor = Cursor::new(alloc, verified).ok()?;
-    match asked {
-        Asked::Seek { place, count } => seek_often(alloc, &mut cursor, place, count),
-        Asked::Places { seed, count } => {
+    match moves {
+        Moves::Seek { place, count } => seek_often(alloc, &mut cursor, place, count),
+        Moves::Places { seed, count } => {
             let mut executed = 0u64;
             let mut number = seed;
             for _ in 0..count {
@@ -67,7 +66,7 @@ pub fn answer(alloc: Global, verified: &Verified, asked: Asked) -> Option<u64> {
             }
             Some(executed)
         }
-        Asked::Change { address } => {
+        Moves::Change { address } => {
             cursor.seek(alloc, verified.total()).ok()?;
             cursor.last_change(alloc, address).ok()?
         }

@@ -18,12 +18,12 @@ mod checkpoints;
 mod countdown;
 mod cursors;
 mod filled;
+mod limits;
 mod recording;
 mod replays;
 mod runs;
 mod sessions;
 mod slices;
-mod slicing;
 mod snapshots;
 mod steps;
 mod words;
@@ -32,7 +32,7 @@ use std::process::ExitCode;
 use std::rt::Files;
 use std::sync::Wait;
 use std::thread::Threads;
-use test_guests::arguments::arguments;
+use words::arguments;
 
 /// What is measured.
 #[derive(Clone, Copy, Debug)]

@@ -3,7 +3,7 @@
 ghost use Rattle.std.specs.Prelude.{IsSome};
 ghost use Rattle.guest_calls.specs.Snapshots.{guest_snapshots};
 
-use crate::slicing::{CHOICE, SLICES};
+use crate::limits::{CHOICE, SLICES};
 use checkpoint::make;
 use guest_calls::Guest;
 use guest_pages::Snapshot;
@@ -55,7 +55,7 @@ impl Recorded {
 }
 
 /// Records a program's slices up to its end, with checkpoints so many instructions apart at the least, or none where that is 0.
-pub fn record(alloc: Global, elf: &[u8], every: u64) -> Option<Vec<Record>> {
+pub fn record_with_checkpoints(alloc: Global, elf: &[u8], every: u64) -> Option<Vec<Record>> {
     let mut recorded = Recorded::start(guest_of_file(alloc, elf, 0)?)?;
     let mut records = Vec::new(alloc);
     let opening = Opening {

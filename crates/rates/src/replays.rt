@@ -1,8 +1,8 @@
 //! Records a program with checkpoints, verifies it, and goes to places of it.
 
 use crate::countdown::LONG;
-use crate::cursors::{Asked, answer, asked_of};
-use crate::recording::record;
+use crate::cursors::{Moves, make_moves, moves_of};
+use crate::recording::record_with_checkpoints;
 use crate::words::file_or;
 use replayer::{Verified, verify};
 use rrv_model::record::Record;
@@ -16,14 +16,14 @@ struct Plan {
     every: u64,
     /// How often it is verified.
     times: u32,
-    asked: Option<Asked>,
+    moves: Option<Moves>,
 }
 
 /// What is done with the long countdown.
 const OWN: Plan = Plan {
     every: 50_000,
     times: 1,
-    asked: Some(Asked::Places { seed: 1, count: 8 }),
+    moves: Some(Moves::Places { seed: 1, count: 8 }),
 };
 
 /// What was done.
@@ -39,10 +39,15 @@ struct Outcome {
 fn plan_of(words: &[String]) -> Option<Plan> {
     match words {
         [] => Some(OWN),
-        [_, every, times, asked @ ..] => Some(Plan {
+        [_, every, times] => Some(Plan {
             every: every.parse().ok()?,
             times: times.parse().ok()?,
-            asked: asked_of(asked),
+            moves: None,
+        }),
+        [_, every, times, moves @ ..] => Some(Plan {
+            every: every.parse().ok()?,
+            times: times.parse().ok()?,
+            moves: Some(moves_of(moves)?),
         }),
         _ => None,
     }
@@ -59,7 +64,7 @@ fn verify_times(alloc: Global, records: &[Record], times: u32) -> Option<Verifie
 
 /// Records a program, verifies it, and does what is asked; None where something is refused.
 fn run_program(alloc: Global, elf: &[u8], plan: Plan) -> Option<Outcome> {
-    let records = record(alloc, elf, plan.every)?;
+    let records = record_with_checkpoints(alloc, elf, plan.every)?;
     let mut outcome = Outcome {
         records: records.len(),
         instructions: 0,
@@ -68,8 +73,8 @@ fn run_program(alloc: Global, elf: &[u8], plan: Plan) -> Option<Outcome> {
     if 0 < plan.times {
         let verified = verify_times(alloc, &records, plan.times)?;
         outcome.instructions = verified.total();
-        if let Some(asked) = plan.asked {
-            outcome.found = answer(alloc, &verified, asked)?;
+        if let Some(moves) = plan.moves {
+            outcome.found = make_moves(alloc, &verified, moves)?;
         }
     }
     Some(outcome)

@@ -4,7 +4,7 @@ ghost use Rattle.std.specs.Prelude.{◌≡◌, ◌⊎◌, IfSome, IsSome, OnOk, 
 ghost use Rattle.rrv_model.specs.StateAt.{StateAtFrom, total};
 ghost use Rattle.guest_calls.specs.Guest.{state_of};
 
-use crate::slicing::{CHOICE, SLICES};
+use crate::limits::{CHOICE, SLICES};
 use guest_calls::Guest;
 use rrv_model::record::Frame;
 use serial_sched::{FollowFault, follow, slice};
@@ -13,7 +13,7 @@ use test_guests::outsides::Nothing;
 
 /// Records slices of a guest up to its end, or a million, and returns their frames; None where a slice is refused or
 /// there is no memory.
-pub fn record(alloc: Global, guest: &mut Guest) -> Option<Vec<Frame>>
+pub fn record_frames(alloc: Global, guest: &mut Guest) -> Option<Vec<Frame>>
     ensures leads { IfSome result (λ frames.
         StateAtFrom (state_of guest.old) frames.items (total frames.items) (state_of guest.new)) }
     ensures whole { IfSome result (λ frames. IsSome (state_of guest.new).ended ⊎ (length frames.items ≡ 1000000)) }

@@ -1,6 +1,6 @@
 //! Records a program by several guests at once, to a disk in memory.
 
-use crate::slicing::QUANTUM;
+use crate::limits::QUANTUM;
 use crate::words::number_and_file;
 use recorder::MemSink;
 use serial_sched::RoundRobin;

@@ -1,8 +1,8 @@
 //! Records a program's slices and follows their frames, without a store.
 
-use crate::runs::{follow_all, record};
+use crate::runs::{follow_all, record_frames};
 use crate::words::number_and_file;
-use elf_load::image::{Image, parse};
+use elf_load::{Image, parse};
 use guest_calls::Guest;
 use rrv_model::record::Frame;
 use std::alloc::Global;
@@ -40,7 +40,7 @@ fn follow_times(alloc: Global, image: &Image, frames: &[Frame], times: u32) -> O
 fn run_program(alloc: Global, elf: &[u8], times: u32) -> Option<Outcome> {
     let image = parse(alloc, elf).ok()?;
     let mut guest = opened(alloc, &image)?;
-    let frames = record(alloc, &mut guest)?;
+    let frames = record_frames(alloc, &mut guest)?;
     let followed = follow_times(alloc, &image, &frames, times)?;
     Some(Outcome {
         recorded: guest.ran(),

@@ -1,9 +1,9 @@
 //! Runs a program's instructions without recording them, up to its first call or fault: the bare step.
 
 use crate::countdown::SHORT;
-use crate::slicing::{QUANTUM, SLICES};
+use crate::limits::{QUANTUM, SLICES};
 use crate::words::file_or;
-use elf_load::image::parse;
+use elf_load::parse;
 use guest_calls::{Guest, RunEnd};
 use std::alloc::Global;
 use std::rt::Files;
@@ -46,6 +46,9 @@ fn run_program(alloc: Global, elf: &[u8]) -> Option<Outcome> {
 
 /// Runs the program that the word names, or the short countdown, and prints how far it came; None where something is refused.
 pub fn measure<R: AllocGlobal + Files + Print>(rt: &R, words: &[String]) -> Option<()> {
+    if 1 < words.len() {
+        return None;
+    }
     let elf = file_or(rt, words.first(), &SHORT)?;
     let Outcome { steps, end } = run_program(rt.alloc(), &elf)?;
     let end = match end {

@@ -1,9 +1,16 @@
-//! What words name.
+//! The words of a line, and what they name.
 
 use crate::countdown::LONG;
-use std::fs;
+use std::env::{self, Env};
 use std::rt::Files;
+use std::{fs, io};
 use test_guests::files::file_of;
+
+/// The words behind the program's name.
+pub fn arguments<R: Env + AllocGlobal>(rt: &R) -> io::Result<Vec<String>> {
+    let words = env::args(rt)?.skip(1).collect(rt.alloc())?;
+    Ok(words)
+}
 
 /// The file that a word names, or one of these instructions where there is no word; None where it can't be read, or no memory is left.
 pub fn file_or<R: AllocGlobal + Files>(
@@ -25,7 +32,7 @@ pub fn number_and_file<R: AllocGlobal + Files>(
 ) -> Option<(u32, Vec<u8>)> {
     match words {
         [] => Some((own, file_or(rt, None, &LONG)?)),
-        [number, path, ..] => Some((number.parse::<u32>().ok()?, file_or(rt, Some(path), &LONG)?)),
+        [number, path] => Some((number.parse::<u32>().ok()?, file_or(rt, Some(path), &LONG)?)),
         _ => None,
     }
 }

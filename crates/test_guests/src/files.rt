@@ -1,6 +1,6 @@
 //! Small static programs (System V ABI, ELF32), and guests of them.
 
-use elf_load::image::parse;
+use elf_load::parse;
 use guest_calls::Guest;
 use std::alloc::{AllocError, Global};
 

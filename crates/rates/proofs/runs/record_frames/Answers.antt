@@ -3,7 +3,7 @@ use Rattle.guest_calls.specs.Guest.{state_of}
 use Rattle.rrv_model.specs.declared.record.Frame.{Frame}
 use Rattle.rrv_model.specs.StateAt.{StateAtFrom, total}
 use Rattle.rrv_model.proofs.RunLaws.{at_total_append}
-use Rattle.rates.proofs.runs.record.Goals as goal
+use Rattle.rates.proofs.runs.record_frames.Goals as goal
 
 pub loop-preserved : goal.loop-preserved
 loop-preserved c = (

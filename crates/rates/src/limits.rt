@@ -1,4 +1,4 @@
-//! How guests are cut into slices.
+//! How guests are cut into slices, and after how many a run is given up.
 
 use rrv_model::record::Choice;
 
