@@ -1,6 +1,6 @@
 #!/usr/bin/env python3
-"""Writes the guest of every_instruction.S into this folder, with what it puts out under qemu-riscv32; and the same guest with a breakpoint
-in place of its last call.
+"""Writes the guest of every_instruction.S into this folder, with what it puts out under qemu-riscv32, and what has to be told of its
+recording; and the same guest with a breakpoint in place of its last call.
 
 Needs riscv64-unknown-elf-gcc and qemu-riscv32. Run in this folder.
 """
@@ -44,6 +44,12 @@ def written(name, data):
         file.write(data)
 
 
+def records(guest, output, count, last, end):
+    """What is told of a recording: its one write, and the three instructions behind it."""
+    lines = [f"0 opening name=g0 elf={len(guest)}", f"1 call tid=1 count={count - 3} result={len(output):08x} written=0", f"2 {last}"]
+    return "".join(f"{it}\n" for it in [*lines, f"ok records=3 instructions={count} end {end}"]).encode()
+
+
 def main():
     with tempfile.TemporaryDirectory() as at:
         guest = made(at)
@@ -62,6 +68,8 @@ def main():
     written("every_instruction.out", output)
     written("breakpoint.elf", guest[:last] + bytes.fromhex("73001000") + guest[last + 4 :])
     written("breakpoint.out", output)
+    written("every_instruction.records", records(guest, output, count, "call tid=1 count=3 result=00000000 written=0", "exited 0"))
+    written("breakpoint.records", records(guest, output, count, "fault tid=1 count=3 kind=2", "faulted 2"))
 
 
 main()
