@@ -9,7 +9,7 @@ ghost use Rattle.commands.specs.Tried.{IsOneJob, IsStored, RefusesTrial, TakesTu
 
 use crate::refusal::Refusal;
 use crate::silence::Silence;
-use elf_load::image::Image;
+use elf_load::Image;
 use recorder::MemSink;
 use rrv_model::refusal::Memory;
 use serial_sched::RoundRobin;

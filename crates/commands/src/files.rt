@@ -4,7 +4,7 @@ ghost use Rattle.std.specs.Prelude.{◌≡◌, ◌≤◌, ◌⊎◌, IfErr, IfOk
 ghost use Rattle.rrv_model.specs.declared.limits.TheConstants.{MAX_ELF};
 
 use crate::refusal::Refusal;
-use elf_load::image::{Image, parse};
+use elf_load::{Image, parse};
 use rrv_model::limits::MAX_ELF;
 use std::alloc::Global;
 use std::fs;

@@ -7,7 +7,7 @@ ghost use Rattle.commands.specs.Printed.{name_at};
 ghost use Rattle.commands.specs.Told.{session_told};
 
 use crate::refusal::Refusal;
-use elf_load::image::Image;
+use elf_load::Image;
 use host::{Machine, StreamSink, Streams, opening_random};
 use serial_sched::RoundRobin;
 use session::{Job, SessionFault};

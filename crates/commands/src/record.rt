@@ -13,7 +13,7 @@ use crate::refusal::Refusal;
 use crate::store::open_log;
 use crate::terminals::Terminals;
 use command_line::{Recording, seed};
-use elf_load::image::Image;
+use elf_load::Image;
 use host::Streams;
 use progress::{Clearing, RecordProgress};
 use session::{GuestReport, SessionReport, record_all};

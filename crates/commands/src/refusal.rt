@@ -6,7 +6,7 @@ ghost use Rattle.commands.specs.Told.{elf_told, open_told, output_told, read_tol
 ghost use Rattle.commands.specs.declared.refusal.Refusal.TheVariants as refusals;
 
 use command_line::BadSeed;
-use elf_load::fault::ElfFault;
+use elf_load::ElfFault;
 use recover::OpenFault;
 use replayer::{OutputFault, ReadGuestFault, VerifyFault};
 use reverse_step::SeekFault;

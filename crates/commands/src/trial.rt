@@ -14,7 +14,7 @@ ghost use Rattle.commands.specs.Tried.{RefusesTrial, report_of};
 
 use crate::demonstration::record_image;
 use crate::refusal::Refusal;
-use elf_load::image::Image;
+use elf_load::Image;
 use guest_calls::Guest;
 use recorder::MemSink;
 use recover::open;

@@ -2,10 +2,14 @@
 #![tactic(auto)]
 
 mod elf_file;
-pub mod fault;
-pub mod header;
-pub mod image;
+mod fault;
+mod header;
+mod image;
 mod limits;
 mod loads;
 mod numbers;
 mod overlap;
+
+pub use fault::ElfFault;
+pub use header::ProgramHeader;
+pub use image::{Image, parse};

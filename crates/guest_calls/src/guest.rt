@@ -172,17 +172,17 @@ impl Guest {
     pub fn has_running(&self) -> bool
         ensures { IsTrue result ↔ HasRunning (state_of self.now) }
     {
-        self.threads.any_running()
+        self.threads.has_running()
     }
 
-    /// The tids of the threads that run, rising.
+    /// The tids of the threads that run, rising. `Memory` where a growth is refused, which only happens where one runs.
     pub fn running(&self, alloc: Global) -> Result<Vec<u32>, Memory>
         ensures rising { IfOk result (λ tids. IsStrictlyIncreasing tids.items) }
         ensures running { IfOk result (λ tids. (tid : ℕ)
             → Contains tids.items tid ↔ IsRunning (thread_at (state_of self.now) tid)) }
         ensures memory { OnErr result (HasRunning (state_of self.now)) }
     {
-        self.threads.runnable(alloc)
+        self.threads.running(alloc)
     }
 
     /// A thread that runs.

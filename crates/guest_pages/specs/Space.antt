@@ -7,8 +7,8 @@ use Rattle.rrv_model.specs.Step.{word_at}
 use Rattle.rrv_model.specs.declared.limits.TheConstants.{MAX_PAGES}
 use Rattle.page_tables.specs.Contents.{PageValue, TablesValue, contents_of}
 use Rattle.page_tables.specs.Changes.{IsOwn}
-use Rattle.page_tables.specs.declared.page_tables.PutError.{PutError}
-use Rattle.page_tables.specs.declared.page_tables.PutError.TheVariants as errors
+use Rattle.page_tables.specs.declared.page_tables.PutFault.{PutFault}
+use Rattle.page_tables.specs.declared.page_tables.PutFault.TheVariants as errors
 use Rattle.guest_pages.specs.declared.page.Access.{Access}
 use Rattle.guest_pages.specs.declared.page.Access.TheVariants as accesses
 use Rattle.guest_pages.specs.declared.fault.PageFault.{PageFault}
@@ -130,7 +130,7 @@ abbrev pub KeepsOwn : SpaceValue → SpaceValue → Type 0
 KeepsOwn old new = (n : ℕ) → IsOwn (contents_of old) n → IsOwn (contents_of new) n
 
 -- a write into a page is refused so
-abbrev pub fault_for : PutError → PageFault
+abbrev pub fault_for : PutFault → PageFault
 fault_for errors.NotMapped = faults.NotMapped
 fault_for errors.NotAllowed = faults.NotAllowed
 fault_for errors.Memory = faults.Memory

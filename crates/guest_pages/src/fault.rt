@@ -1,6 +1,6 @@
 //! Why an address space refuses.
 
-use page_tables::PutError;
+use page_tables::PutFault;
 use thiserror::Error;
 
 /// Why a call on an address space was refused: the first of these that applies to any byte. All is then as before.
@@ -21,17 +21,17 @@ pub enum PageFault {
 }
 
 /// A write into a page is refused as a store is.
-impl From<PutError> for PageFault {
+impl From<PutFault> for PageFault {
     ghost use Rattle.std.specs.Prelude.{◌≡◌};
     ghost use Rattle.guest_pages.specs.Space.{fault_for};
 
-    ghost from_gives = { λ error e. e ≡ fault_for error };
+    ghost from_gives = { λ fault e. e ≡ fault_for fault };
 
-    fn from(error: PutError) -> PageFault {
-        match error {
-            PutError::NotMapped => PageFault::NotMapped,
-            PutError::NotAllowed => PageFault::NotAllowed,
-            PutError::Memory => PageFault::Memory,
+    fn from(fault: PutFault) -> PageFault {
+        match fault {
+            PutFault::NotMapped => PageFault::NotMapped,
+            PutFault::NotAllowed => PageFault::NotAllowed,
+            PutFault::Memory => PageFault::Memory,
         }
     }
 }

@@ -3,9 +3,9 @@
 
 mod access;
 mod address_space;
-pub mod fault;
+mod fault;
 mod mapping;
-pub mod page;
+mod page;
 mod snapshot;
 mod words;
 

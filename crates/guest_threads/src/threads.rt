@@ -101,14 +101,14 @@ impl Threads {
     }
 
     /// Tests whether some thread runs.
-    pub fn any_running(&self) -> bool
+    pub fn has_running(&self) -> bool
         ensures { IsTrue result ↔ ((tid : ℕ) × IsRunning (thread_in self.now tid)) }
     {
         some_thread_runs(&self.threads)
     }
 
     /// The tids of the threads that run, rising. Refused only for want of memory, where some thread runs.
-    pub fn runnable(&self, alloc: Global) -> Result<Vec<u32>, Memory>
+    pub fn running(&self, alloc: Global) -> Result<Vec<u32>, Memory>
         ensures rising { IfOk result (λ tids. IsStrictlyIncreasing tids.items) }
         ensures running { IfOk result (λ tids. (tid : ℕ)
             → Contains tids.items tid ↔ IsRunning (thread_in self.now tid)) }

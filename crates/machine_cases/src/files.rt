@@ -2,7 +2,7 @@
 
 use crate::lines::{bytes, number, number_or_none, numbers};
 use crate::mutations::all_answered;
-use elf_load::image::{Image, parse};
+use elf_load::{Image, parse};
 use std::alloc::{AllocError, Global};
 
 /// The bytes of an ELF header, and those of a program header.

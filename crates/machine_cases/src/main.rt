@@ -6,7 +6,8 @@
 //! - `word WORD [NAME=VALUE ..] gives [NAME=VALUE ..]`: one step of this instruction. It stands at 0x10000, in a page that may be read,
 //!   written and executed, before a page like it, at 0x11000. A name in front of `gives` is one of `pc` (else 0x10000), `a0` to `a3`,
 //!   `data` (else 0), a word of data, `at` (else 0x11000), where that stands, in one of these pages or across both, and `reserved`
-//!   (else `none`), the reserved address. Behind it stands what the step changes: the same names, of which `pc` is the next instruction where nothing is said; `end`, `next` where nothing is said,
+//!   (else `none`), the reserved address. Behind it stands what the step changes: the same names, of which `pc` is
+//!   the next instruction where nothing is said; `end`, `next` where nothing is said,
 //!   else `call` or the fault as `bad-instruction`; and `again`, the word that the instruction is encoded as, which is the same word
 //!   where nothing is said, and `none` where the word is no instruction. All other registers are 0 before and behind the step.
 //! - `decodes WORD AGAIN INSTRUCTION`: the word stands for this instruction, as `{:?}` prints it, which is encoded as the word AGAIN.

@@ -3,7 +3,7 @@
 ghost use Rattle.std.specs.Prelude.{◌<◌};
 
 use crate::plain::expected_fault;
-use elf_load::image::parse;
+use elf_load::parse;
 use std::alloc::{AllocError, Global};
 
 /// Numbers at the edges of the rules.

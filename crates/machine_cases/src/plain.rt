@@ -2,7 +2,7 @@
 
 ghost use Rattle.std.specs.Prelude.{◌<◌};
 
-use elf_load::fault::ElfFault;
+use elf_load::ElfFault;
 use std::alloc::{AllocError, Global};
 
 /// A PT_LOAD, as the rules speak of it.

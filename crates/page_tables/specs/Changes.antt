@@ -5,8 +5,8 @@ use Rattle.std.specs.Option.{option_map}
 use Rattle.rrv_model.specs.declared.machine.Permissions.{Permissions}
 use Rattle.page_tables.specs.declared.pool.Page.{Page}
 use Rattle.page_tables.specs.declared.page_tables.PageView.{PageView}
-use Rattle.page_tables.specs.declared.page_tables.PutError.{PutError}
-use Rattle.page_tables.specs.declared.page_tables.PutError.TheVariants as errors
+use Rattle.page_tables.specs.declared.page_tables.PutFault.{PutFault}
+use Rattle.page_tables.specs.declared.page_tables.PutFault.TheVariants as errors
 use Rattle.page_tables.specs.Contents.{PageValue, Contents, FillPage}
 
 -- the current table alone has page n: to write it takes no memory
@@ -139,7 +139,7 @@ IsNext pages least (Some n) =
     (least ≤ n) × (n < 0x80000) × (IsSome (pages n)) × ((q : ℕ) → least ≤ q → q < n → pages q ≡ None)
 
 -- a write into this page is refused so
-abbrev pub IsPutRefusal : Option PageValue → PutError → Type 0
+abbrev pub IsPutRefusal : Option PageValue → PutFault → Type 0
 IsPutRefusal page errors.NotMapped = page ≡ None
 IsPutRefusal page errors.NotAllowed = IsSome page × (allows_write page ≡ false)
 IsPutRefusal page errors.Memory = allows_write page ≡ true

@@ -8,4 +8,4 @@ mod pool;
 mod snapshots;
 mod table;
 
-pub use page_tables::{PageTables, PageView, PutError};
+pub use page_tables::{PageTables, PageView, PutFault};

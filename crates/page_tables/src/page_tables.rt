@@ -19,6 +19,7 @@ use rrv_model::machine::Permissions;
 use slab::Slab;
 use std::alloc::{AllocError, Global};
 use std::marker::Model;
+use thiserror::Error;
 
 /// A page as a reader sees it.
 #[derive(Clone, Copy)]
@@ -30,13 +31,16 @@ pub struct PageView<'a> {
 }
 
 /// Why a page was not written. All is then as before.
-#[derive(Clone, Copy, Debug, PartialEq, Eq)]
-pub enum PutError {
+#[derive(Clone, Copy, Debug, PartialEq, Eq, Error)]
+pub enum PutFault {
     /// There is no page.
+    #[error("not mapped")]
     NotMapped,
     /// It may not be written.
+    #[error("not allowed")]
     NotAllowed,
     /// A growth was refused.
+    #[error("out of memory")]
     Memory,
 }
 
@@ -193,7 +197,7 @@ impl PageTables {
 
     /// Makes the page at a number one of its own, by a copy where snapshots share it: to write it then takes no memory. Refused
     /// where a growth is, which is only where it is shared.
-    pub fn unshare(&mut self, number: u32) -> Result<(), AllocError>
+    fn unshare(&mut self, number: u32) -> Result<(), AllocError>
         requires { IsSome ((contents_of self.old).pages number) }
         ensures unshared { OnOk result (IsUnshared number (contents_of self.old) (contents_of self.new)) }
         ensures err { OnErr result (self.new ≡ self.old) }
@@ -254,7 +258,7 @@ impl PageTables {
     /// Writes a byte at a place in a page. The page is copied first where snapshots share it. Refused with
     /// NotMapped where there is no page, with NotAllowed where it may not be written, with Memory where a growth is refused.
     #[inline(always)]
-    pub fn put_byte(&mut self, number: u32, at: usize, value: u8) -> Result<(), PutError>
+    pub fn put_byte(&mut self, number: u32, at: usize, value: u8) -> Result<(), PutFault>
         requires { at + 1 ≤ 4096 }
         ensures allowed { OnOk result (allows_write ((contents_of self.old).pages number) ≡ true) }
         ensures written { OnOk result (IsWritten number at (to_le_bytes w8 value)
@@ -277,7 +281,7 @@ impl PageTables {
     /// Writes a half-word at a place in a page, its low byte first. The page is copied first where snapshots share it. Refused with
     /// NotMapped where there is no page, with NotAllowed where it may not be written, with Memory where a growth is refused.
     #[inline(always)]
-    pub fn put_half(&mut self, number: u32, at: usize, value: u16) -> Result<(), PutError>
+    pub fn put_half(&mut self, number: u32, at: usize, value: u16) -> Result<(), PutFault>
         requires { at + 2 ≤ 4096 }
         ensures allowed { OnOk result (allows_write ((contents_of self.old).pages number) ≡ true) }
         ensures written { OnOk result (IsWritten number at (to_le_bytes w16 value)
@@ -300,7 +304,7 @@ impl PageTables {
     /// Writes a word at a place in a page, its low byte first. The page is copied first where snapshots share it. Refused with
     /// NotMapped where there is no page, with NotAllowed where it may not be written, with Memory where a growth is refused.
     #[inline(always)]
-    pub fn put_word(&mut self, number: u32, at: usize, value: u32) -> Result<(), PutError>
+    pub fn put_word(&mut self, number: u32, at: usize, value: u32) -> Result<(), PutFault>
         requires { at + 4 ≤ 4096 }
         ensures allowed { OnOk result (allows_write ((contents_of self.old).pages number) ≡ true) }
         ensures written { OnOk result (IsWritten number at (to_le_bytes w32 value)
@@ -322,20 +326,20 @@ impl PageTables {
 
     /// Why a page may not be written.
     #[cold]
-    fn refusal(&self, number: u32) -> PutError
+    fn refusal(&self, number: u32) -> PutFault
         requires { allows_write ((contents_of self.now).pages number) ≡ false }
         ensures { IsPutRefusal ((contents_of self.now).pages number) result }
     {
         match self.page(number) {
-            Some(_) => PutError::NotAllowed,
-            None => PutError::NotMapped,
+            Some(_) => PutFault::NotAllowed,
+            None => PutFault::NotMapped,
         }
     }
 
     /// Writes into a page that snapshots share: the copy comes first.
     #[cold]
     #[inline(never)]
-    fn put_shared(&mut self, number: u32, at: usize, bytes: &[u8]) -> Result<(), PutError>
+    fn put_shared(&mut self, number: u32, at: usize, bytes: &[u8]) -> Result<(), PutFault>
         requires allowed { allows_write ((contents_of self.old).pages number) ≡ true }
         requires fits { at + length bytes.now ≤ 4096 }
         ensures written { OnOk result (IsWritten number at bytes.now (contents_of self.old) (contents_of self.new)) }
@@ -343,7 +347,7 @@ impl PageTables {
         ensures err { OnErr result (self.new ≡ self.old) }
     {
         let Ok(()) = self.unshare(number) else {
-            return Err(PutError::Memory);
+            return Err(PutFault::Memory);
         };
         self.write(number, at, bytes);
         Ok(())

@@ -8,6 +8,6 @@ mod recording;
 mod verifying;
 
 pub use clearing::Clearing;
-pub use extent::{Count, Extent};
+pub use extent::Count;
 pub use recording::RecordProgress;
 pub use verifying::VerifyProgress;

@@ -123,7 +123,7 @@ impl Outputs {
     }
 
     /// Adds so many records that put nothing out. It takes no memory.
-    pub fn push_silent(&mut self, alloc: Global, count: usize)
+    pub(crate) fn push_silent(&mut self, alloc: Global, count: usize)
         requires room { count ≤ self.old.room }
         requires few { self.old.released + length self.old.owed + count ≤ 4294967295 }
         ensures { (self.new.released ≡ self.old.released) × (self.new.owed ≡ self.old.owed ++ replicate count []) }

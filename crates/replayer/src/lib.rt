@@ -24,6 +24,4 @@ pub use reading::read_guest;
 pub use source::Source;
 pub use verified::Verified;
 pub use verified_end::VerifiedEnd;
-pub use verifying::{
-    Watch, verify, verify_source, verify_source_end, verify_source_watched, verify_watched,
-};
+pub use verifying::{Watch, verify, verify_source, verify_source_end, verify_source_watched};

@@ -36,7 +36,7 @@ impl<'a> Place<'a> {
         self.verified
     }
 
-    /// The instructions behind it.
+    /// How many instructions ran before it.
     pub fn at(&self) -> u64
         ensures at { result ≡ self.now.at }
         ensures within { self.now.at ≤ total self.now.verified.frames }
@@ -52,7 +52,7 @@ impl<'a> Place<'a> {
         &self.position.guest
     }
 
-    /// The place behind one instruction more.
+    /// The place one instruction on. `Memory` where a growth is refused; the place is then gone.
     pub fn advance(self, alloc: Global) -> Result<Place<'a>, Memory>
         requires { self.at < total self.verified.frames }
         ensures verified { IfOk result (λ place. place.verified ≡ self.entry.verified) }

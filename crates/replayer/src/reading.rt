@@ -12,7 +12,8 @@ use rrv_model::record::Record;
 use std::alloc::Global;
 use trace_disk::Disk;
 
-/// The records of a guest of a store, read from its disk.
+/// The records of a guest of a store, read from its disk. `DeviceFailed` where a call of the disk fails, `Unreadable`
+/// where the store no longer holds a record, and `Memory` where a growth is refused.
 pub fn read_guest<D: Disk>(
     alloc: Global,
     lists: &Lists,

@@ -57,7 +57,8 @@ impl Verified {
         self.track.steps
     }
 
-    /// The guest at t, run from the last complete checkpoint at or before it, else from its start.
+    /// The guest after t instructions, run from the last complete checkpoint at or before t, else from its start. `Memory` where a
+    /// growth is refused.
     pub fn place_at<'a>(&'a self, alloc: Global, t: u64) -> Result<Place<'a>, Memory>
         requires { t ≤ total self.now.frames }
         ensures verified { IfOk result (λ place. place.verified ≡ self.now) }
@@ -71,7 +72,8 @@ impl Verified {
         })
     }
 
-    /// The state at t, as a guest: run from the last complete checkpoint at or before t, else from its start.
+    /// The state after t instructions, as a guest: run from the last complete checkpoint at or before t, else from its start.
+    /// `Memory` where a growth is refused.
     pub fn state_at(&self, alloc: Global, t: u64) -> Result<Guest, Memory>
         requires { t ≤ total self.now.frames }
         ensures state { IfOk result (λ guest. StateAt self.now.opening self.now.frames t (state_of guest)) }
@@ -88,7 +90,8 @@ impl Verified {
         self.track.checkpoint_before(t)
     }
 
-    /// Puts out what the recorded guest put out. A refusal leaves a beginning of it.
+    /// Puts out what the recorded guest put out. `SinkFailed` where the sink refuses, and `Memory` where a growth is refused; a
+    /// beginning of it is then out.
     pub fn output<S: Sink, R: Wait>(
         &self,
         alloc: Global,

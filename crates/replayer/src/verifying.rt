@@ -40,25 +40,12 @@ pub fn verify(alloc: Global, records: &[Record]) -> Result<Verified, VerifyFault
     ensures keeps { IfOk result (λ verified. Keeps verified records.now) }
     ensures refused { IfErr result (λ e. RefusesVerify e records.now) }
 {
-    verify_watched(alloc, records, &mut Unwatched)
-}
-
-/// The same, and tells after each record how far it is.
-pub fn verify_watched<W: Watch>(
-    alloc: Global,
-    records: &[Record],
-    watch: &mut W,
-) -> Result<Verified, VerifyFault>
-    ensures keeps { IfOk result (λ verified. Keeps verified records.now) }
-    ensures refused { IfErr result (λ e. RefusesVerify e records.now) }
-{
     let Some(first) = records.first() else {
         return Err(VerifyFault::BadOpening);
     };
     let mut walk = open_first(alloc, first, true)?;
     for index in 1..records.len() {
         follow_record(alloc, &mut walk, first.guest, index, &records[index])?;
-        watch.verified(index + 1, walk.total);
     }
     kept_of(first, walk, records.len())
 }

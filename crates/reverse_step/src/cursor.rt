@@ -29,7 +29,7 @@ impl<'a> Model for Cursor<'a> {
 }
 
 impl<'a> Cursor<'a> {
-    /// A cursor at the start.
+    /// A cursor at the start. `Memory` where a growth is refused.
     pub fn new(alloc: Global, verified: &'a Verified) -> Result<Cursor<'a>, Memory>
         ensures verified { IfOk result (λ cursor. cursor.verified ≡ verified.now) }
         ensures at { IfOk result (λ cursor. cursor.place ≡ 0) }
@@ -39,7 +39,7 @@ impl<'a> Cursor<'a> {
         Ok(Cursor { place })
     }
 
-    /// The instructions behind the place.
+    /// The place: how many instructions ran before it.
     pub fn place(&self) -> u64
         ensures place { result ≡ self.now.place }
         ensures within { self.now.place ≤ total self.now.verified.frames }
@@ -56,14 +56,15 @@ impl<'a> Cursor<'a> {
         self.place.guest()
     }
 
-    /// The instructions that ran for the guest at the place.
+    /// How many instructions were run to reach the guest at the place, since the last checkpoint before it or the start.
     pub fn executed(&self) -> u64
         ensures { result ≡ self.now.guest.ran }
     {
         self.place.guest().ran()
     }
 
-    /// Goes to a place.
+    /// Goes to a place, in instructions since the start. `PastEnd` where it lies behind the end, and `Memory` where a growth is
+    /// refused; the cursor then stays.
     pub fn seek(&mut self, alloc: Global, t: u64) -> Result<(), SeekFault>
         ensures verified { self.new.verified ≡ self.old.verified }
         ensures at { OnOk result (self.new.place ≡ t) }
@@ -80,7 +81,8 @@ impl<'a> Cursor<'a> {
         Ok(())
     }
 
-    /// Goes so many instructions back.
+    /// Goes so many instructions back. `BeforeStart` where fewer ran before the place, and `Memory` where a growth is refused; the
+    /// cursor then stays.
     pub fn back(&mut self, alloc: Global, n: u64) -> Result<(), SeekFault>
         ensures verified { self.new.verified ≡ self.old.verified }
         ensures at { OnOk result (self.new.place + n ≡ self.old.place) }
@@ -97,7 +99,8 @@ impl<'a> Cursor<'a> {
         Ok(())
     }
 
-    /// Goes so many instructions forward.
+    /// Goes so many instructions forward. `PastEnd` where fewer are left, and `Memory` where a growth is refused; the cursor then
+    /// stays.
     pub fn forward(&mut self, alloc: Global, n: u64) -> Result<(), SeekFault>
         ensures verified { self.new.verified ≡ self.old.verified }
         ensures at { OnOk result (self.new.place ≡ self.old.place + n) }
@@ -115,8 +118,8 @@ impl<'a> Cursor<'a> {
         Ok(())
     }
 
-    /// Goes to the last place below this one whose instruction changes the byte at an address, or whether there is one,
-    /// and answers it; stays where none does.
+    /// Goes to the last place before this one whose instruction changes the byte at an address, or whether there is one,
+    /// and answers it; stays where none does. `Memory` where a growth is refused; the cursor then stays.
     pub fn last_change(&mut self, alloc: Global, address: u32) -> Result<Option<u64>, Memory>
         ensures verified { self.new.verified ≡ self.old.verified }
         ensures change { IfOk result (IsLastChange self.old.verified.opening self.old.verified.frames address

@@ -6,8 +6,7 @@ ghost use Rattle.session.specs.Openings.{RefusesJob, RefusesJobs, StartsGuest};
 
 use crate::fault::SessionFault;
 use crate::job::Job;
-use elf_load::fault::ElfFault;
-use elf_load::image::parse;
+use elf_load::{ElfFault, parse};
 use guest_calls::Outside;
 use rrv_model::name::is_name;
 use rrv_model::sink::Sink;

@@ -17,6 +17,7 @@ use crate::room::{Room, make_room};
 use crate::run::run;
 use commit_group::end;
 use guest_calls::Outside;
+use rrv_model::limits::MAX_GUESTS;
 use rrv_model::sink::Sink;
 use serial_sched::Chooser;
 use std::alloc::Global;
@@ -25,7 +26,7 @@ use std::thread::Threads;
 use trace_disk::Disk;
 use trace_log::Log;
 
-/// Records some guests, at most 16.
+/// Records some guests, [`MAX_GUESTS`] at most.
 fn record_some<
     D: Disk + Drop,
     C: Chooser + Drop + Send,
@@ -110,7 +111,7 @@ pub fn record_all<
     ensures none { jobs.items ≡ [] → AreUntouched log result.0 jobs result.1 × OnErr result.2 ⊥ }
 {
     let count = jobs.len();
-    if count > 16 || log.next_guest() > u32::MAX - count as u32 {
+    if count > MAX_GUESTS as usize || log.next_guest() > u32::MAX - count as u32 {
         return (log, jobs, Err(SessionFault::TooManyGuests));
     }
     if count == 0 {

@@ -1,8 +1,7 @@
 //! What ELF files are refused for, and the greatest table of headers.
 
 use super::same;
-use elf_load::fault::ElfFault;
-use elf_load::image::parse;
+use elf_load::{ElfFault, parse};
 use std::alloc::{AllocError, Global};
 use std::test::Fail;
 use test_guests::files::file_of;

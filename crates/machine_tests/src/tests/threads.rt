@@ -33,9 +33,9 @@ enum Row {
     Stands(u32, u32),
     Clears(u32, u32),
     Waiting(&'static [u32]),
-    Runnable(&'static [u32]),
+    AllRunning(&'static [u32]),
     Running(u32, bool),
-    AnyRunning(bool),
+    HasRunning(bool),
     Live(u32),
     Full(bool),
     Empty(bool),
@@ -66,14 +66,14 @@ fn stand(threads: &mut Threads, tid: u32, pc: u32) {
     threads.set_regs(tid, thread_from(pc).regs);
 }
 
-fn runnable(rt: &impl Abort, alloc: Global, threads: &Threads, want: &[u32]) -> Result<(), Fail> {
-    let found = threads.runnable(alloc)?;
-    same(rt, &"runnable", found.as_slice(), want);
+fn running(rt: &impl Abort, alloc: Global, threads: &Threads, want: &[u32]) -> Result<(), Fail> {
+    let found = threads.running(alloc)?;
+    same(rt, &"running", found.as_slice(), want);
     Ok(())
 }
 
-/// Does what a row says.
-fn act(rt: &impl Abort, threads: &mut Threads, row: &Row) {
+/// Does what a row says, and finds among threads what it says of them.
+fn take(rt: &impl Abort, alloc: Global, threads: &mut Threads, row: &Row) -> Result<(), Fail> {
     match *row {
         Row::Spawn(want) => same(rt, row, spawn(threads), want),
         Row::Wait(tid, address, want) => same(rt, row, threads.wait(tid, address), want),
@@ -81,33 +81,23 @@ fn act(rt: &impl Abort, threads: &mut Threads, row: &Row) {
         Row::Wake(address, count, want) => same(rt, row, threads.wake(address, count), want),
         Row::Stands(tid, pc) => stand(threads, tid, pc),
         Row::Clears(tid, address) => threads.set_clear(tid, address),
-        _ => {}
-    }
-}
-
-/// Finds among threads what a row says.
-fn finds(rt: &impl Abort, threads: &Threads, row: &Row) {
-    match *row {
         Row::Waiting(want) => same(rt, row, threads.waiting(), want),
+        Row::AllRunning(want) => running(rt, alloc, threads, want)?,
         Row::Running(tid, want) => same(rt, row, threads.is_running(tid), want),
-        Row::AnyRunning(want) => same(rt, row, threads.any_running(), want),
+        Row::HasRunning(want) => same(rt, row, threads.has_running(), want),
         Row::Live(want) => same(rt, row, threads.live(), want),
         Row::Full(want) => same(rt, row, threads.is_full(), want),
         Row::Empty(want) => same(rt, row, threads.is_empty(), want),
         Row::NextTid(want) => same(rt, row, threads.next_tid(), want),
         Row::Thread(tid, want) => same(rt, row, threads.get(tid), want),
-        _ => {}
     }
+    Ok(())
 }
 
 /// Takes rows one after another.
 fn play(rt: &impl Abort, alloc: Global, threads: &mut Threads, rows: &[Row]) -> Result<(), Fail> {
     for row in rows {
-        if let Row::Runnable(want) = *row {
-            runnable(rt, alloc, threads, want)?;
-        }
-        act(rt, threads, row);
-        finds(rt, threads, row);
+        take(rt, alloc, threads, row)?;
     }
     Ok(())
 }
@@ -157,12 +147,12 @@ fn leaves_those_at_other_addresses_alone(rt: HostRuntime) -> Result<(), Fail> {
         Row::Exit(3, NOT_THERE),
         Row::Wake(0x1_2000, ALL, 2),
         Row::Waiting(&[5, 2, 1]),
-        Row::Runnable(&[3, 4, 6]),
+        Row::AllRunning(&[3, 4, 6]),
         Row::Wait(3, 0x1_2008, DONE),
         Row::Wait(4, 0x1_2008, DONE),
         Row::Wait(6, 0x1_2008, DONE),
-        Row::AnyRunning(false),
-        Row::Runnable(&[]),
+        Row::HasRunning(false),
+        Row::AllRunning(&[]),
     ];
     play(&rt, rt.alloc(), &mut threads, &rows)
 }
@@ -197,7 +187,7 @@ fn makes_sixteen_threads_and_never_uses_a_tid_again(rt: HostRuntime) -> Result<(
         Row::Empty(false),
         Row::Exit(17, DONE),
         Row::Empty(true),
-        Row::AnyRunning(false),
+        Row::HasRunning(false),
     ];
     play(&rt, rt.alloc(), &mut threads, &rows)
 }
@@ -292,7 +282,7 @@ fn threads_are_made_as_told(rt: HostRuntime) -> Result<(), Fail> {
         Row::Thread(5, Some(parts[1].thread)),
         Row::Thread(9, Some(parts[2].thread)),
         Row::Thread(3, None),
-        Row::Runnable(&[5]),
+        Row::AllRunning(&[5]),
         Row::Wake(8, 1, 1),
         Row::Running(9, true),
         Row::Running(2, false),

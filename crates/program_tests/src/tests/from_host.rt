@@ -52,7 +52,7 @@ impl Write for Fitful {
     }
 }
 
-/// What a guest of a session is asked to be, besides what it answers.
+/// Reads four bytes at most. `Drop + Send` is what a session asks of an environment.
 fn read_four<O: Outside + Drop + Send>(rt: &impl Abort, outside: &mut O, want: &[u8]) {
     let mut into = [0u8; 4];
     let len = outside.read(&mut into);

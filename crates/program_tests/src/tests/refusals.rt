@@ -3,7 +3,7 @@
 use super::kit::shows;
 use command_line::BadSeed;
 use commands::Refusal;
-use elf_load::fault::ElfFault;
+use elf_load::ElfFault;
 use guest_calls::{SetPageFault, SetRestFault};
 use recover::{OpenFault, ReadFault};
 use replayer::{OutputFault, ReadGuestFault, VerifyFault};

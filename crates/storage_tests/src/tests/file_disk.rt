@@ -1,12 +1,11 @@
 //! Disks in files of the host, by rows. Each test works in a folder of its own, which it removes.
 
 use super::same;
-use std::fs::{File, OpenOptions};
+use std::fs::{self, File, OpenOptions};
 use std::os::unix::fs::symlink;
 use std::process::Abort;
 use std::rt::Files;
 use std::test::Fail;
-use std::{fs, io};
 use trace_disk::{CannotOpen, Disk, DiskFailed, FileDisk};
 
 /// What is done with a disk or beside it, or what is to be found. A disk stays open until it is let go.
@@ -86,7 +85,7 @@ fn call(rt: &impl Abort, disk: &mut FileDisk, place: usize, row: &FileRow) -> Re
         }
         FileRow::Len(want) => same(rt, &place, disk.len(), want),
         FileRow::Failures(want) => same(rt, &place, disk.failures(), want),
-        _ => {}
+        _ => return Err(Fail::new("no row of an open disk")),
     }
     Ok(())
 }
@@ -102,7 +101,7 @@ fn is_taken<R: Files<File = File>>(rt: &R, path: &str) -> bool {
 }
 
 // A row that says where there is no disk to be had.
-fn refuse<R: Abort + Files<File = File>>(rt: &R, place: usize, row: &FileRow) {
+fn refuse<R: Abort + Files<File = File>>(rt: &R, place: usize, row: &FileRow) -> Result<(), Fail> {
     match *row {
         FileRow::NotOpened(path) => same(rt, &place, is_refused(rt, path), true),
         FileRow::NotMade(path) => same(rt, &place, is_taken(rt, path), true),
@@ -110,20 +109,22 @@ fn refuse<R: Abort + Files<File = File>>(rt: &R, place: usize, row: &FileRow) {
             let found = (is_refused(rt, path), is_taken(rt, path));
             same(rt, &place, found, (true, true));
         }
-        _ => {}
+        _ => return Err(Fail::new("no row of a refused path")),
     }
+    Ok(())
 }
 
 // A row that other programs do.
-fn change<R: Files<File = File>>(rt: &R, row: &FileRow) -> io::Result<()> {
+fn change<R: Files<File = File>>(rt: &R, row: &FileRow) -> Result<(), Fail> {
     match *row {
-        FileRow::WriteFile(path, bytes) => fs::write(rt, path, bytes),
-        FileRow::CutFile(path, len) => OpenOptions::new().write(true).open(rt, path)?.set_len(len),
-        FileRow::Link(text, path) => symlink(rt, text, path),
-        FileRow::Name(path, name) => fs::hard_link(rt, path, name),
-        FileRow::Remove(path) => fs::remove_file(rt, path),
-        _ => Ok(()),
+        FileRow::WriteFile(path, bytes) => fs::write(rt, path, bytes)?,
+        FileRow::CutFile(path, len) => OpenOptions::new().write(true).open(rt, path)?.set_len(len)?,
+        FileRow::Link(text, path) => symlink(rt, text, path)?,
+        FileRow::Name(path, name) => fs::hard_link(rt, path, name)?,
+        FileRow::Remove(path) => fs::remove_file(rt, path)?,
+        _ => return Err(Fail::new("no row of another program")),
     }
+    Ok(())
 }
 
 fn holds<R: Abort + AllocGlobal + Files<File = File>>(
@@ -154,7 +155,9 @@ fn take<R: Abort + AllocGlobal + Files<File = File>>(
         | FileRow::ReadFails(..)
         | FileRow::Len(_)
         | FileRow::Failures(_) => call(rt, disk.as_mut().ok_or("no disk")?, place, row)?,
-        FileRow::NotOpened(_) | FileRow::NotMade(_) | FileRow::Refused(_) => refuse(rt, place, row),
+        FileRow::NotOpened(_) | FileRow::NotMade(_) | FileRow::Refused(_) => {
+            refuse(rt, place, row)?;
+        }
         FileRow::WriteFile(..)
         | FileRow::CutFile(..)
         | FileRow::Link(..)

@@ -90,7 +90,7 @@ fn look(
             let found = bytes_from(alloc, device, from, want.len())?;
             same(rt, &place, found.as_slice(), want);
         }
-        _ => {}
+        _ => return Err(Fail::new("no row of a closed log")),
     }
     Ok(())
 }
