@@ -10,6 +10,7 @@ use crate::fault::OutputFault;
 use crate::place::Place;
 use crate::recording::Track;
 use guest_calls::Guest;
+use rrv_model::record::Frame;
 use rrv_model::refusal::Memory;
 use rrv_model::sink::Sink;
 use std::alloc::Global;
@@ -55,6 +56,13 @@ impl Verified {
         ensures { result ≡ total self.now.frames }
     {
         self.track.steps
+    }
+
+    /// Its frames, in order.
+    pub fn frames(&self) -> &[Frame]
+        ensures { result.now ≡ self.now.frames }
+    {
+        self.track.frames.as_slice()
     }
 
     /// The guest after t instructions, run from the last complete checkpoint at or before t, else from its start. `Memory` where a

@@ -2,3 +2,4 @@ pub mod Words
 pub mod Pieces
 pub mod StateTexts
 pub mod Tids
+pub mod Each

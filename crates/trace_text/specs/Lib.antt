@@ -1,3 +1,4 @@
 pub mod Lines
 pub mod Digest
 pub mod States
+pub mod MemoryText

@@ -3,10 +3,12 @@
 
 mod guest_lines;
 mod memory_digest;
+mod memory_lines;
 mod state_lines;
 mod text;
 
 pub use guest_lines::{ListLine, ReportLine};
 pub use memory_digest::digest_of;
+pub use memory_lines::MemoryLines;
 pub use state_lines::StateLines;
 pub use text::{EndText, RecordLine, VerifyLine};
