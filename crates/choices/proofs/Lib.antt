@@ -1,0 +1,5 @@
+pub mod Texts
+pub mod Schedules
+pub mod OwnSlices
+pub mod SaidChoices
+mod Examples

@@ -1,0 +1,3 @@
+pub mod ChoiceText
+pub mod Schedule
+pub mod Recorded
