@@ -1,0 +1,4 @@
+pub mod Headers
+pub mod Notes
+pub mod Runs
+pub mod Core
