@@ -1,2 +1,3 @@
 pub mod Inversion
+pub mod Texts
 pub mod Words

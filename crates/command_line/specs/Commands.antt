@@ -23,6 +23,10 @@ option_or name value = record (option name) { defaults = value ∷ [] }
 abbrev pub flag : Text → Rule
 flag name = record (new_rule name) { long = Some name; action = Some SetTrue }
 
+-- an option with a value, which may be given several times
+abbrev pub repeated : Text → Rule
+repeated name = record (option name) { action = Some Append }
+
 -- values of which there are so many
 abbrev pub several : (least most : ℕ) → Text → Rule
 several least most name = record (new_rule name) {
@@ -39,32 +43,52 @@ of_store name = with_rule (new_app name) (needed (codes "STORE"))
 abbrev pub of_guest : Text → App
 of_guest name = with_rule (of_store name) (needed (codes "GUEST"))
 
--- the numbers, the other options, and last the files
+-- a command that goes back from a place
+abbrev pub of_guest_from : Text → App
+of_guest_from name = with_rule (of_guest name) (needed (codes "FROM"))
+
+-- a command with the flag that shows how far it is
+abbrev pub with_progress : App → App
+with_progress app = with_rule app (flag (codes "progress"))
+
+-- a command that prints a state, with bytes of the memory that is named
+abbrev pub with_memory : App → App
+with_memory app = with_progress (with_rule app (repeated (codes "memory")))
+
+-- the numbers, what the guests read, their choices, and last the files
 abbrev pub record_numbers : App
 record_numbers = with_rule (with_rule (of_store (codes "record"))
     (option_or (codes "quantum") (codes "50000")))
     (option_or (codes "every") (codes "1048576"))
 
-abbrev pub record_options : App
-record_options = with_rule (with_rule (with_rule record_numbers
-    (option (codes "input")))
-    (option (codes "seed")))
-    (flag (codes "progress"))
+abbrev pub record_inputs : App
+record_inputs = with_rule (with_rule record_numbers (option (codes "input"))) (option (codes "seed"))
+
+abbrev pub record_choices : App
+record_choices = with_rule (with_rule record_inputs
+    (repeated (codes "choices")))
+    (option_or (codes "then") (codes "turns"))
 
 abbrev pub record_command : App
-record_command = with_rule record_options (several 1 16 (codes "ELF"))
+record_command = with_rule (with_progress record_choices) (several 1 16 (codes "ELF"))
 
 abbrev pub verify_command : App
-verify_command = with_rule (of_guest (codes "verify")) (flag (codes "progress"))
+verify_command = with_progress (of_guest (codes "verify"))
 
 abbrev pub replay_command : App
-replay_command = with_rule (with_rule (of_guest (codes "replay")) (option (codes "at"))) (flag (codes "progress"))
+replay_command = with_memory (with_rule (of_guest (codes "replay")) (option (codes "at")))
 
 abbrev pub back_command : App
-back_command = with_rule (with_rule (of_guest (codes "back")) (needed (codes "FROM"))) (needed (codes "N"))
+back_command = with_memory (with_rule (of_guest_from (codes "back")) (needed (codes "N")))
 
 abbrev pub last_command : App
-last_command = with_rule (with_rule (of_guest (codes "last")) (needed (codes "FROM"))) (needed (codes "ADDR"))
+last_command = with_memory (with_rule (of_guest_from (codes "last")) (needed (codes "ADDR")))
+
+abbrev pub choices_command : App
+choices_command = with_progress (of_guest (codes "choices"))
+
+abbrev pub core_command : App
+core_command = with_progress (with_rule (with_rule (of_guest (codes "core")) (needed (codes "AT"))) (needed (codes "FILE")))
 
 -- the words that follow the program's name: some command, but no `help`; there is a version
 abbrev pub as_bare : Shape → Shape
@@ -86,9 +110,12 @@ abbrev pub showing_program : App
 showing_program = with_subcommand (with_subcommand (with_subcommand writing_program (of_store (codes "list")).top)
     (of_guest (codes "dump")).top) verify_command.top
 
-abbrev pub program : App
-program = with_subcommand (with_subcommand (with_subcommand showing_program replay_command.top)
+abbrev pub replaying_program : App
+replaying_program = with_subcommand (with_subcommand (with_subcommand showing_program replay_command.top)
     back_command.top) last_command.top
+
+abbrev pub program : App
+program = with_subcommand (with_subcommand replaying_program choices_command.top) core_command.top
 
 -- the parser reads words by this, and has no argument that counts for its subcommands too
 abbrev pub IsCommand : App → Command → Type 0

@@ -2,7 +2,8 @@
 
 ghost use Rattle.std.specs.Prelude.{◌≡◌, ◌≤◌, IfOk, false};
 ghost use Rattle.clap.specs.Words.{App, Rule, new_app, rule_of, with_rule, with_subcommand};
-ghost use Rattle.command_line.specs.Commands.{IsCommand, flag, needed, of_guest, of_store, option, option_or, several};
+ghost use Rattle.command_line.specs.Commands.{IsCommand, flag, needed, of_guest, of_guest_from, of_store, option, option_or, repeated};
+ghost use Rattle.command_line.specs.Commands.{several, with_memory, with_progress};
 
 use clap::{Arg, ArgAction, Command};
 use std::alloc::{AllocError, Global};
@@ -42,6 +43,14 @@ pub(crate) fn option_or<'a>(
     ensures local { result.global ≡ false }
 {
     option(alloc, name, value, help).default_value(default)
+}
+
+/// An option with a value, which may be given several times.
+pub(crate) fn repeated<'a>(alloc: Global, name: &'a str, value: &'a str, help: &'a str) -> Arg<'a>
+    ensures rule { rule_of result ≡ repeated name.now }
+    ensures local { result.global ≡ false }
+{
+    option(alloc, name, value, help).action(ArgAction::Append)
 }
 
 /// An option without a value.
@@ -120,4 +129,47 @@ pub(crate) fn of_guest<'a>(
 {
     let guest = needed(alloc, "GUEST", "the guest's number in the store");
     with_argument(of_store(alloc, name, about)?, guest)
+}
+
+/// A command of a guest of a store, from a place.
+pub(crate) fn of_guest_from<'a>(
+    alloc: Global,
+    name: &'a str,
+    about: &'a str,
+) -> Result<Command<'a>, AllocError>
+    ensures { IfOk result (IsCommand (of_guest_from name.now)) }
+{
+    let from = needed(
+        alloc,
+        "FROM",
+        "the place to go back from, in instructions, or end",
+    );
+    with_argument(of_guest(alloc, name, about)?, from)
+}
+
+/// A command with the flag that shows how far it is.
+pub(crate) fn with_progress<'a>(
+    alloc: Global,
+    command: Command<'a>,
+) -> Result<Command<'a>, AllocError>
+    ensures { (app : App) → IsCommand app command.entry → IfOk result (IsCommand (with_progress app)) }
+{
+    let progress = flag(alloc, "progress", "show how far it is, on standard error");
+    with_argument(command, progress)
+}
+
+/// A command that prints a state, with the memory that is named.
+pub(crate) fn with_memory<'a>(
+    alloc: Global,
+    command: Command<'a>,
+) -> Result<Command<'a>, AllocError>
+    ensures { (app : App) → IsCommand app command.entry → IfOk result (IsCommand (with_memory app)) }
+{
+    let memory = repeated(
+        alloc,
+        "memory",
+        "ADDR:LEN",
+        "print LEN bytes of memory from ADDR on, up to 65536",
+    );
+    with_progress(alloc, with_argument(command, memory)?)
 }

@@ -2,20 +2,19 @@
 
 ghost use Rattle.std.specs.Prelude.{◌≡◌, IfOk, true};
 ghost use Rattle.clap.specs.Words.{is_simple_and_free};
-ghost use Rattle.command_line.specs.Commands.{IsCommand, back_command, bare_program, last_command, program, record_numbers};
-ghost use Rattle.command_line.specs.Commands.{record_command, record_options, replay_command, showing_program, verify_command, writing_program};
+ghost use Rattle.command_line.specs.Commands.{IsCommand, back_command, bare_program, choices_command, core_command, last_command, program};
+ghost use Rattle.command_line.specs.Commands.{record_choices, record_command, record_inputs, record_numbers, replay_command};
+ghost use Rattle.command_line.specs.Commands.{replaying_program, showing_program, verify_command, writing_program};
 
 use crate::builder::{
-    flag, needed, of_guest, of_store, option, option_or, several, with_argument, with_command,
+    needed, of_guest, of_guest_from, of_store, option, option_or, repeated, several, with_argument,
+    with_command, with_memory, with_progress,
 };
 use clap::Command;
 use std::alloc::{AllocError, Global};
 
 /// The version of the program.
 const VERSION: &str = "0.1.0";
-
-/// What `--progress` does.
-const PROGRESS: &str = "show how far it is, on standard error";
 
 /// `record STORE ELF..` with its numbers alone.
 fn record_numbers<'a>(alloc: Global) -> Result<Command<'a>, AllocError>
@@ -40,9 +39,9 @@ fn record_numbers<'a>(alloc: Global) -> Result<Command<'a>, AllocError>
     with_argument(command, every)
 }
 
-/// And with its other options.
-fn record_options<'a>(alloc: Global) -> Result<Command<'a>, AllocError>
-    ensures { IfOk result (IsCommand record_options) }
+/// And with what the guests read.
+fn record_inputs<'a>(alloc: Global) -> Result<Command<'a>, AllocError>
+    ensures { IfOk result (IsCommand record_inputs) }
 {
     let command = record_numbers(alloc)?;
     let input = option(
@@ -53,15 +52,36 @@ fn record_options<'a>(alloc: Global) -> Result<Command<'a>, AllocError>
     );
     let command = with_argument(command, input)?;
     let seed = option(alloc, "seed", "HEX", "the seed of random bytes, 32 digits");
-    let command = with_argument(command, seed)?;
-    with_argument(command, flag(alloc, "progress", PROGRESS))
+    with_argument(command, seed)
+}
+
+/// And with the choices of their turns.
+fn record_choices<'a>(alloc: Global) -> Result<Command<'a>, AllocError>
+    ensures { IfOk result (IsCommand record_choices) }
+{
+    let command = record_inputs(alloc)?;
+    let choices = repeated(
+        alloc,
+        "choices",
+        "FILE",
+        "the choices of the turns, once or once for each ELF",
+    );
+    let command = with_argument(command, choices)?;
+    let then = option_or(
+        alloc,
+        "then",
+        "THEN",
+        "turns",
+        "what follows the choices: turns or none",
+    );
+    with_argument(command, then)
 }
 
 /// `record STORE ELF..`.
 fn record<'a>(alloc: Global) -> Result<Command<'a>, AllocError>
     ensures { IfOk result (IsCommand record_command) }
 {
-    let command = record_options(alloc)?;
+    let command = with_progress(alloc, record_choices(alloc)?)?;
     let files = several(alloc, "ELF", 16, "static RISC-V programs (ELF32, RV32IMA)");
     with_argument(command, files)
 }
@@ -71,7 +91,7 @@ fn verify<'a>(alloc: Global) -> Result<Command<'a>, AllocError>
     ensures { IfOk result (IsCommand verify_command) }
 {
     let command = of_guest(alloc, "verify", "replays a guest's records and compares")?;
-    with_argument(command, flag(alloc, "progress", PROGRESS))
+    with_progress(alloc, command)
 }
 
 /// `replay STORE GUEST`.
@@ -83,40 +103,62 @@ fn replay<'a>(alloc: Global) -> Result<Command<'a>, AllocError>
         alloc,
         "at",
         "T",
-        "print the state behind T instructions instead",
+        "print the state behind T instructions, or at the end, instead",
     );
-    let command = with_argument(command, at)?;
-    with_argument(command, flag(alloc, "progress", PROGRESS))
+    with_memory(alloc, with_argument(command, at)?)
 }
 
 /// `back STORE GUEST FROM N`.
 fn back<'a>(alloc: Global) -> Result<Command<'a>, AllocError>
     ensures { IfOk result (IsCommand back_command) }
 {
-    let command = of_guest(alloc, "back", "prints the state so many instructions back")?;
-    let from = needed(alloc, "FROM", "the place to go back from, in instructions");
-    let command = with_argument(command, from)?;
+    let command = of_guest_from(alloc, "back", "prints the state so many instructions back")?;
     let count = needed(alloc, "N", "how many instructions to go back");
-    with_argument(command, count)
+    with_memory(alloc, with_argument(command, count)?)
 }
 
 /// `last STORE GUEST FROM ADDR`.
 fn last<'a>(alloc: Global) -> Result<Command<'a>, AllocError>
     ensures { IfOk result (IsCommand last_command) }
 {
-    let command = of_guest(
+    let command = of_guest_from(
         alloc,
         "last",
         "prints the state before a byte's last change",
     )?;
-    let from = needed(alloc, "FROM", "the place to go back from, in instructions");
-    let command = with_argument(command, from)?;
     let address = needed(
         alloc,
         "ADDR",
         "the byte's address, 1 to 8 hexadecimal digits",
     );
-    with_argument(command, address)
+    with_memory(alloc, with_argument(command, address)?)
+}
+
+/// `choices STORE GUEST`.
+fn choices<'a>(alloc: Global) -> Result<Command<'a>, AllocError>
+    ensures { IfOk result (IsCommand choices_command) }
+{
+    let command = of_guest(alloc, "choices", "prints the choices of a guest's turns")?;
+    with_progress(alloc, command)
+}
+
+/// `core STORE GUEST AT FILE`.
+fn core<'a>(alloc: Global) -> Result<Command<'a>, AllocError>
+    ensures { IfOk result (IsCommand core_command) }
+{
+    let command = of_guest(
+        alloc,
+        "core",
+        "writes an ELF core file of the state at a place",
+    )?;
+    let at = needed(
+        alloc,
+        "AT",
+        "the place of the state, in instructions, or end",
+    );
+    let command = with_argument(command, at)?;
+    let file = needed(alloc, "FILE", "the core file to write");
+    with_progress(alloc, with_argument(command, file)?)
 }
 
 /// The program without its commands.
@@ -154,12 +196,20 @@ fn showing_program<'a>(alloc: Global) -> Result<Command<'a>, AllocError>
     with_command(command, verify(alloc)?)
 }
 
+/// And with those that show what it replays.
+fn replaying_program<'a>(alloc: Global) -> Result<Command<'a>, AllocError>
+    ensures { IfOk result (IsCommand replaying_program) }
+{
+    let command = with_command(showing_program(alloc)?, replay(alloc)?)?;
+    let command = with_command(command, back(alloc)?)?;
+    with_command(command, last(alloc)?)
+}
+
 /// The program with its commands, which the parser reads words by.
 pub fn program<'a>(alloc: Global) -> Result<Command<'a>, AllocError>
     ensures commands { IfOk result (IsCommand program) }
     ensures exact { is_simple_and_free program ≡ true }
 {
-    let command = with_command(showing_program(alloc)?, replay(alloc)?)?;
-    let command = with_command(command, back(alloc)?)?;
-    with_command(command, last(alloc)?)
+    let command = with_command(replaying_program(alloc)?, choices(alloc)?)?;
+    with_command(command, core(alloc)?)
 }

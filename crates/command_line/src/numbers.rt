@@ -1,7 +1,10 @@
 //! The numbers of a line.
 
 ghost use Rattle.std.specs.Prelude.{◌≡◌, ℕ, IfSome, None};
-ghost use Rattle.command_line.specs.Request.{IsAddress, IsNumberIn};
+ghost use Rattle.command_line.specs.Request.{IsAddress, IsNumberIn, IsPlace, without_0x};
+ghost use Rattle.command_line.specs.declared.request.Place.{Place};
+
+use crate::request::Place;
 
 /// The number that decimal digits write, with a plus before them or none; None where they write none within the bounds.
 pub(crate) fn number_in(text: &str, least: u64, most: u64) -> Option<u64>
@@ -14,16 +17,41 @@ pub(crate) fn number_in(text: &str, least: u64, most: u64) -> Option<u64>
     }
 }
 
-/// The number that 1 to 8 hexadecimal digits write; None where a text is no such.
+/// A text without a `0x` at its front.
+fn without_0x(text: &str) -> &str
+    ensures { result.now ≡ without_0x text.now }
+{
+    match text.strip_prefix("0x") {
+        Some(digits) => digits,
+        None => text,
+    }
+}
+
+/// The number that 1 to 8 hexadecimal digits write, with `0x` before them or not; None where a text is no such.
 pub(crate) fn address_in(text: &str) -> Option<u32>
     ensures some { IfSome result (IsAddress text.now) }
     ensures none { result ≡ None → (n : ℕ) → IsAddress text.now n → ⊥ }
 {
-    if text.len() > 8 || text.starts_with('+') {
+    let digits = without_0x(text);
+    if digits.len() > 8 || digits.starts_with('+') {
         return None;
     }
-    match u32::from_str_radix(text, 16) {
+    match u32::from_str_radix(digits, 16) {
         Ok(address) => Some(address),
         Err(_) => None,
+    }
+}
+
+/// The place that decimal digits or `end` write; None where a text is no such.
+pub(crate) fn place_in(text: &str) -> Option<Place>
+    ensures some { IfSome result (IsPlace text.now) }
+    ensures none { result ≡ None → (place : Place) → IsPlace text.now place → ⊥ }
+{
+    if text == "end" {
+        return Some(Place::End);
+    }
+    match number_in(text, 0, u64::MAX) {
+        Some(number) => Some(Place::At(number)),
+        None => None,
     }
 }

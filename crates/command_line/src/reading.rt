@@ -1,15 +1,17 @@
 //! What a command asks for, by the values that the parser found.
 
-ghost use Rattle.std.specs.Prelude.{◌≡◌, ◌≤◌, IfErr, IfOk, List, Some, codes, map, ℕ};
+ghost use Rattle.std.specs.Prelude.{◌≡◌, ◌≤◌, IfErr, IfOk, List, Some, codes, length, map, ℕ};
 ghost use Rattle.clap.specs.Words.{Text, all_of, found_of, rows_of};
 ghost use Rattle.command_line.specs.Commands.{IsCommandName};
-ghost use Rattle.command_line.specs.Request.{Asks, HasNumberIn, NamesRecording};
+ghost use Rattle.command_line.specs.Request.{Asks, HasNumberIn, IsChoicesCount, NamesRecording, texts_of};
 ghost use Rattle.command_line.specs.Unread.{OnBad};
 
+use crate::memory::{memory, memory_at};
 use crate::request::{Recording, Request};
 use crate::unread::Unread;
 use crate::values::{
-    address, flag, guest, number, number_or_none, several_or_none, text, text_or_none,
+    address, flag, guest, number, place, place_or_none, several_or_none, text, text_or_none, texts,
+    then,
 };
 use clap::ArgMatches;
 use std::alloc::Global;
@@ -43,19 +45,47 @@ fn files<'a>(alloc: Global, values: &ArgMatches<'a>) -> Result<Vec<&'a str>, Unr
     }
 }
 
+/// The files of choices, for so many programs.
+fn choices<'a>(
+    alloc: Global,
+    values: &ArgMatches<'a>,
+    programs: usize,
+) -> Result<Vec<&'a str>, Unread<'a>>
+    ensures found { IfOk result (λ choices.
+        texts_of (codes "choices") (rows_of (found_of values.now)) ≡ map (λ s. s.now) choices.items) }
+    ensures enough { IfOk result (λ choices. IsChoicesCount (length choices.items) programs) }
+    ensures none { IfErr result (λ e. OnBad e
+        (IsChoicesCount (length (texts_of (codes "choices") (rows_of (found_of values.now)))) programs → ⊥)) }
+{
+    let files = texts(values, "choices");
+    let count = files.len();
+    if count > 1 && count != programs {
+        return Err(Unread::BadChoices { count, programs });
+    }
+    Ok(Vec::from_slice(alloc, files)?)
+}
+
 /// What `record` is to record.
 fn recording<'a>(alloc: Global, values: &ArgMatches<'a>) -> Result<Recording<'a>, Unread<'a>>
     ensures found { IfOk result (NamesRecording (rows_of (found_of values.now))) }
     ensures none { IfErr result (λ e. OnBad e
         ((r : Recording) → NamesRecording (rows_of (found_of values.now)) r → ⊥)) }
 {
+    let store = text(values, "STORE")?;
+    let quantum = number_of_32_bits(values, "quantum", 64, 1_048_576)?;
+    let every = number_of_32_bits(values, "every", 0, 4_294_967_295)?;
+    let then = then(values)?;
+    let files = files(alloc, values)?;
+    let choices = choices(alloc, values, files.len())?;
     Ok(Recording {
-        store: text(values, "STORE")?,
-        quantum: number_of_32_bits(values, "quantum", 64, 1_048_576)?,
-        every: number_of_32_bits(values, "every", 0, 4_294_967_295)?,
-        files: files(alloc, values)?,
+        store,
+        files,
+        quantum,
+        every,
         input: text_or_none(values, "input"),
         seed: text_or_none(values, "seed"),
+        choices,
+        then,
         progress: flag(values, "progress"),
     })
 }
@@ -112,46 +142,89 @@ fn verify<'a>(values: &ArgMatches<'a>) -> Result<Request<'a>, Unread<'a>>
 }
 
 /// `replay STORE GUEST`.
-fn replay<'a>(values: &ArgMatches<'a>) -> Result<Request<'a>, Unread<'a>>
+fn replay<'a>(alloc: Global, values: &ArgMatches<'a>) -> Result<Request<'a>, Unread<'a>>
     ensures asked { IfOk result (λ r. Asks r (codes "replay", rows_of (found_of values.now))) }
     ensures none { IfErr result (λ e. OnBad e
         ((r : Request) → Asks r (codes "replay", rows_of (found_of values.now)) → ⊥)) }
 {
     let guest = guest(values)?;
-    let at = number_or_none(values, "at")?;
+    let at = place_or_none(values, "at")?;
+    let memory = memory_at(alloc, values, at)?;
     let progress = flag(values, "progress");
     Ok(Request::Replay {
         guest,
         at,
+        memory,
         progress,
     })
 }
 
 /// `back STORE GUEST FROM N`.
-fn back<'a>(values: &ArgMatches<'a>) -> Result<Request<'a>, Unread<'a>>
+fn back<'a>(alloc: Global, values: &ArgMatches<'a>) -> Result<Request<'a>, Unread<'a>>
     ensures asked { IfOk result (λ r. Asks r (codes "back", rows_of (found_of values.now))) }
     ensures none { IfErr result (λ e. OnBad e
         ((r : Request) → Asks r (codes "back", rows_of (found_of values.now)) → ⊥)) }
 {
     let guest = guest(values)?;
-    let from = number(values, "FROM", 0, u64::MAX)?;
+    let from = place(values, "FROM")?;
     let count = number(values, "N", 0, u64::MAX)?;
-    Ok(Request::Back { guest, from, count })
+    let memory = memory(alloc, values)?;
+    let progress = flag(values, "progress");
+    Ok(Request::Back {
+        guest,
+        from,
+        count,
+        memory,
+        progress,
+    })
 }
 
 /// `last STORE GUEST FROM ADDR`.
-fn last<'a>(values: &ArgMatches<'a>) -> Result<Request<'a>, Unread<'a>>
+fn last<'a>(alloc: Global, values: &ArgMatches<'a>) -> Result<Request<'a>, Unread<'a>>
     ensures asked { IfOk result (λ r. Asks r (codes "last", rows_of (found_of values.now))) }
     ensures none { IfErr result (λ e. OnBad e
         ((r : Request) → Asks r (codes "last", rows_of (found_of values.now)) → ⊥)) }
 {
     let guest = guest(values)?;
-    let from = number(values, "FROM", 0, u64::MAX)?;
+    let from = place(values, "FROM")?;
     let address = address(values, "ADDR")?;
+    let memory = memory(alloc, values)?;
+    let progress = flag(values, "progress");
     Ok(Request::Last {
         guest,
         from,
         address,
+        memory,
+        progress,
+    })
+}
+
+/// `choices STORE GUEST`.
+fn shown_choices<'a>(values: &ArgMatches<'a>) -> Result<Request<'a>, Unread<'a>>
+    ensures asked { IfOk result (λ r. Asks r (codes "choices", rows_of (found_of values.now))) }
+    ensures none { IfErr result (λ e. OnBad e
+        ((r : Request) → Asks r (codes "choices", rows_of (found_of values.now)) → ⊥)) }
+{
+    let guest = guest(values)?;
+    let progress = flag(values, "progress");
+    Ok(Request::Choices { guest, progress })
+}
+
+/// `core STORE GUEST AT FILE`.
+fn core_file<'a>(values: &ArgMatches<'a>) -> Result<Request<'a>, Unread<'a>>
+    ensures asked { IfOk result (λ r. Asks r (codes "core", rows_of (found_of values.now))) }
+    ensures none { IfErr result (λ e. OnBad e
+        ((r : Request) → Asks r (codes "core", rows_of (found_of values.now)) → ⊥)) }
+{
+    let guest = guest(values)?;
+    let at = place(values, "AT")?;
+    let file = text(values, "FILE")?;
+    let progress = flag(values, "progress");
+    Ok(Request::Core {
+        guest,
+        at,
+        file,
+        progress,
     })
 }
 
@@ -172,9 +245,11 @@ pub(crate) fn request_of<'a>(
         "list" => list(values),
         "dump" => dump(values),
         "verify" => verify(values),
-        "replay" => replay(values),
-        "back" => back(values),
-        "last" => last(values),
+        "replay" => replay(alloc, values),
+        "back" => back(alloc, values),
+        "last" => last(alloc, values),
+        "choices" => shown_choices(values),
+        "core" => core_file(values),
         _ => unreachable!(),
     }
 }

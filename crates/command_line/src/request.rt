@@ -26,24 +26,70 @@ pub enum Request<'a> {
         guest: GuestOf<'a>,
         progress: bool,
     },
-    /// `replay STORE GUEST`: puts the guest's output out again, or prints the state behind `at` instructions.
+    /// `replay STORE GUEST`: puts the guest's output out again, or prints the state at a place, with the bytes of `memory`.
     Replay {
         guest: GuestOf<'a>,
-        at: Option<u64>,
+        at: Option<Place>,
+        /// None of them where no place is given.
+        memory: Vec<MemoryRange>,
         progress: bool,
     },
-    /// `back STORE GUEST FROM N`: prints the state `count` instructions before `from`.
+    /// `back STORE GUEST FROM N`: prints the state `count` instructions before `from`, with the bytes of `memory`.
     Back {
         guest: GuestOf<'a>,
-        from: u64,
+        from: Place,
         count: u64,
+        memory: Vec<MemoryRange>,
+        progress: bool,
     },
-    /// `last STORE GUEST FROM ADDR`: prints the state before the last change, below `from`, of the byte at `address`.
+    /// `last STORE GUEST FROM ADDR`: prints the state before the last change, below `from`, of the byte at `address`, with the
+    /// bytes of `memory`.
     Last {
         guest: GuestOf<'a>,
-        from: u64,
+        from: Place,
         address: u32,
+        memory: Vec<MemoryRange>,
+        progress: bool,
     },
+    /// `choices STORE GUEST`: prints the choices of a guest's turns.
+    Choices {
+        guest: GuestOf<'a>,
+        progress: bool,
+    },
+    /// `core STORE GUEST AT FILE`: writes an ELF core file of the state at a place.
+    Core {
+        guest: GuestOf<'a>,
+        at: Place,
+        file: &'a str,
+        progress: bool,
+    },
+}
+
+/// A place in a recording.
+#[derive(Clone, Copy, Debug, PartialEq, Eq)]
+pub enum Place {
+    /// Behind so many instructions.
+    At(u64),
+    /// Behind the last instruction.
+    End,
+}
+
+/// Bytes of a guest's memory.
+#[derive(Clone, Copy, Debug, PartialEq, Eq)]
+pub struct MemoryRange {
+    /// The first byte's address.
+    pub address: u32,
+    /// How many bytes, 1 to 65,536.
+    pub length: u32,
+}
+
+/// What a recording does behind the last of its choices.
+#[derive(Clone, Copy, Debug, PartialEq, Eq)]
+pub enum Then {
+    /// The threads take turns.
+    Turns,
+    /// Nothing: it ends.
+    Nothing,
 }
 
 /// A guest of a store.
@@ -67,5 +113,8 @@ pub struct Recording<'a> {
     pub input: Option<&'a str>,
     /// The seed of random bytes, as it was given.
     pub seed: Option<&'a str>,
+    /// The files of choices: none, one for all programs, or one for each.
+    pub choices: Vec<&'a str>,
+    pub then: Then,
     pub progress: bool,
 }

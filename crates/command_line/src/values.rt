@@ -2,11 +2,14 @@
 
 ghost use Rattle.std.specs.Prelude.{◌≡◌, ℕ, IfErr, IfOk, Option, map, option_map};
 ghost use Rattle.clap.specs.Words.{Text, all_of, found_of, rows_of};
-ghost use Rattle.command_line.specs.Request.{HasAddress, HasFlag, HasNumberIn, HasNumberOrNone, HasOption, HasText, NamesGuest};
+ghost use Rattle.command_line.specs.Request.{HasAddress, HasFlag, HasNumberIn, HasOption, HasPlace, HasPlaceOrNone, HasText, HasThen};
+ghost use Rattle.command_line.specs.Request.{NamesGuest, texts_of};
 ghost use Rattle.command_line.specs.Unread.{OnBad};
+ghost use Rattle.command_line.specs.declared.request.Place.{Place};
+ghost use Rattle.command_line.specs.declared.request.Then.{Then};
 
-use crate::numbers::{address_in, number_in};
-use crate::request::GuestOf;
+use crate::numbers::{address_in, number_in, place_in};
+use crate::request::{GuestOf, Place, Then};
 use crate::unread::Unread;
 use clap::ArgMatches;
 
@@ -25,6 +28,13 @@ pub(crate) fn several_or_none<'m, 'a>(
     ensures { all_of name.now (rows_of (found_of values.now)) ≡ option_map (λ s. map (λ t. t.now) s.now) result }
 {
     values.get_strs(name)
+}
+
+/// The texts of an option that may be given several times, in the order of the line.
+pub(crate) fn texts<'m, 'a>(values: &'m ArgMatches<'a>, name: &str) -> &'m [&'a str]
+    ensures { map (λ t. t.now) result.now ≡ texts_of name.now (rows_of (found_of values.now)) }
+{
+    several_or_none(values, name).unwrap_or_default()
 }
 
 /// The text of an argument that has to be there.
@@ -62,19 +72,32 @@ pub(crate) fn number<'a>(
     }
 }
 
-/// The number of an option, where it is there.
-pub(crate) fn number_or_none<'a>(
+/// The place of an argument that has to be there.
+pub(crate) fn place<'a>(values: &ArgMatches<'a>, name: &'a str) -> Result<Place, Unread<'a>>
+    ensures found { IfOk result (HasPlace (rows_of (found_of values.now)) name.now) }
+    ensures none { IfErr result (λ e. OnBad e
+        ((place : Place) → HasPlace (rows_of (found_of values.now)) name.now place → ⊥)) }
+{
+    let text = text(values, name)?;
+    match place_in(text) {
+        Some(place) => Ok(place),
+        None => Err(Unread::BadPlace { name, text }),
+    }
+}
+
+/// The place of an option, where it is there.
+pub(crate) fn place_or_none<'a>(
     values: &ArgMatches<'a>,
     name: &'a str,
-) -> Result<Option<u64>, Unread<'a>>
-    ensures found { IfOk result (HasNumberOrNone (rows_of (found_of values.now)) name.now) }
+) -> Result<Option<Place>, Unread<'a>>
+    ensures found { IfOk result (HasPlaceOrNone (rows_of (found_of values.now)) name.now) }
     ensures none { IfErr result (λ e. OnBad e
-        ((n : Option ℕ) → HasNumberOrNone (rows_of (found_of values.now)) name.now n → ⊥)) }
+        ((place : Option Place) → HasPlaceOrNone (rows_of (found_of values.now)) name.now place → ⊥)) }
 {
     if text_or_none(values, name).is_none() {
         return Ok(None);
     }
-    Ok(Some(number(values, name, 0, u64::MAX)?))
+    Ok(Some(place(values, name)?))
 }
 
 /// The address of an argument that has to be there.
@@ -87,6 +110,20 @@ pub(crate) fn address<'a>(values: &ArgMatches<'a>, name: &'a str) -> Result<u32,
     match address_in(text) {
         Some(address) => Ok(address),
         None => Err(Unread::BadAddress { name, text }),
+    }
+}
+
+/// What follows the last of the choices.
+pub(crate) fn then<'a>(values: &ArgMatches<'a>) -> Result<Then, Unread<'a>>
+    ensures found { IfOk result (HasThen (rows_of (found_of values.now))) }
+    ensures none { IfErr result (λ e. OnBad e
+        ((after : Then) → HasThen (rows_of (found_of values.now)) after → ⊥)) }
+{
+    let text = text(values, "then")?;
+    match text {
+        "turns" => Ok(Then::Turns),
+        "none" => Ok(Then::Nothing),
+        _ => Err(Unread::BadThen { text }),
     }
 }
 

@@ -1,10 +1,10 @@
 use Rattle.std.proofs.Common.{codes}
 use Rattle.clap.specs.Words.{with_rule}
-use Rattle.command_line.specs.Commands.{needed, of_guest}
+use Rattle.command_line.specs.Commands.{needed, of_guest_from}
 use Rattle.command_line.proofs.commands.last.Goals as goal
 
 pub returns : goal.returns
 returns c =
-    let before2 = c.in_ok-command-2.ensures (of_guest (codes "last")) (needed (codes "FROM")) c.in_ok-command.ensures c.needed-from.ensures.rule in
-    let app2 = with_rule (of_guest (codes "last")) (needed (codes "FROM")) in
-    c.with_argument-2.ensures app2 (needed (codes "ADDR")) before2 c.needed-address.ensures.rule
+    let base = of_guest_from (codes "last") in
+    let rule = needed (codes "ADDR") in
+    c.with_memory.ensures (with_rule base rule) (c.in_ok-with_argument.ensures base rule c.in_ok-command.ensures c.needed-address.ensures.rule)

@@ -1,7 +1,8 @@
 use Rattle.std.proofs.Common.{codes}
-use Rattle.command_line.specs.Commands.{record_options, several}
+use Rattle.command_line.specs.Commands.{record_choices, several, with_progress}
 use Rattle.command_line.proofs.commands.record.Goals as goal
 
 pub returns : goal.returns
 returns c =
-    c.with_argument.ensures record_options (several 1 16 (codes "ELF")) c.in_ok-command.ensures c.several-files.ensures.rule
+    let before = c.in_ok-command.ensures record_choices c.in_ok-record_choices.ensures in
+    c.with_argument.ensures (with_progress record_choices) (several 1 16 (codes "ELF")) before c.several-files.ensures.rule

@@ -1,7 +1,6 @@
 use Rattle.std.proofs.Common.{codes}
-use Rattle.command_line.specs.Commands.{flag, of_guest}
+use Rattle.command_line.specs.Commands.{of_guest}
 use Rattle.command_line.proofs.commands.verify.Goals as goal
 
 pub returns : goal.returns
-returns c =
-    c.with_argument.ensures (of_guest (codes "verify")) (flag (codes "progress")) c.in_ok-command.ensures c.flag.ensures.rule
+returns c = c.with_progress.ensures (of_guest (codes "verify")) c.in_ok-command.ensures

@@ -4,6 +4,7 @@ use Rattle.std.specs.Char.{digit_value}
 use Rattle.std.specs.Str.Parse.{AllDigits, IsNumeral, digits_value, without_leading_plus}
 use Rattle.std.proofs.lemmas.Bool.{ne_eqb}
 use Rattle.std.proofs.lemmas.Int.Digits.{digits_value-lt}
+use Rattle.command_line.specs.Request.{without_0x}
 use Rattle.command_line.proofs.numbers.address_in.Goals as goal
 
 no_plus : (text : List ℕ) → slice_index text 0 ≢ 43 → without_leading_plus text ≡ text
@@ -27,6 +28,9 @@ within text digits few = let below = digits_value-lt 16 text digits in let most 
 
 pub returns-in-Err-clause-none : goal.returns-in-Err-clause-none
 returns-in-Err-clause-none c = λ none n is.
-    let text = c.args.text.now in
-    let same : text ≡ without_leading_plus text = sym (no_plus text (digit_no_plus text is.numeral)) in
-    c.in-Err.ensures.value (subst (IsNumeral 16) same is.numeral, subst (λ t. digits_value 16 t < 2 ^ 32) same (within text is.numeral.1 is.few))
+    let digits = without_0x c.args.text.now in
+    let numeral : IsNumeral 16 digits = is.numeral in
+    let same : digits ≡ without_leading_plus digits = sym (no_plus digits (digit_no_plus digits numeral)) in
+    let fits : IsNumeral 16 (without_leading_plus digits) × (digits_value 16 (without_leading_plus digits) < 2 ^ 32)
+    = (subst (IsNumeral 16) same numeral, subst (λ t. digits_value 16 t < 2 ^ 32) same (within digits numeral.1 is.few)) in
+    c.in-Err.ensures.value (rw c.without_0x-digits.ensures fits)

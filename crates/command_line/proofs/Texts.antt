@@ -1,0 +1,37 @@
+-- Texts that are read one by one.
+use Rattle.std.proofs.Common.{◌≡◌, ◌<◌, ◌+◌, ◌∙◌, ℕ, zero, suc, List, [], ◌∷◌, ◌++◌, Some, length, map, take, get_or, arith, refl, ap, sym, subst}
+use Rattle.std.specs.List.{AllZip}
+use Rattle.std.proofs.lemmas.List.{length-map}
+use Rattle.std.proofs.lemmas.Option.{same_Some}
+
+module _ {A B C : Type 0} (v : C → A) (R : A → B → Type 0) where
+  -- the next text, with what it stands for
+  one_more : (cs : List C) (bs : List B) (i : ℕ) (d : C) (b : B) → i < length cs → AllZip R (map v (take i cs)) bs → R (v (get_or cs i d)) b
+      → AllZip R (map v (take (suc i) cs)) (bs ++ b ∷ [])
+  one_more [] bs i d b within h r = absurd (omega (arith, within))
+  one_more (c ∷ cs) [] zero d b within h r = (r, tt)
+  one_more (c ∷ cs) (x ∷ bs) zero d b within h r = absurd h
+  one_more (c ∷ cs) [] (suc i) d b within h r = absurd h
+  one_more (c ∷ cs) (x ∷ bs) (suc i) d b within h r = (h.0, one_more cs bs i d b (omega (arith, within)) h.1 r)
+
+  pub next : (cs : List C) (bs : List B) (i : ℕ) (d : C) (b : B) → i < length cs → AllZip R (map v (take i cs)) bs → R (v (get_or cs i d)) b
+      → AllZip R (map v (take (i + 1) cs)) (bs ++ b ∷ [])
+  next cs bs i d b within h r =
+      let follows : suc i ≡ i + 1 = omega arith in
+      subst (λ n. AllZip R (map v (take n cs)) (bs ++ b ∷ [])) follows (one_more cs bs i d b within h r)
+
+  -- what one of the texts stands for, where all stand for something
+  pub one_of_all : (cs : List C) (bs : List B) (i : ℕ) (d : C) → i < length cs → AllZip R (map v cs) bs → (b : B) × R (v (get_or cs i d)) b
+  one_of_all [] bs i d within h = absurd (omega (arith, within))
+  one_of_all (c ∷ cs) [] i d within h = absurd h
+  one_of_all (c ∷ cs) (b ∷ bs) zero d within h = (b, h.0)
+  one_of_all (c ∷ cs) (b ∷ bs) (suc i) d within h = one_of_all cs bs i d (omega (arith, within)) h.1
+
+-- no texts, where they stand for nothing
+pub none_of_none : {A B : Type 0} (R : A → B → Type 0) (xs : List A) → AllZip R xs [] → xs ≡ []
+none_of_none R [] h = refl
+none_of_none R (x ∷ xs) h = absurd h
+
+-- as many texts, where they read alike
+pub same_length : {A C : Type 0} (v : C → A) (xs ys : List C) → Some (map v xs) ≡ Some (map v ys) → length xs ≡ length ys
+same_length v xs ys same = sym (length-map xs v) ∙ ap length (same_Some (map v xs) (map v ys) same) ∙ length-map ys v
