@@ -4,3 +4,6 @@ pub mod Statuses
 pub mod Texts
 pub mod Summaries
 pub mod JobLists
+pub mod Cores
+pub mod MisfitLists
+pub mod ChoiceLists

@@ -4,6 +4,7 @@ use Rattle.std.specs.Prelude.{OnOk, Result, Ok, Err, codes, flat_map, slice_get,
 use Rattle.std.specs.Io.KnownBytes.{Appends}
 use Rattle.std.proofs.lemmas.Grind.{flat_map-append}
 use Rattle.std.proofs.lemmas.List.{append-nil, append_assoc}
+use Rattle.command_line.specs.declared.request.MemoryRange.{MemoryRange}
 use Rattle.rrv_model.specs.declared.machine.GuestEnd.{GuestEnd}
 use Rattle.rrv_model.specs.declared.record.Frame.{Frame}
 use Rattle.rrv_model.specs.declared.record.Opening.{Opening}
@@ -13,7 +14,7 @@ use Rattle.reverse_step.specs.Changes.{IsLastChange}
 use Rattle.session.specs.declared.report.GuestReport.{GuestReport}
 use Rattle.trace_text.specs.Lines.{report_line, verify_line}
 use Rattle.trace_text.specs.States.{state_lines}
-use Rattle.commands.specs.Printed.{IsFoundText, IsStateText, name_at, report_lines, with_newline}
+use Rattle.commands.specs.Printed.{IsFoundText, IsStateText, name_at, ranges_lines, report_lines, with_newline}
 
 -- nothing was printed
 pub appends_none : (known : Option (List ℕ)) → Appends known known []
@@ -54,25 +55,29 @@ end_printed (Ok x) len records total steps last end a b records_are steps_are en
     subst (λ t. Appends a b (with_newline t)) (ap (λ n. verify_line n steps end) records_are ∙ ap (λ n. verify_line len n end) steps_are ∙ ap (verify_line len total) end_is) printed
 end_printed (Err e) len records total steps last end a b records_are steps_are end_is printed = tt
 
-pub state_printed : {T E : Type 0} (r : Result T E) (o : Opening) (frames : List Frame) (s : State) (place at steps : ℕ) (a b : Option (List ℕ))
-    → StateAt o frames place s → at ≡ place → steps ≡ total frames → OnOk r (Appends a b (state_lines at steps s))
-    → OnOk r ((text : List ℕ) × IsStateText o frames place text × Appends a b text)
-state_printed (Ok x) o frames s place at steps a b is_at at_is steps_are printed =
-    (state_lines at steps s, record { state = s; is_at = is_at; text_is = ap (λ n. state_lines n steps s) at_is ∙ ap (λ n. state_lines place n s) steps_are }, printed)
-state_printed (Err e) o frames s place at steps a b is_at at_is steps_are printed = tt
+pub state_printed : {T E : Type 0} (r : Result T E) (o : Opening) (frames : List Frame) (ranges : List MemoryRange) (s : State) (place at steps : ℕ) (a b c : Option (List ℕ))
+    → StateAt o frames place s → at ≡ place → steps ≡ total frames → Appends a b (state_lines at steps s) → OnOk r (Appends b c (ranges_lines s.memory ranges))
+    → OnOk r ((text : List ℕ) × IsStateText o frames ranges place text × Appends a c text)
+state_printed (Ok x) o frames ranges s place at steps a b c is_at at_is steps_are first then =
+    let bytes = ranges_lines s.memory ranges in (
+      state_lines at steps s ++ bytes,
+      record { state = s; is_at = is_at; text_is = ap (λ n. state_lines n steps s ++ bytes) at_is ∙ ap (λ n. state_lines place n s ++ bytes) steps_are },
+      appends_on a b c _ _ _ first then refl,
+    )
+state_printed (Err e) o frames ranges s place at steps a b c is_at at_is steps_are first then = tt
 
-pub change_printed : {T E : Type 0} (r : Result T E) (o : Opening) (frames : List Frame) (address from t place : ℕ) (a b : Option (List ℕ))
-    → IsLastChange o frames address from (Some t) → place ≡ t → OnOk r ((text : List ℕ) × IsStateText o frames place text × Appends a b text)
-    → OnOk r ((found : Option ℕ) × (text : List ℕ) × IsLastChange o frames address from found × IsFoundText o frames found text × Appends a b text)
-change_printed (Ok x) o frames address from t place a b change at printed =
-    (Some t, printed.0, change, subst (λ n. IsStateText o frames n printed.0) at printed.1, printed.2)
-change_printed (Err e) o frames address from t place a b change at printed = tt
+pub change_printed : {T E : Type 0} (r : Result T E) (o : Opening) (frames : List Frame) (ranges : List MemoryRange) (address from t place : ℕ) (a b : Option (List ℕ))
+    → IsLastChange o frames address from (Some t) → place ≡ t → OnOk r ((text : List ℕ) × IsStateText o frames ranges place text × Appends a b text)
+    → OnOk r ((found : Option ℕ) × (text : List ℕ) × IsLastChange o frames address from found × IsFoundText o frames ranges found text × Appends a b text)
+change_printed (Ok x) o frames ranges address from t place a b change at printed =
+    (Some t, printed.0, change, subst (λ n. IsStateText o frames ranges n printed.0) at printed.1, printed.2)
+change_printed (Err e) o frames ranges address from t place a b change at printed = tt
 
-pub unchanged_printed : {T E : Type 0} (r : Result T E) (o : Opening) (frames : List Frame) (address from : ℕ) (a b : Option (List ℕ))
+pub unchanged_printed : {T E : Type 0} (r : Result T E) (o : Opening) (frames : List Frame) (ranges : List MemoryRange) (address from : ℕ) (a b : Option (List ℕ))
     → IsLastChange o frames address from None → OnOk r (Appends a b (with_newline (codes "unchanged")))
-    → OnOk r ((found : Option ℕ) × (text : List ℕ) × IsLastChange o frames address from found × IsFoundText o frames found text × Appends a b text)
-unchanged_printed (Ok x) o frames address from a b change printed = (None, with_newline (codes "unchanged"), change, refl, printed)
-unchanged_printed (Err e) o frames address from a b change printed = tt
+    → OnOk r ((found : Option ℕ) × (text : List ℕ) × IsLastChange o frames address from found × IsFoundText o frames ranges found text × Appends a b text)
+unchanged_printed (Ok x) o frames ranges address from a b change printed = (None, with_newline (codes "unchanged"), change, refl, printed)
+unchanged_printed (Err e) o frames ranges address from a b change printed = tt
 
 -- ---- reports
 

@@ -5,3 +5,5 @@ pub mod Status
 pub mod Stores
 pub mod Printed
 pub mod Jobs
+pub mod Cores
+pub mod Misfits

@@ -2,17 +2,22 @@
 use Rattle.std.specs.Prelude.{◌≡◌, ◌↔◌, ℕ, ◌+◌, ◌≤◌, List, [], ◌∷◌, ◌++◌, Option, Some, None, length, flat_map, codes, Contains}
 use Rattle.std.specs.Fmt.{decimal}
 use Rattle.std.specs.List.Sorted.{IsStrictlyIncreasing}
+use Rattle.command_line.specs.declared.request.MemoryRange.{MemoryRange}
+use Rattle.command_line.specs.declared.request.Place.{Place}
+use Rattle.command_line.specs.declared.request.Place.TheVariants as places
 use Rattle.rrv_model.specs.declared.record.Frame.{Frame}
 use Rattle.rrv_model.specs.declared.record.Item.{Item}
 use Rattle.rrv_model.specs.declared.record.Item.TheVariants as items
 use Rattle.rrv_model.specs.declared.record.Opening.{Opening}
 use Rattle.rrv_model.specs.declared.record.Record.{Record}
+use Rattle.rrv_model.specs.Memory.{Memory}
 use Rattle.rrv_model.specs.Recording.{frames_of, items_of}
 use Rattle.rrv_model.specs.Recovered.{of_guest}
 use Rattle.rrv_model.specs.State.{State}
 use Rattle.rrv_model.specs.StateAt.{StateAt, total}
 use Rattle.session.specs.declared.report.GuestReport.{GuestReport}
 use Rattle.trace_text.specs.Lines.{list_line, record_line, report_line}
+use Rattle.trace_text.specs.MemoryText.{memory_lines}
 use Rattle.trace_text.specs.States.{state_lines}
 
 -- a text, and a newline
@@ -62,16 +67,26 @@ pub record IsList (records : List Record) (text : List ℕ) : Type 0 where
 abbrev pub dump_lines : List Record → List ℕ
 dump_lines records = flat_map (λ r. with_newline (record_line r)) records
 
--- the lines of the state at a place of a recording
-pub record IsStateText (o : Opening) (frames : List Frame) (place : ℕ) (text : List ℕ) : Type 0 where
+-- the place that a line names in a recording of so many instructions
+abbrev pub place_in : ℕ → Place → ℕ
+place_in total (places.At place) = place
+place_in total places.End = total
+
+-- the lines of the bytes that a line asks for, range by range
+abbrev pub ranges_lines : Memory → List MemoryRange → List ℕ
+ranges_lines m ranges = flat_map (λ r. memory_lines m r.address r.length) ranges
+
+-- the lines of the state at a place of a recording, and after them those of the bytes that are asked for
+pub record IsStateText (o : Opening) (frames : List Frame) (ranges : List MemoryRange) (place : ℕ) (text : List ℕ)
+    : Type 0 where
   pub state : State
   pub is_at : StateAt o frames place state
-  pub text_is : text ≡ state_lines place (total frames) state
+  pub text_is : text ≡ state_lines place (total frames) state ++ ranges_lines state.memory ranges
 
 -- what is printed of a place that was found, or not
-abbrev pub IsFoundText : Opening → List Frame → Option ℕ → List ℕ → Type 0
-IsFoundText o frames None text = text ≡ with_newline (codes "unchanged")
-IsFoundText o frames (Some place) text = IsStateText o frames place text
+abbrev pub IsFoundText : Opening → List Frame → List MemoryRange → Option ℕ → List ℕ → Type 0
+IsFoundText o frames ranges None text = text ≡ with_newline (codes "unchanged")
+IsFoundText o frames ranges (Some place) text = IsStateText o frames ranges place text
 
 -- the lines that report how guests ended, from the one at this place of the line on
 abbrev pub report_lines : ℕ → List GuestReport → List ℕ

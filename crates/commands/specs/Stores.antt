@@ -1,5 +1,6 @@
 -- What is found of a guest in a store, and why it isn't.
 use Rattle.std.specs.Prelude.{◌≡◌, ◌⊎◌, ℕ, ◌<◌, ◌≤◌, List, [], length}
+use Rattle.choices.specs.ChoiceText.{IsFirstBad}
 use Rattle.rrv_model.specs.declared.record.Record.{Record}
 use Rattle.recover.specs.declared.fault.OpenFault.{OpenFault}
 use Rattle.recover.specs.Opened.{IsFailure, IsFaultOf}
@@ -54,3 +55,13 @@ RefusesDump refusals.DeviceFailed records = 1 ≤ length records
 RefusesDump refusals.Memory records = 1 ≤ length records
 RefusesDump refusals.OutputFailed records = 1 ≤ length records
 RefusesDump _ records = ⊥
+
+-- why a core file isn't written
+abbrev pub RefusesCore : Refusal → Type 0
+RefusesCore e = (e ≡ refusals.Memory) ⊎ (e ≡ refusals.CannotWriteCore)
+
+-- why a text of choices is refused: a line of it is none, and the first such is named
+abbrev pub RefusesChoices : List ℕ → Refusal → Type 0
+RefusesChoices text refusals.Memory = Unit {0}
+RefusesChoices text (refusals.BadChoices file line) = IsFirstBad text line
+RefusesChoices text _ = ⊥

@@ -15,7 +15,11 @@ use std::rt::Files;
 const MAX_INPUT: u32 = 1_048_576;
 
 /// All bytes that a reader has, where they are no more than so many, and no read fails.
-fn read_whole<F: Read + Drop>(alloc: Global, file: F, most: u32) -> Result<Vec<u8>, Refusal>
+pub(crate) fn read_whole<F: Read + Drop>(
+    alloc: Global,
+    file: F,
+    most: u32,
+) -> Result<Vec<u8>, Refusal>
     ensures whole { IfOk result (λ bytes. IfSome (F.remaining file) (λ all. bytes.items ≡ all)) }
     ensures within { IfOk result (λ bytes. length bytes.items ≤ most) }
     ensures refused { IfErr result (λ e. (e ≡ Refusal.Memory) ⊎ (e ≡ Refusal.CannotReadFile)) }

@@ -2,22 +2,24 @@
 
 ghost use Rattle.std.specs.Prelude.{◌≡◌, ◌≢◌, ◌^◌, ◌≤◌, IfErr, IfOk, length};
 ghost use Rattle.serial_sched.specs.Slices.{IsQuantum};
-ghost use Rattle.commands.specs.Jobs.{AreJobs, IsJob, terms_of};
+ghost use Rattle.commands.specs.Jobs.{AreJobs, IsJob, choices_at, list_at, lists_of, plan_at, terms_of};
 ghost use Rattle.commands.specs.Printed.{name_at};
 ghost use Rattle.commands.specs.Told.{session_told};
 
 use crate::refusal::Refusal;
+use choices::Schedule;
+use command_line::Then;
 use elf_load::Image;
 use host::{Machine, StreamSink, Streams, opening_random};
-use serial_sched::RoundRobin;
+use rrv_model::record::Choice;
 use session::{Job, SessionFault};
 use std::alloc::Global;
 use std::io::Write;
 use std::sync::Mutex;
 use std::time::{Clock, Instant};
 
-/// A guest whose threads take turns, with the host as its environment, and whose output goes to the two streams.
-pub(crate) type HostJob<'a, 's, R, O, E> = Job<RoundRobin, Machine<'a, R>, StreamSink<'s, O, E>>;
+/// A guest whose threads run by choices and then in turns, with the host as its environment, and whose output goes to the two streams.
+pub(crate) type HostJob<'a, 's, R, O, E> = Job<Schedule, Machine<'a, R>, StreamSink<'s, O, E>>;
 
 /// What the guests of a recording share, beside the streams.
 #[derive(Drop)]
@@ -28,6 +30,9 @@ pub(crate) struct Shared<'a, R: Clock> {
     pub(crate) seed: [u8; 16],
     pub(crate) quantum: u32,
     pub(crate) every: u32,
+    /// The choices of all guests, or of each; none where there are no lists.
+    pub(crate) choices: &'a [Vec<Choice>],
+    pub(crate) then: Then,
     ghost fits: { IsQuantum quantum },
 }
 
@@ -40,6 +45,43 @@ pub(crate) fn name_of(alloc: Global, place: usize) -> Result<Vec<u8>, Refusal>
     Ok(name.into_bytes())
 }
 
+/// The list of choices at this place; none where there is none.
+fn list_at(lists: &[Vec<Choice>], place: usize) -> &[Choice]
+    ensures { result.now ≡ list_at (lists_of lists.now) place }
+{
+    if place < lists.len() {
+        return lists[place].as_slice();
+    }
+    &[]
+}
+
+/// The choices of the guest at this place of the line. The only list is everyone's.
+fn choices_at(lists: &[Vec<Choice>], place: usize) -> &[Choice]
+    ensures { result.now ≡ choices_at (lists_of lists.now) place }
+{
+    if lists.len() == 1 {
+        return list_at(lists, 0);
+    }
+    list_at(lists, place)
+}
+
+/// How the threads of the guest at this place of the line are chosen.
+fn schedule_of<R: Clock>(
+    alloc: Global,
+    shared: &Shared<'_, R>,
+    place: usize,
+) -> Result<Schedule, Refusal>
+    ensures schedule { IfOk result (λ schedule. schedule ≡ plan_at (terms_of shared.now.input.now shared.now.seed
+        shared.now.quantum shared.now.every shared.now.choices.now shared.now.then) place) }
+    ensures refused { IfErr result (λ e. e ≡ Refusal.Memory) }
+{
+    let choices = Vec::from_slice(alloc, choices_at(shared.choices, place))?;
+    match shared.then {
+        Then::Turns => Ok(Schedule::then_turns(choices, shared.quantum)),
+        Then::Nothing => Ok(Schedule::then_nothing(choices)),
+    }
+}
+
 /// The job of the guest at this place of the line.
 fn job_of<'a, 's, R: Clock, O: Write + Drop, E: Write + Drop>(
     alloc: Global,
@@ -49,7 +91,7 @@ fn job_of<'a, 's, R: Clock, O: Write + Drop, E: Write + Drop>(
     image: Image,
 ) -> Result<HostJob<'a, 's, R, O, E>, Refusal>
     ensures job { IfOk result (λ job. IsJob (terms_of shared.now.input.now shared.now.seed shared.now.quantum
-        shared.now.every) place image job) }
+        shared.now.every shared.now.choices.now shared.now.then) place image job) }
     ensures refused { IfErr result (λ e. e ≡ Refusal.Memory) }
 {
     Ok(Job {
@@ -57,7 +99,7 @@ fn job_of<'a, 's, R: Clock, O: Write + Drop, E: Write + Drop>(
         name: name_of(alloc, place as usize)?,
         random: opening_random(&shared.seed, place),
         every: shared.every,
-        chooser: RoundRobin::new(shared.quantum),
+        chooser: schedule_of(alloc, shared, place as usize)?,
         outside: Machine::new(shared.rt, shared.start, shared.input, &shared.seed, place),
         sink: StreamSink::new(streams),
     })
@@ -71,7 +113,7 @@ pub(crate) fn jobs_of<'a, 's, R: Clock, O: Write + Drop, E: Write + Drop>(
     images: Vec<Image>,
 ) -> Result<Vec<HostJob<'a, 's, R, O, E>>, Refusal>
     ensures jobs { IfOk result (λ jobs. AreJobs (terms_of shared.now.input.now shared.now.seed shared.now.quantum
-        shared.now.every) 0 images.items jobs.items) }
+        shared.now.every shared.now.choices.now shared.now.then) 0 images.items jobs.items) }
     ensures refused { IfErr result (λ e. e ≢ Refusal.Memory
         → (e ≡ session_told SessionFault.TooManyGuests) × (2 ^ 32 ≤ length images.items)) }
 {

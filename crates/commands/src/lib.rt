@@ -1,12 +1,16 @@
 //! What the lines of the program do.
 #![tactic(auto)]
 
+mod choosing;
+mod core_files;
 mod demonstration;
 mod exit_five;
 mod files;
 mod guests;
 mod jobs;
+mod misfits;
 mod printing;
+mod questions;
 mod record;
 mod refusal;
 mod replaying;

@@ -6,8 +6,10 @@ ghost use Rattle.serial_sched.specs.Slices.{IsQuantum};
 ghost use Rattle.commands.specs.Printed.{report_lines};
 ghost use Rattle.commands.specs.Stores.{RefusesPrint};
 
+use crate::choosing::choices_in_files;
 use crate::files::{images_in, input_in};
 use crate::jobs::{Shared, jobs_of, name_of};
+use crate::misfits::{GuestMisfit, misfits_of, print_misfits};
 use crate::printing::{finish, in_blocks, print_line};
 use crate::refusal::Refusal;
 use crate::store::open_log;
@@ -16,7 +18,7 @@ use command_line::{Recording, seed};
 use elf_load::Image;
 use host::Streams;
 use progress::{Clearing, RecordProgress};
-use session::{GuestReport, SessionReport, record_all};
+use session::{GuestReport, record_all};
 use std::alloc::Global;
 use std::fs::File;
 use std::io::Write;
@@ -39,7 +41,7 @@ fn seed_of(text: Option<&str>) -> Result<[u8; 16], Refusal> {
 
 /// Records programs to a store, and prints how each guest ended. Output is printed once it is durable.
 pub(crate) fn record<
-    R: Files<File = File> + AllocGlobal + Threads + Wait + Sync + Clock,
+    R: Files<File = File> + AllocGlobal + Input + Threads + Wait + Sync + Clock,
     O: Write + Drop + Send,
     E: Write + Drop + Send,
 >(
@@ -55,6 +57,7 @@ pub(crate) fn record<
     let seed = seed_of(recording.seed)?;
     let log = open_log(rt, recording.store)?;
     let input = input_in(rt, recording.input)?;
+    let choices = choices_in_files(rt, &recording.choices)?;
     let images = images_in(rt, &recording.files)?;
     let shared = Shared {
         rt,
@@ -63,6 +66,8 @@ pub(crate) fn record<
         seed,
         quantum: recording.quantum,
         every: recording.every,
+        choices: &choices,
+        then: recording.then,
     };
     let line = AtomicBool::new(false);
     let is_on = recording.progress || terminals.err;
@@ -70,7 +75,15 @@ pub(crate) fn record<
     let errors = Clearing::new(&mut *err, &line, true);
     let result = record_images(rt, log, &shared, images, output, errors, &line, is_on);
     Clearing::new(&mut *err, &line, true).clear();
-    tell(rt.alloc(), &result?, err)
+    let recorded = result?;
+    tell(rt.alloc(), &recorded, err)
+}
+
+/// How each guest of a recording ended, and which choices didn't fit, in the order of the line.
+#[derive(Drop)]
+struct Recorded {
+    reports: Vec<GuestReport>,
+    misfits: Vec<GuestMisfit>,
 }
 
 /// Records programs to a log, each as a guest. What they put out goes to the two streams. How far it is goes to the errors', where
@@ -88,14 +101,16 @@ fn record_images<
     err: E,
     line: &AtomicBool,
     is_on: bool,
-) -> Result<SessionReport, Refusal>
+) -> Result<Recorded, Refusal>
     requires { log.is_broken ≡ false }
 {
     let streams = Mutex::new(Streams::new(out, err));
     let jobs = jobs_of(rt.alloc(), shared, &streams, images)?;
     let gate = RecordProgress::new(rt, &streams, line, is_on);
-    let (_log, _jobs, result) = record_all(rt, rt.alloc(), log, jobs, &gate);
-    Ok(result?)
+    let (_log, jobs, result) = record_all(rt, rt.alloc(), log, jobs, &gate);
+    let reports = result?.guests;
+    let misfits = misfits_of(rt.alloc(), &jobs)?;
+    Ok(Recorded { reports, misfits })
 }
 
 /// Prints how each guest ended, in the order of the line.
@@ -116,9 +131,10 @@ fn print_reports<W: Write>(
     Ok(())
 }
 
-/// Prints the same in blocks.
-fn tell<E: Write>(alloc: Global, report: &SessionReport, err: &mut E) -> Result<(), Refusal> {
+/// Prints both in blocks.
+fn tell<E: Write>(alloc: Global, recorded: &Recorded, err: &mut E) -> Result<(), Refusal> {
     let mut err = in_blocks(alloc, err)?;
-    print_reports(alloc, &report.guests, &mut err)?;
+    print_reports(alloc, &recorded.reports, &mut err)?;
+    print_misfits(&recorded.misfits, &mut err)?;
     finish(&mut err)
 }

@@ -30,6 +30,9 @@ pub enum Refusal {
     /// The file can't be read, or it is above its limit.
     #[error("cannot read file")]
     CannotReadFile,
+    /// This line of a file of choices is none. The text's second line names the file and the line, counted from 1.
+    #[error("bad choices\n{file}:{line}")]
+    BadChoices { file: String, line: u64 },
     /// The file is no program that a guest can run.
     #[error("guest {guest}: {fault}")]
     Elf { guest: u32, fault: ElfFault },
@@ -72,6 +75,12 @@ pub enum Refusal {
     /// The session met what only a session meets.
     #[error("{fault}")]
     Session { fault: SessionFault },
+    /// The file of a core can't be made; one that is there is kept.
+    #[error("cannot make core file")]
+    CannotMakeCore,
+    /// The file of a core can't be written whole; it is removed again.
+    #[error("cannot write core file")]
+    CannotWriteCore,
     /// The host doesn't tell the time.
     #[error("cannot read clock")]
     NoClock,

@@ -10,17 +10,17 @@ use crate::exit_five::EXIT_FIVE;
 use crate::files::image_of;
 use crate::guests::{dump, list};
 use crate::printing::print_trial;
+use crate::questions::{back, choices, core, last, replay};
 use crate::record::record;
 use crate::refusal::Refusal;
-use crate::replaying::{put_out, tell};
-use crate::states::{show_back, show_last};
+use crate::replaying::tell;
 use crate::store::{make_store, open_store};
 use crate::terminals::Terminals;
 use crate::trial::try_image;
-use crate::verifying::{end_in, verified_in};
+use crate::verifying::end_in;
 use clap::error::ErrorKind as LineFault;
 use command_line::{GuestOf, Request, line};
-use replayer::{Verified, VerifiedEnd};
+use replayer::VerifiedEnd;
 use std::alloc::Global;
 use std::convert::AsStr;
 use std::fs::File;
@@ -41,7 +41,7 @@ const QUANTUM: u32 = 50_000;
 /// (also for a call of help), 1 refused, 2 a line that is none. What is asked for goes to `out`. A refusal's text,
 /// behind `rrv: `, and the text of a bad line go to `err`.
 pub fn run<
-    R: Files<File = File> + AllocGlobal + Threads + Wait + Sync + Clock,
+    R: Files<File = File> + AllocGlobal + Input + Threads + Wait + Sync + Clock,
     S: AsStr,
     O: Write + Drop + Send,
     E: Write + Drop + Send,
@@ -54,7 +54,7 @@ pub fn run<
 
 /// The same, where standard output or standard error may be a terminal.
 pub fn run_on<
-    R: Files<File = File> + AllocGlobal + Threads + Wait + Sync + Clock,
+    R: Files<File = File> + AllocGlobal + Input + Threads + Wait + Sync + Clock,
     S: AsStr,
     O: Write + Drop + Send,
     E: Write + Drop + Send,
@@ -107,7 +107,7 @@ fn report_refusal<E: Write>(refusal: &Refusal, err: &mut E) -> u8
 
 /// Does what is asked for, or tells why not, and answers the status.
 fn run_request<
-    R: Files<File = File> + AllocGlobal + Threads + Wait + Sync + Clock,
+    R: Files<File = File> + AllocGlobal + Input + Threads + Wait + Sync + Clock,
     O: Write + Drop + Send,
     E: Write + Drop + Send,
 >(rt: &R, request: Request<'_>, terminals: Terminals, out: &mut O, err: &mut E) -> u8
@@ -122,7 +122,7 @@ fn run_request<
 
 /// Does what each command does.
 fn perform<
-    R: Files<File = File> + AllocGlobal + Threads + Wait + Sync + Clock,
+    R: Files<File = File> + AllocGlobal + Input + Threads + Wait + Sync + Clock,
     O: Write + Drop + Send,
     E: Write + Drop + Send,
 >(
@@ -148,26 +148,54 @@ fn perform<
         Request::Replay {
             guest,
             at,
+            memory,
             progress,
-        } => {
-            let verified = guest_verified(rt, guest, progress || terminals.err, err)?;
-            match at {
-                Some(place) => show_back(alloc, &verified, place, 0, out),
-                None => put_out(rt, alloc, &verified, out, err),
-            }
-        }
-        Request::Back { guest, from, count } => {
-            let verified = guest_verified(rt, guest, false, err)?;
-            show_back(alloc, &verified, from, count, out)
-        }
+        } => replay(rt, guest, at, &memory, progress || terminals.err, out, err),
+        Request::Back {
+            guest,
+            from,
+            count,
+            memory,
+            progress,
+        } => back(
+            rt,
+            guest,
+            from,
+            count,
+            &memory,
+            progress || terminals.err,
+            out,
+            err,
+        ),
         Request::Last {
             guest,
             from,
             address,
-        } => {
-            let verified = guest_verified(rt, guest, false, err)?;
-            show_last(alloc, &verified, from, address, out)
-        }
+            memory,
+            progress,
+        } => last(
+            rt,
+            guest,
+            from,
+            address,
+            &memory,
+            progress || terminals.err,
+            out,
+            err,
+        ),
+        Request::Choices { guest, progress } => choices(
+            rt,
+            guest,
+            progress || terminals.err,
+            out,
+            err,
+        ),
+        Request::Core {
+            guest,
+            at,
+            file,
+            progress,
+        } => core(rt, guest, at, file, progress || terminals.err, err),
     }
 }
 
@@ -181,18 +209,6 @@ fn guest_end<R: Files<File = File> + AllocGlobal + Clock, E: Write + Drop>(
 ) -> Result<VerifiedEnd, Refusal> {
     let store = open_store(rt, guest.store)?;
     end_in(rt, rt.alloc(), store, guest.number, is_shown, err)
-}
-
-/// A guest's recording in a store in a file, verified. The store is closed again. How far it is goes to `err`, where
-/// `is_shown` says so.
-fn guest_verified<R: Files<File = File> + AllocGlobal + Clock, E: Write + Drop>(
-    rt: &R,
-    guest: GuestOf<'_>,
-    is_shown: bool,
-    err: &mut E,
-) -> Result<Verified, Refusal> {
-    let store = open_store(rt, guest.store)?;
-    verified_in(rt, rt.alloc(), store, guest.number, is_shown, err)
 }
 
 /// Records a small program, replays what was recorded, and prints the output, the records and the end.

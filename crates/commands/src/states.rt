@@ -3,20 +3,37 @@
 ghost use Rattle.std.specs.Prelude.{◌≡◌, ◌+◌, ◌≤◌, IfErr, IfOk, List, OnOk, Option, ℕ};
 ghost use Rattle.std.specs.Io.KnownBytes.{Appends};
 ghost use Rattle.rrv_model.specs.StateAt.{total};
+ghost use Rattle.guest_calls.specs.Guest.{state_of};
 ghost use Rattle.reverse_step.specs.Changes.{IsLastChange};
-ghost use Rattle.commands.specs.Printed.{IsFoundText, IsStateText};
+ghost use Rattle.commands.specs.Printed.{IsFoundText, IsStateText, place_in, ranges_lines};
 ghost use Rattle.commands.specs.Stores.{RefusesPlace};
 
 use crate::printing::{finish, in_blocks, print_line, print_text};
 use crate::refusal::Refusal;
+use command_line::{MemoryRange, Place};
+use guest_calls::Guest;
 use replayer::Verified;
 use reverse_step::Cursor;
 use std::alloc::Global;
 use std::io::Write;
-use trace_text::StateLines;
+use trace_text::{MemoryLines, StateLines};
+
+/// The place that a line names, in instructions.
+pub(crate) fn place_in(place: Place, verified: &Verified) -> u64
+    ensures { result ≡ place_in (total verified.now.frames) place }
+{
+    match place {
+        Place::At(place) => place,
+        Place::End => verified.total(),
+    }
+}
 
 /// A cursor at a place.
-fn cursor_at<'a>(alloc: Global, verified: &'a Verified, place: u64) -> Result<Cursor<'a>, Refusal>
+pub(crate) fn cursor_at<'a>(
+    alloc: Global,
+    verified: &'a Verified,
+    place: u64,
+) -> Result<Cursor<'a>, Refusal>
     ensures verified { IfOk result (λ cursor. cursor.verified ≡ verified.now) }
     ensures at { IfOk result (λ cursor. cursor.place ≡ place) }
     ensures within { OnOk result (place ≤ total verified.now.frames) }
@@ -44,54 +61,78 @@ fn cursor_back<'a>(
     Ok(cursor)
 }
 
-/// Prints the state at a cursor's place.
-fn print_state<W: Write>(cursor: &Cursor<'_>, steps: u64, out: &mut W) -> Result<(), Refusal>
+/// Prints the bytes of some ranges of a guest's memory.
+fn print_ranges<W: Write>(guest: &Guest, ranges: &[MemoryRange], out: &mut W) -> Result<(), Refusal>
+    ensures printed { OnOk result (Appends (W.contents out.old) (W.contents out.new)
+        (ranges_lines (state_of guest.now).memory ranges.now)) }
+    ensures refused { IfErr result (λ e. e ≡ Refusal.OutputFailed) }
+{
+    for range in ranges {
+        let lines = MemoryLines::new(guest.space(), range.address, range.length);
+        print_text(out, &lines)?;
+    }
+    Ok(())
+}
+
+/// Prints the state at a cursor's place, and the bytes of some ranges of its memory.
+fn print_state<W: Write>(
+    cursor: &Cursor<'_>,
+    steps: u64,
+    ranges: &[MemoryRange],
+    out: &mut W,
+) -> Result<(), Refusal>
     requires { steps ≡ total cursor.now.verified.frames }
     ensures printed { OnOk result ((text : List ℕ)
-        × IsStateText cursor.now.verified.opening cursor.now.verified.frames cursor.now.place text
+        × IsStateText cursor.now.verified.opening cursor.now.verified.frames ranges.now cursor.now.place text
         × Appends (W.contents out.old) (W.contents out.new) text) }
     ensures refused { IfErr result (λ e. e ≡ Refusal.OutputFailed) }
 {
-    let lines = StateLines::new(cursor.guest(), cursor.place(), steps);
-    print_text(out, &lines)
+    let guest = cursor.guest();
+    let lines = StateLines::new(guest, cursor.place(), steps);
+    print_text(out, &lines)?;
+    print_ranges(guest, ranges, out)
 }
 
 /// Prints the state so many instructions before a place.
 fn print_back<W: Write>(
     alloc: Global,
     verified: &Verified,
-    from: u64,
+    from: Place,
     count: u64,
+    ranges: &[MemoryRange],
     out: &mut W,
 ) -> Result<(), Refusal>
-    ensures printed { OnOk result ((place : ℕ) × (place + count ≡ from) × (text : List ℕ)
-        × IsStateText verified.now.opening verified.now.frames place text
+    ensures printed { OnOk result ((place : ℕ) × (place + count ≡ place_in (total verified.now.frames) from)
+        × (text : List ℕ) × IsStateText verified.now.opening verified.now.frames ranges.now place text
         × Appends (W.contents out.old) (W.contents out.new) text) }
-    ensures within { OnOk result (from ≤ total verified.now.frames) }
-    ensures refused { IfErr result (λ e. RefusesPlace e (total verified.now.frames) from count) }
+    ensures within { OnOk result (place_in (total verified.now.frames) from ≤ total verified.now.frames) }
+    ensures refused { IfErr result (λ e.
+        RefusesPlace e (total verified.now.frames) (place_in (total verified.now.frames) from) count) }
 {
-    let cursor = cursor_back(alloc, verified, from, count)?;
-    print_state(&cursor, verified.total(), out)
+    let cursor = cursor_back(alloc, verified, place_in(from, verified), count)?;
+    print_state(&cursor, verified.total(), ranges, out)
 }
 
 /// Prints the state before the last change, below a place, of the byte at an address, or that there is none.
 fn print_last<W: Write>(
     alloc: Global,
     verified: &Verified,
-    from: u64,
+    from: Place,
     address: u32,
+    ranges: &[MemoryRange],
     out: &mut W,
 ) -> Result<(), Refusal>
     ensures printed { OnOk result ((found : Option ℕ) × (text : List ℕ)
-        × IsLastChange verified.now.opening verified.now.frames address from found
-        × IsFoundText verified.now.opening verified.now.frames found text
+        × IsLastChange verified.now.opening verified.now.frames address (place_in (total verified.now.frames) from) found
+        × IsFoundText verified.now.opening verified.now.frames ranges.now found text
         × Appends (W.contents out.old) (W.contents out.new) text) }
-    ensures within { OnOk result (from ≤ total verified.now.frames) }
-    ensures refused { IfErr result (λ e. RefusesPlace e (total verified.now.frames) from 0) }
+    ensures within { OnOk result (place_in (total verified.now.frames) from ≤ total verified.now.frames) }
+    ensures refused { IfErr result (λ e.
+        RefusesPlace e (total verified.now.frames) (place_in (total verified.now.frames) from) 0) }
 {
-    let mut cursor = cursor_at(alloc, verified, from)?;
+    let mut cursor = cursor_at(alloc, verified, place_in(from, verified))?;
     match cursor.last_change(alloc, address)? {
-        Some(_) => print_state(&cursor, verified.total(), out),
+        Some(_) => print_state(&cursor, verified.total(), ranges, out),
         None => print_line(out, &"unchanged"),
     }
 }
@@ -100,12 +141,13 @@ fn print_last<W: Write>(
 pub(crate) fn show_back<O: Write>(
     alloc: Global,
     verified: &Verified,
-    from: u64,
+    from: Place,
     count: u64,
+    ranges: &[MemoryRange],
     out: &mut O,
 ) -> Result<(), Refusal> {
     let mut out = in_blocks(alloc, out)?;
-    print_back(alloc, verified, from, count, &mut out)?;
+    print_back(alloc, verified, from, count, ranges, &mut out)?;
     finish(&mut out)
 }
 
@@ -113,11 +155,12 @@ pub(crate) fn show_back<O: Write>(
 pub(crate) fn show_last<O: Write>(
     alloc: Global,
     verified: &Verified,
-    from: u64,
+    from: Place,
     address: u32,
+    ranges: &[MemoryRange],
     out: &mut O,
 ) -> Result<(), Refusal> {
     let mut out = in_blocks(alloc, out)?;
-    print_last(alloc, verified, from, address, &mut out)?;
+    print_last(alloc, verified, from, address, ranges, &mut out)?;
     finish(&mut out)
 }

@@ -110,7 +110,7 @@ fn bytes_of(alloc: Global, content: &Content<'_>) -> Result<Vec<u8>, Fail> {
 /// Does a line, and answers its status, its output and its errors.
 fn answers<R>(rt: &R, words: &str) -> Result<(u8, Vec<u8>, Vec<u8>), Fail>
 where
-    R: AllocGlobal + Files<File = File> + Threads + Wait + Sync + Clock,
+    R: AllocGlobal + Files<File = File> + Input + Threads + Wait + Sync + Clock,
 {
     let list: Vec<&str> = words.split_whitespace().collect(rt.alloc())?;
     let mut out = Vec::new(rt.alloc());
@@ -122,7 +122,7 @@ where
 /// Does a line, and ends the test where it answers or says something else.
 fn play_line<R>(rt: &R, words: &str, status: u8, out: &[u8], err: &[u8]) -> Result<(), Fail>
 where
-    R: Abort + AllocGlobal + Files<File = File> + Threads + Wait + Sync + Clock,
+    R: Abort + AllocGlobal + Files<File = File> + Input + Threads + Wait + Sync + Clock,
 {
     let (found, output, errors) = answers(rt, words)?;
     same(
@@ -136,7 +136,7 @@ where
 
 fn play_step<R>(rt: &R, step: &Step<'_>) -> Result<(), Fail>
 where
-    R: Abort + AllocGlobal + Files<File = File> + Threads + Wait + Sync + Clock,
+    R: Abort + AllocGlobal + Files<File = File> + Input + Threads + Wait + Sync + Clock,
 {
     match step {
         Step::Write(name, content) => {
@@ -180,7 +180,7 @@ fn clear<R: Files<File = File>>(rt: &R, steps: &[Step<'_>]) {
 /// Takes the steps of a scene, one after another. There are no files of it before and behind it.
 pub(crate) fn play<R>(rt: &R, steps: &[Step<'_>]) -> Result<(), Fail>
 where
-    R: Abort + AllocGlobal + Files<File = File> + Threads + Wait + Sync + Clock,
+    R: Abort + AllocGlobal + Files<File = File> + Input + Threads + Wait + Sync + Clock,
 {
     clear(rt, steps);
     for step in steps {
@@ -198,7 +198,7 @@ pub(crate) fn play_recorded<'a, R>(
     steps: &[Step<'a>],
 ) -> Result<(), Fail>
 where
-    R: Abort + AllocGlobal + Files<File = File> + Threads + Wait + Sync + Clock,
+    R: Abort + AllocGlobal + Files<File = File> + Input + Threads + Wait + Sync + Clock,
 {
     let before = [
         Step::Write("f", Content::Program(program)),

@@ -47,6 +47,7 @@ fn the_state_at_a_place_is_printed(rt: HostRuntime) -> Result<(), Fail> {
             done("replay --at 2 s 0", BEFORE_EXIT, b""),
             done("replay s 0 --at 2", BEFORE_EXIT, b""),
             done("replay --at 3 s 0", EXITED, b""),
+            done("replay --at end s 0", EXITED, b""),
             done("back s 0 3 0", EXITED, b""),
         ],
     )

@@ -50,7 +50,7 @@ impl Write for Sink {
 /// many in all.
 fn printed<R>(rt: &R, words: &[&str], most: usize, room: usize) -> (u8, Vec<u8>, Vec<u8>)
 where
-    R: AllocGlobal + Files<File = File> + Threads + Wait + Sync + Clock,
+    R: AllocGlobal + Files<File = File> + Input + Threads + Wait + Sync + Clock,
 {
     let mut out = Sink {
         taken: Vec::new(rt.alloc()),
@@ -65,7 +65,7 @@ where
 /// Records the guest that writes `hi` in a new store.
 fn record_hi<R>(rt: &R) -> Result<(), Fail>
 where
-    R: AllocGlobal + Files<File = File> + Threads + Wait + Sync + Clock,
+    R: AllocGlobal + Files<File = File> + Input + Threads + Wait + Sync + Clock,
 {
     let _ = fs::remove_file(rt, "s");
     let elf = file_of(rt.alloc(), &HELLO)?;
@@ -85,7 +85,7 @@ fn prints<R>(
     wanted: (u8, &[u8]),
 ) -> Result<(), Fail>
 where
-    R: Abort + AllocGlobal + Files<File = File> + Threads + Wait + Sync + Clock,
+    R: Abort + AllocGlobal + Files<File = File> + Input + Threads + Wait + Sync + Clock,
 {
     record_hi(rt)?;
     for (most, room) in rows {

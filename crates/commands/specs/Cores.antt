@@ -1,0 +1,18 @@
+-- Which thread a core file shows first.
+use Rattle.std.specs.Prelude.{◌≡◌, ℕ, ◌+◌, ◌-◌, ◌<◌, ◌≤◌, nat_lt, if◌then◌else◌, List, ◌∷◌, ◌++◌}
+use Rattle.rrv_model.specs.declared.record.Frame.{Frame}
+use Rattle.rrv_model.specs.StateAt.{total}
+
+-- the instruction after t others is one of this thread's
+pub record RunsNext (frames : List Frame) (t tid : ℕ) : Type 0 where
+  pub before : List Frame
+  pub frame : Frame
+  pub after : List Frame
+  pub frames_are : frames ≡ before ++ frame ∷ after
+  pub low : total before ≤ t
+  pub high : t < total before + frame.count
+  pub tid_is : tid ≡ frame.tid
+
+-- the place of the instruction whose thread comes first: the next one, and at the end the last one
+abbrev pub shown_place : (total place : ℕ) → ℕ
+shown_place total place = if nat_lt place total then place else total - 1

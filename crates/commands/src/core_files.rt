@@ -1,0 +1,110 @@
+//! Core files of the state at a place.
+
+ghost use Rattle.std.specs.Prelude.{◌≡◌, ◌+◌, ◌<◌, ◌≤◌, IfErr, IfSome, None, OnOk, ℕ};
+ghost use Rattle.std.specs.Io.KnownBytes.{Appends};
+ghost use Rattle.rrv_model.specs.State.{State};
+ghost use Rattle.rrv_model.specs.StateAt.{StateAt, total};
+ghost use Rattle.core_file.specs.Core.{core_of};
+ghost use Rattle.guest_calls.specs.Guest.{state_of};
+ghost use Rattle.commands.specs.Cores.{RunsNext, shown_place};
+ghost use Rattle.commands.specs.Stores.{RefusesCore};
+
+use crate::printing::{finish, in_blocks};
+use crate::refusal::Refusal;
+use crate::states::{cursor_at, place_in};
+use command_line::Place;
+use core_file::CoreFile;
+use replayer::Verified;
+use reverse_step::Cursor;
+use rrv_model::record::Frame;
+use std::alloc::Global;
+use std::fs;
+use std::fs::File;
+use std::io::Write;
+use std::rt::Files;
+
+/// The thread whose instruction comes after t others.
+fn thread_after(frames: &[Frame], t: u64) -> Option<u32>
+    ensures next { IfSome result (RunsNext frames.now t) }
+    ensures none { result ≡ None → total frames.now ≤ t }
+{
+    let mut left = t;
+    for frame in frames {
+        let count = u64::from(frame.count);
+        if left < count {
+            return Some(frame.tid);
+        }
+        left -= count;
+    }
+    None
+}
+
+/// The thread that a core file shows first: the one whose instruction comes next, and at the end that of the last one; 0 if there
+/// is no instruction.
+fn first_thread(verified: &Verified, place: u64) -> u32
+    requires { place ≤ total verified.now.frames }
+    ensures shown { 0 < total verified.now.frames
+        → RunsNext verified.now.frames (shown_place (total verified.now.frames) place) result }
+{
+    let steps = verified.total();
+    let at = if place < steps {
+        place
+    } else {
+        steps.saturating_sub(1)
+    };
+    thread_after(verified.frames(), at).unwrap_or(0)
+}
+
+/// Writes a core file of the state at a cursor's place.
+fn put_core<W: Write>(
+    alloc: Global,
+    verified: &Verified,
+    cursor: &Cursor<'_>,
+    out: &mut W,
+) -> Result<(), Refusal>
+    requires { cursor.now.verified ≡ verified.now }
+    ensures written { OnOk result ((first : ℕ) × (state : State)
+        × (0 < total verified.now.frames
+        → RunsNext verified.now.frames (shown_place (total verified.now.frames) cursor.now.place) first)
+        × StateAt verified.now.opening verified.now.frames cursor.now.place state
+        × Appends (W.contents out.old) (W.contents out.new) (core_of first state)) }
+    ensures refused { IfErr result RefusesCore }
+{
+    let first = first_thread(verified, cursor.place());
+    let core = CoreFile::new(alloc, cursor.guest(), first)?;
+    match core.write_to(out) {
+        Ok(()) => Ok(()),
+        Err(_) => Err(Refusal::CannotWriteCore),
+    }
+}
+
+/// Writes the same in blocks.
+fn put_blocks<W: Write>(
+    alloc: Global,
+    verified: &Verified,
+    cursor: &Cursor<'_>,
+    out: &mut W,
+) -> Result<(), Refusal>
+    requires { cursor.now.verified ≡ verified.now }
+{
+    let mut out = in_blocks(alloc, out)?;
+    put_core(alloc, verified, cursor, &mut out)?;
+    finish(&mut out).map_err(|_| Refusal::CannotWriteCore)
+}
+
+/// Makes a core file of the state at a place. A file that can't be written whole is removed again.
+pub(crate) fn write_core<R: Files<File = File> + AllocGlobal>(
+    rt: &R,
+    verified: &Verified,
+    at: Place,
+    path: &str,
+) -> Result<(), Refusal> {
+    let cursor = cursor_at(rt.alloc(), verified, place_in(at, verified))?;
+    let mut file = File::create_new(rt, path).map_err(|_| Refusal::CannotMakeCore)?;
+    let result = put_blocks(rt.alloc(), verified, &cursor, &mut file);
+    drop(file);
+    if result.is_err() {
+        let _ = fs::remove_file(rt, path);
+    }
+    result
+}
