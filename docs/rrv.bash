@@ -17,9 +17,10 @@ _rrv_place() {
     place=0
     while ((at < COMP_CWORD)); do
         case ${COMP_WORDS[at]} in
-            --quantum | --every | --input | --seed | --at)
+            --quantum | --every | --input | --seed | --choices | --then | --at | --memory)
                 ((at += 1))
                 if [[ ${COMP_WORDS[at]} == = ]]; then ((at += 1)); fi
+                if [[ ${COMP_WORDS[at + 1]} == : ]]; then ((at += 2)); fi
                 ;;
             -*) ;;
             *) ((place += 1)) ;;
@@ -31,35 +32,39 @@ _rrv_place() {
 _rrv() {
     local word=${COMP_WORDS[COMP_CWORD]} before=${COMP_WORDS[COMP_CWORD - 1]} options='-h --help' place
     COMPREPLY=()
-    # Bash parts an option and its value at the '='.
+    # Bash parts an option and its value at the '=', and the two numbers of --memory at the ':'.
     if [[ $word == = ]]; then
         word=
     elif [[ $before == = ]]; then
         before=${COMP_WORDS[COMP_CWORD - 2]}
     fi
     if ((COMP_CWORD == 1)); then
-        _rrv_words "new record list dump verify replay back last -V --version $options"
+        _rrv_words "new record list dump verify replay back last choices core -V --version $options"
         return
     fi
     case ${COMP_WORDS[1]} in
-        new | list | dump | back | last) ;;
-        record) options+=' --quantum --every --input --seed --progress' ;;
-        verify) options+=' --progress' ;;
-        replay) options+=' --at --progress' ;;
+        new | list | dump) ;;
+        record) options+=' --quantum --every --input --seed --choices --then --progress' ;;
+        verify | choices | core) options+=' --progress' ;;
+        replay) options+=' --at --memory --progress' ;;
+        back | last) options+=' --memory --progress' ;;
         *) return ;;
     esac
     case $before in
-        --input) _rrv_files && return ;;
-        --quantum | --every | --seed | --at) return ;;
+        --input | --choices) _rrv_files && return ;;
+        --then) _rrv_words 'turns none' && return ;;
+        --at) _rrv_words end && return ;;
+        --quantum | --every | --seed | --memory | :) return ;;
     esac
     if [[ $word == -* ]]; then
         _rrv_words "$options"
         return
     fi
     _rrv_place
-    if [[ ${COMP_WORDS[1]} == record ]] || ((place == 0)); then
-        _rrv_files
-    fi
+    case ${COMP_WORDS[1]}:$place in
+        *:0 | record:* | core:3) _rrv_files ;;
+        back:2 | last:2 | core:2) _rrv_words end ;;
+    esac
 }
 
 complete -F _rrv rrv
