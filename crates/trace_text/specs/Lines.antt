@@ -3,6 +3,8 @@
 use Rattle.std.specs.Prelude.{ℕ, ◌-◌, ◌^◌, List, ◌++◌, length, replicate, flat_map, sum_by, min, codes, Option, Some, None, false}
 use Rattle.std.specs.Fmt.{decimal, digits}
 use Rattle.std.specs.Char.{encode_utf8}
+use Rattle.rrv_model.specs.declared.machine.FaultKind.{FaultKind}
+use Rattle.rrv_model.specs.declared.machine.FaultKind.TheVariants as faults
 use Rattle.rrv_model.specs.declared.machine.GuestEnd.{GuestEnd}
 use Rattle.rrv_model.specs.declared.machine.GuestEnd.TheVariants as guest_ends
 use Rattle.rrv_model.specs.declared.record.CallRecord.{CallRecord}
@@ -21,6 +23,16 @@ end_text None = codes "end none"
 end_text (Some (guest_ends.Exited status)) = codes "end exited " ++ decimal status
 end_text (Some (guest_ends.Faulted kind)) = codes "end faulted " ++ decimal (fault_number kind)
 end_text (Some guest_ends.Stuck) = codes "end stuck"
+
+-- the name of a kind of fault
+abbrev pub fault_name : FaultKind → List ℕ
+fault_name faults.BadInstruction = codes "bad instruction"
+fault_name faults.Breakpoint = codes "breakpoint"
+fault_name faults.MisalignedTarget = codes "misaligned target"
+fault_name faults.MisalignedAtomic = codes "misaligned atomic"
+fault_name faults.Fetch = codes "fetch"
+fault_name faults.Load = codes "load"
+fault_name faults.Store = codes "store"
 
 abbrev pub word_text : ℕ → List ℕ
 word_text n = replicate (8 - length (digits 16 false n)) 48 ++ digits 16 false n

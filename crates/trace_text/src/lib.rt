@@ -1,14 +1,16 @@
 //! The lines that are printed of records and of states, and the digest of a memory.
 #![tactic(auto)]
 
+mod fault_names;
 mod guest_lines;
 mod memory_digest;
 mod memory_lines;
 mod state_lines;
 mod text;
 
+pub use fault_names::fault_name;
 pub use guest_lines::{ListLine, ReportLine};
 pub use memory_digest::digest_of;
 pub use memory_lines::MemoryLines;
 pub use state_lines::StateLines;
-pub use text::{EndText, RecordLine, VerifyLine};
+pub use text::{EndText, RecordLine, VerifyLine, write_word, written_bytes};
