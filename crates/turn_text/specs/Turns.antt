@@ -1,0 +1,118 @@
+-- The text of frames with their places, and as events of a trace (Chrome's trace-event format). Neither has a newline.
+-- The thread is the frame's, in the state after it, and None if it is gone by then.
+use Rattle.std.specs.Prelude.{◌≡◌, ℕ, ◌==◌, if◌then◌else◌, List, [], ◌++◌, codes, Option, Some, None}
+use Rattle.std.specs.Fmt.{decimal}
+use Rattle.rrv_model.specs.declared.machine.Thread.{Thread}
+use Rattle.rrv_model.specs.declared.record.CallRecord.{CallRecord}
+use Rattle.rrv_model.specs.declared.record.End.{End}
+use Rattle.rrv_model.specs.declared.record.End.TheVariants as ends
+use Rattle.rrv_model.specs.RecordText.{fault_number}
+use Rattle.rrv_model.specs.State.{State, register, thread_at}
+use Rattle.rrv_model.specs.FrameStep.{FrameStep}
+use Rattle.trace_text.specs.Lines.{fault_name, word_text, written_len}
+
+-- ---- places
+
+-- where the thread goes on
+abbrev pub next_text : Option Thread → List ℕ
+next_text None = codes " pc=none"
+next_text (Some t) = codes " pc=" ++ word_text t.regs.pc
+
+-- the instructions before the frame, and up to its end
+abbrev pub from_and_to : (from to : ℕ) → List ℕ
+from_and_to from to = codes " from=" ++ (decimal from ++ (codes " to=" ++ decimal to))
+
+-- a frame that is stuck ran no thread
+abbrev pub places_text : End → (from to : ℕ) → Option Thread → List ℕ
+places_text ends.Preempt from to thread = from_and_to from to ++ next_text thread
+places_text (ends.Call r) from to thread = from_and_to from to ++ next_text thread
+places_text (ends.Fault kind) from to thread = from_and_to from to ++ next_text thread
+places_text ends.Stuck from to thread = from_and_to from to
+
+-- ---- names
+
+-- the name of a call's number (Linux, include/uapi/asm-generic/unistd.h), if a guest may make the call
+abbrev pub call_name : ℕ → Option (List ℕ)
+call_name n =
+    if n == 63 then Some (codes "read") else if n == 64 then Some (codes "write")
+    else if n == 66 then Some (codes "writev") else if n == 93 then Some (codes "exit")
+    else if n == 94 then Some (codes "exit_group") else if n == 96 then Some (codes "set_tid_address")
+    else if n == 98 then Some (codes "futex") else if n == 124 then Some (codes "sched_yield")
+    else if n == 172 then Some (codes "getpid") else if n == 178 then Some (codes "gettid")
+    else if n == 214 then Some (codes "brk") else if n == 215 then Some (codes "munmap")
+    else if n == 220 then Some (codes "clone") else if n == 222 then Some (codes "mmap")
+    else if n == 226 then Some (codes "mprotect") else if n == 278 then Some (codes "getrandom")
+    else if n == 403 then Some (codes "clock_gettime64") else if n == 422 then Some (codes "futex_time64")
+    else None
+
+-- the name of a number if it has one
+abbrev pub name_or_number : ℕ → Option (List ℕ) → List ℕ
+name_or_number n None = codes "call " ++ decimal n
+name_or_number n (Some name) = name
+
+-- The number of the call that the thread made: it is still in a7, since a call sets no register but a0. Only exit
+-- leaves no thread.
+abbrev pub call_number : Option Thread → ℕ
+call_number None = 93
+call_number (Some t) = register t.regs 17
+
+-- ---- events
+
+abbrev pub event_name : End → Option Thread → List ℕ
+event_name ends.Preempt thread = codes "preempt"
+event_name (ends.Call r) thread = name_or_number (call_number thread) (call_name (call_number thread))
+event_name (ends.Fault kind) thread = codes "fault " ++ fault_name kind
+event_name ends.Stuck thread = codes "stuck"
+
+-- what came of the last instruction
+abbrev pub outcome_text : End → List ℕ
+outcome_text ends.Preempt = []
+outcome_text (ends.Call r) =
+    codes ",\"result\":\"" ++ (word_text r.result ++ (codes "\",\"written\":" ++ decimal (written_len r)))
+outcome_text (ends.Fault kind) = codes ",\"kind\":" ++ decimal (fault_number kind)
+outcome_text ends.Stuck = []
+
+-- where the thread goes on
+abbrev pub next_member : Option Thread → List ℕ
+next_member None = codes ",\"pc\":null"
+next_member (Some t) = codes ",\"pc\":\"" ++ (word_text t.regs.pc ++ codes "\"")
+
+-- the run of a thread: when it began, how long it was, and of which guest and thread
+abbrev pub run_members : (from count guest tid : ℕ) → List ℕ
+run_members from count guest tid =
+    codes "\",\"ph\":\"X\",\"ts\":" ++ (decimal from ++ (codes ",\"dur\":" ++ (decimal count
+    ++ (codes ",\"pid\":" ++ (decimal guest ++ (codes ",\"tid\":" ++ decimal tid))))))
+
+-- the arguments of an event: the record's index, what came of the last instruction, and where the thread goes on
+unfoldable pub run_arguments : (index : ℕ) → End → Option Thread → List ℕ
+run_arguments index end thread =
+    codes ",\"args\":{\"record\":" ++ (decimal index ++ (outcome_text end ++ (next_member thread ++ codes "}}")))
+
+-- the event of a run
+unfoldable pub run_event : (guest index : ℕ) → End → (from tid count : ℕ) → Option Thread → List ℕ
+run_event guest index end from tid count thread =
+    codes "{\"name\":\"" ++ (event_name end thread
+    ++ (run_members from count guest tid ++ run_arguments index end thread))
+
+-- the event of a guest that is stuck, which takes no time
+abbrev pub stuck_event : (guest index from : ℕ) → List ℕ
+stuck_event guest index from =
+    codes "{\"name\":\"stuck\",\"ph\":\"i\",\"ts\":" ++ (decimal from ++ (codes ",\"pid\":" ++ (decimal guest
+    ++ (codes ",\"tid\":0,\"s\":\"p\",\"args\":{\"record\":" ++ (decimal index ++ codes "}}")))))
+
+-- the event of a frame
+abbrev pub event_line : (guest index : ℕ) → End → (from tid count : ℕ) → Option Thread → List ℕ
+event_line guest index ends.Preempt from tid count thread = run_event guest index ends.Preempt from tid count thread
+event_line guest index (ends.Call r) from tid count thread = run_event guest index (ends.Call r) from tid count thread
+event_line guest index (ends.Fault kind) from tid count thread =
+    run_event guest index (ends.Fault kind) from tid count thread
+event_line guest index ends.Stuck from tid count thread = stuck_event guest index from
+
+-- ---- laws
+
+-- if a frame ends in a call, the state after it tells the number that its thread had in a7 at the ECALL
+abbrev pub CallNumbersAreKept : Type 0
+CallNumbersAreKept =
+    (old : State) (tid count : ℕ) (r : CallRecord) (new : State)
+    (step : FrameStep old (record { tid = tid; count = count; end = ends.Call r }) new) →
+    call_number (thread_at new tid) ≡ register step.goes.answered.thread.regs 17
