@@ -7,14 +7,17 @@
 //! | `record FILE QUANTUM ..` | the same of slices of a file's first thread, made here; a `+` is a checkpoint |
 //! | `state T TOLD` | what is told of the state at T |
 //! | `MOVE N .. TOLD` | what a cursor answers to moves from the start on, and what is told of where it then is |
+//! | `follow NAME TOLD` | the instructions behind each record of that list, its refusal, and what is told of its end |
 //! | `mutate NAME OTHER N SEED` | how many pass of so many lists, changed or mixed with others |
 //! | `met N OUTCOME` | whether so many of these came to that |
 //!
 //! `state` and moves ask of the list before them. A move is `seek`, `back`, `forward` or `change`, which goes to the
 //! last change of the byte at an address. Of a state is told its `place`, its `lines`, their `digest`, or whether it
-//! took no more instructions than `within` says. A line that begins with `#` says what follows.
+//! took no more instructions than `within` says; behind `follow NAME` this may be left out. A line that begins with `#`
+//! says what follows.
 #![tactic(auto)]
 
+mod followed;
 mod lists;
 mod made;
 mod moves;

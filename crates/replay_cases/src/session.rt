@@ -1,5 +1,6 @@
 //! A recording that lines ask about.
 
+use crate::followed::tell_followed;
 use crate::lists::{joined, read_list, texts_of};
 use crate::made::record;
 use crate::moves::{Move, go, move_of};
@@ -131,6 +132,7 @@ impl Session {
         match *kind {
             "records" => self.take(alloc, &list_in(rt, rest)?),
             "record" => self.take(alloc, &record_file(rt, rest)?),
+            "follow" => tell_followed(alloc, &list_in(rt, rest)?, rest.get(1..)?),
             "mutate" => self.keep_outcomes(alloc, mutate_list(rt, rest)?),
             "met" => self.has_met(alloc, rest),
             "state" => tell_state(alloc, self.verified.as_ref()?, rest),

@@ -7,3 +7,4 @@ pub mod Onward
 pub mod Placed
 pub mod Last
 pub mod Putting
+pub mod Behind

@@ -21,6 +21,7 @@ use Rattle.replayer.specs.declared.recording.Mark.{Mark}
 use Rattle.replayer.specs.declared.verified_end.VerifiedEnd.{VerifiedEnd}
 use Rattle.replayer.specs.declared.walk.Walk.{Walk}
 use Rattle.replayer.specs.Sourced.{Followed, IsEndOf, RefusesGiven, RefusesSource, is_unreadable}
+use Rattle.replayer.specs.LastThread.{last_from, last_tid, thread_after, thread_behind}
 use Rattle.replayer.specs.Kept.{IsKeptOf, KeepsAll, KeepsOn, RowIs, instructions_in}
 use Rattle.replayer.specs.Refusals.{RefusesFirst, RefusesNext, TakesMemory}
 use Rattle.replayer.specs.Verified.{Keeps}
@@ -59,12 +60,21 @@ frames_next (items.Part p ∷ rest) it = frames_next rest it
 no_frame : (rest : List Item) (it : Item) → frames_of (it ∷ []) ≡ [] → frames_of (rest ++ it ∷ []) ≡ frames_of rest
 no_frame rest it none = frames_next rest it ∙ ap (λ fs. frames_of rest ++ fs) none ∙ append-nil (frames_of rest)
 
-counted_next : (its : List Item) (it : Item) → total (frames_of (its ++ it ∷ [])) ≡ total (frames_of its) + instructions_in it
+pub counted_next : (its : List Item) (it : Item) → total (frames_of (its ++ it ∷ [])) ≡ total (frames_of its) + instructions_in it
 counted_next its (items.Opening o) = ap (λ fs. total fs) (no_frame its (items.Opening o) refl) ∙ omega arith
 counted_next its (items.Frame f) = ap (λ fs. total fs) (frames-append its f) ∙ total-push (frames_of its) f
 counted_next its (items.Part p) = ap (λ fs. total fs) (no_frame its (items.Part p) refl) ∙ omega arith
 
-ends_next : (its : List Item) (it : Item) (base : State) (row : List Part) (s base' : State) (row' : List Part) (s' : State) → EndsIn its s → Leads it base row s base' row' s' → EndsIn (its ++ it ∷ []) s'
+last_append : (fs : List Frame) (before : ℕ) (f : Frame) → last_from before (fs ++ f ∷ []) ≡ thread_after f (last_from before fs)
+last_append [] before f = refl
+last_append (g ∷ fs) before f = last_append fs (thread_after g before) f
+
+pub last_next : (its : List Item) (it : Item) → last_tid (frames_of (its ++ it ∷ [])) ≡ thread_behind it (last_tid (frames_of its))
+last_next its (items.Opening o) = ap (λ fs. last_tid fs) (no_frame its (items.Opening o) refl)
+last_next its (items.Frame f) = ap (λ fs. last_tid fs) (frames-append its f) ∙ last_append (frames_of its) 0 f
+last_next its (items.Part p) = ap (λ fs. last_tid fs) (no_frame its (items.Part p) refl)
+
+pub ends_next : (its : List Item) (it : Item) (base : State) (row : List Part) (s base' : State) (row' : List Part) (s' : State) → EndsIn its s → Leads it base row s base' row' s' → EndsIn (its ++ it ∷ []) s'
 ends_next [] it base row s base' row' s' h leads = absurd h
 ends_next (items.Opening o ∷ rest) (items.Opening p) base row s base' row' s' h leads = absurd leads
 ends_next (items.Opening o ∷ rest) (items.Frame f) base row s base' row' s' h leads =
@@ -75,6 +85,11 @@ ends_next (items.Opening o ∷ rest) (items.Part p) base row s base' row' s' h l
 ends_next (items.Frame f ∷ rest) it base row s base' row' s' h leads = absurd h
 ends_next (items.Part p ∷ rest) it base row s base' row' s' h leads = absurd h
 
+none_ran : (it : Item) (s : State) → EndsIn (it ∷ []) s → last_tid (frames_of (it ∷ [])) ≡ 0
+none_ran (items.Opening o) s h = refl
+none_ran (items.Frame f) s h = absurd h
+none_ran (items.Part p) s h = absurd h
+
 none_counted : (it : Item) (s : State) → EndsIn (it ∷ []) s → total (frames_of (it ∷ [])) ≡ 0
 none_counted (items.Opening o) s h = refl
 none_counted (items.Frame f) s h = absurd h
@@ -82,13 +97,14 @@ none_counted (items.Part p) s h = absurd h
 
 -- the first record alone
 pub followed_first : (first : Record) (walk : Walk) → Stands first.guest (first ∷ []) (state_of walk.base) walk.row.items (state_of walk.guest) →
-    walk.row.items ≡ [] → walk.frames.items ≡ [] → walk.marks.items ≡ [] → walk.total ≡ 0 → EndsIn (first.item ∷ []) (state_of walk.guest) → Followed first (first ∷ []) walk
-followed_first first walk stands row frames marks total_is ends = record {
+    walk.row.items ≡ [] → walk.frames.items ≡ [] → walk.marks.items ≡ [] → walk.total ≡ 0 → walk.last ≡ 0 → EndsIn (first.item ∷ []) (state_of walk.guest) → Followed first (first ∷ []) walk
+followed_first first walk stands row frames marks total_is last_is ends = record {
   first_is = refl;
   stands = stands;
   keeps = λ on. rw (row, frames, marks, total_is) keeps_first;
   ends = ends;
   counted = total_is ∙ sym (none_counted first.item (state_of walk.guest) ends);
+  last = last_is ∙ sym (none_ran first.item (state_of walk.guest) ends);
 }
 
 pub first_of_list : (records : List Record) (first : Record) (rest : List Record) (walk : Walk) → records ≡ first ∷ rest → Followed first (first ∷ []) walk → Followed first (take 1 records) walk
@@ -97,10 +113,10 @@ first_of_list records first rest walk is h = subst (λ (rs : List Record). Follo
 -- one record more, behind those that were followed
 pub followed_next : (first : Record) (read : List Record) (r : Record) (old new : Walk) → 1 ≤ length read → Followed first read old →
     (old.keeps ≡ true → KeepsOn r.item old.row.items old.frames.items old.marks.items old.total new.frames.items new.marks.items new.total) →
-    RowIs r.item old.row.items new.row.items → new.keeps ≡ old.keeps → new.total ≡ old.total + instructions_in r.item →
+    RowIs r.item old.row.items new.row.items → new.keeps ≡ old.keeps → new.total ≡ old.total + instructions_in r.item → new.last ≡ thread_behind r.item old.last →
     LeadsOn first.guest (length read) r (state_of old.base) old.row.items (state_of old.guest) (state_of new.base) new.row.items (state_of new.guest) →
     Followed first (read ++ r ∷ []) new
-followed_next first read r old new some h keeps row goes_on counted leads = record {
+followed_next first read r old new some h keeps row goes_on counted last leads = record {
   first_is = first_more (λ q. q ≡ first) read (r ∷ []) h.first_is;
   stands = stands_next first.guest read r (state_of old.base) old.row.items (state_of old.guest) (state_of new.base) new.row.items (state_of new.guest) h.stands leads;
   keeps = λ on.
@@ -110,22 +126,24 @@ followed_next first read r old new some h keeps row goes_on counted leads = reco
       (ends_next (items_of read) r.item (state_of old.base) old.row.items (state_of old.guest) (state_of new.base) new.row.items (state_of new.guest) h.ends leads.leads);
   counted = counted ∙ ap (λ n. n + instructions_in r.item) h.counted ∙ sym (counted_next (items_of read) r.item)
       ∙ ap (λ (its : List Item). total (frames_of its)) (sym (items-append read r));
+  last = last ∙ ap (λ n. thread_behind r.item n) h.last ∙ sym (last_next (items_of read) r.item)
+      ∙ ap (λ (its : List Item). last_tid (frames_of its)) (sym (items-append read r));
 }
 
 -- the next record of a list
 pub followed_at : (first : Record) (records : List Record) (index : ℕ) (r : Record) (old new : Walk) → index < length records → 1 ≤ index → r ≡ get_or records index r →
     Followed first (take index records) old →
     (old.keeps ≡ true → KeepsOn r.item old.row.items old.frames.items old.marks.items old.total new.frames.items new.marks.items new.total) →
-    RowIs r.item old.row.items new.row.items → new.keeps ≡ old.keeps → new.total ≡ old.total + instructions_in r.item →
+    RowIs r.item old.row.items new.row.items → new.keeps ≡ old.keeps → new.total ≡ old.total + instructions_in r.item → new.last ≡ thread_behind r.item old.last →
     LeadsOn first.guest index r (state_of old.base) old.row.items (state_of old.guest) (state_of new.base) new.row.items (state_of new.guest) →
     Followed first (take (index + 1) records) new
-followed_at first records index r old new below some there h keeps row goes_on counted leads =
+followed_at first records index r old new below some there h keeps row goes_on counted last leads =
     let len : length (take index records) ≡ index = length-take-le index records (omega arith) in
     let one_more : index + 1 ≡ suc index = omega arith in
     let longer : take (index + 1) records ≡ take index records ++ r ∷ [] =
     ap (λ n. take n records) one_more ∙ take-suc records index r below ∙ ap (λ q. take index records ++ q ∷ []) (sym there) in
     subst (λ (rs : List Record). Followed first rs new) (sym longer)
-    (followed_next first (take index records) r old new (omega (arith, len)) h keeps row goes_on counted
+    (followed_next first (take index records) r old new (omega (arith, len)) h keeps row goes_on counted last
     (subst (λ n. LeadsOn first.guest n r (state_of old.base) old.row.items (state_of old.guest) (state_of new.base) new.row.items (state_of new.guest)) (sym len) leads))
 
 -- all that was read is kept
@@ -148,13 +166,14 @@ pub all_read : (read records : List Record) (index : ℕ) → read ≡ take inde
 all_read read records index is long = is ∙ take_all index records long
 
 -- the end of what was followed
-pub end_of : (first : Record) (read records : List Record) (walk : Walk) (end : VerifiedEnd) → Followed first read walk → read ≡ records → end.guest ≡ walk.guest → end.total ≡ walk.total → end.len ≡ length read →
+pub end_of : (first : Record) (read records : List Record) (walk : Walk) (end : VerifiedEnd) → Followed first read walk → read ≡ records → end.guest ≡ walk.guest → end.total ≡ walk.total → end.len ≡ length read → end.last ≡ walk.last →
     IsEndOf end records
-end_of first read records walk end h are guest_is total_is len_is = subst (λ (rs : List Record). IsEndOf end rs) are (record {
+end_of first read records walk end h are guest_is total_is len_is last_is = subst (λ (rs : List Record). IsEndOf end rs) are (record {
   recording = recording_of first.guest read (state_of walk.base) walk.row.items (state_of walk.guest) h.stands;
   ends = subst (λ (g : _). EndsIn (items_of read) (state_of g)) (sym guest_is) h.ends;
   total = total_is ∙ h.counted;
   len = len_is;
+  last = last_is ∙ h.last;
 })
 
 -- ---- refusals

@@ -6,3 +6,5 @@ pub mod Verified
 pub mod Kept
 pub mod Places
 pub mod Puts
+pub mod LastThread
+pub mod Following

@@ -13,6 +13,7 @@ use Rattle.replayer.specs.declared.fault.SourceFault.TheVariants as source_fault
 use Rattle.replayer.specs.declared.verified_end.VerifiedEnd.{VerifiedEnd}
 use Rattle.replayer.specs.declared.walk.Walk.{Walk}
 use Rattle.replayer.specs.Kept.{KeepsAll, KeepsOn, RowIs, instructions_in}
+use Rattle.replayer.specs.LastThread.{last_tid, thread_behind}
 use Rattle.replayer.specs.Refusals.{RefusesNext, RefusesVerify}
 use Rattle.replayer.specs.Walks.{LeadsOn, Stands}
 
@@ -41,6 +42,7 @@ pub record IsEndOf (end : VerifiedEnd) (records : List Record) : Type 0 where
   pub ends : EndsIn (items_of records) (state_of end.guest)
   pub total : end.total ≡ total (frames_of (items_of records))
   pub len : end.len ≡ length records
+  pub last : end.last ≡ last_tid (frames_of (items_of records))
 
 -- The refusals of the list. A record that isn't given is named behind those that are a recording, and memory may be wanted
 -- for each.
@@ -61,6 +63,7 @@ pub record FollowsGiven {S : Type 0} (honest : S → Type 0) (records : S → Li
       new.frames.items new.marks.items new.total
   pub goes_on : new.keeps ≡ old.keeps
   pub counted : new.total ≡ old.total + instructions_in entry.item
+  pub last : new.last ≡ thread_behind entry.item old.last
   pub row : RowIs entry.item old.row.items new.row.items
   pub grown : new.total ≤ old.total + 2 ^ 20
   pub leads : LeadsOn guest index entry (state_of old.base) old.row.items (state_of old.guest)
@@ -74,6 +77,7 @@ pub record Followed (first : Record) (records : List Record) (walk : Walk) : Typ
       → KeepsAll (drop 1 (items_of records)) walk.row.items walk.frames.items walk.marks.items walk.total
   pub ends : EndsIn (items_of records) (state_of walk.guest)
   pub counted : walk.total ≡ total (frames_of (items_of records))
+  pub last : walk.last ≡ last_tid (frames_of (items_of records))
 
 -- all records that a source gave, which are those that it stands for if it is honest
 pub record FollowsAll {S : Type 0} (honest : S → Type 0) (records : S → List Record) (source : S) (first : Record) (walk : Walk)

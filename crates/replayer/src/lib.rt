@@ -3,6 +3,7 @@
 #![tactic(auto)]
 
 mod fault;
+mod following;
 mod forward;
 pub mod laws;
 mod opened;
@@ -19,6 +20,7 @@ mod verifying;
 mod walk;
 
 pub use fault::{OutputFault, ReadGuestFault, SourceFault, VerifyFault};
+pub use following::Following;
 pub use place::Place;
 pub use reading::read_guest;
 pub use source::Source;

@@ -11,4 +11,6 @@ pub struct VerifiedEnd {
     pub total: u64,
     /// How many records there are.
     pub len: usize,
+    /// The tid of the last frame that has a thread, which is each but a stuck one; 0 if there is none.
+    pub last: u32,
 }

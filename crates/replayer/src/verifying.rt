@@ -68,6 +68,7 @@ fn kept_of(first: &Record, walk: Walk, len: usize) -> Result<Verified, VerifyFau
         frames,
         marks,
         total,
+        last: _,
     } = walk;
     let track = Track {
         opening,
@@ -127,8 +128,18 @@ pub fn verify_source_end<S: Source, W: Watch>(
         return Err(VerifyFault::BadOpening);
     }
     let first = given(alloc, source, 0)?;
-    let Walk { guest, total, .. } = follow_source(alloc, source, &first, false, watch)?;
-    Ok(VerifiedEnd { guest, total, len })
+    let Walk {
+        guest,
+        total,
+        last,
+        ..
+    } = follow_source(alloc, source, &first, false, watch)?;
+    Ok(VerifiedEnd {
+        guest,
+        total,
+        len,
+        last,
+    })
 }
 
 // Follows the records of a source of which this is the first, to the end.

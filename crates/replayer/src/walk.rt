@@ -1,6 +1,6 @@
 //! A replay, record by record.
 
-ghost use Rattle.std.specs.Prelude.{◌≡◌, ◌≤◌, ◌^◌, ◌*◌, ◌+◌, ◌++◌, ◌∷◌, [], true, IfErr, IfOk, OnOk, length};
+ghost use Rattle.std.specs.Prelude.{◌≡◌, ◌≤◌, ◌^◌, ◌*◌, ◌+◌, ◌++◌, ◌∷◌, [], true, IfErr, IfOk, OnErr, OnOk, length};
 ghost use Rattle.rrv_model.specs.declared.record.Item.TheVariants as items;
 ghost use Rattle.rrv_model.specs.Checkpoint.{Describes};
 ghost use Rattle.rrv_model.specs.Recording.{EndsIn};
@@ -8,6 +8,7 @@ ghost use Rattle.rrv_model.specs.Standing.{Leads};
 ghost use Rattle.guest_calls.specs.Guest.{state_of};
 ghost use Rattle.replayer.specs.Kept.{KeepsOn, RowIs, instructions_in};
 ghost use Rattle.replayer.specs.Refusals.{CheckpointRefused, FrameRefused, PartRefused, RefusesFirst, RefusesNext, TakesMemory};
+ghost use Rattle.replayer.specs.LastThread.{thread_after, thread_behind};
 ghost use Rattle.replayer.specs.Walks.{LeadsOn, Stands};
 
 use crate::fault::VerifyFault;
@@ -15,7 +16,7 @@ use crate::opened::{open_guest, put_parts};
 use crate::recording::Mark;
 use checkpoint::ApplyFault;
 use guest_calls::Guest;
-use rrv_model::record::{Frame, Item, Opening, Part, Record};
+use rrv_model::record::{End, Frame, Item, Opening, Part, Record};
 use rrv_model::sequence::Sequence;
 use serial_sched::{FollowFault, follow};
 use std::alloc::Global;
@@ -33,6 +34,8 @@ pub(crate) struct Walk {
     pub(crate) frames: Vec<Frame>,
     pub(crate) marks: Vec<Mark>,
     pub(crate) total: u64,
+    /// The tid of the last frame that has a thread, or 0 before there is one.
+    pub(crate) last: u32,
 }
 
 /// The walk behind a first record, which is an opening of index 0.
@@ -43,6 +46,7 @@ pub(crate) fn open_first(alloc: Global, first: &Record, keeps: bool) -> Result<W
     ensures frames { IfOk result (λ w. w.frames.items ≡ []) }
     ensures marks { IfOk result (λ w. w.marks.items ≡ []) }
     ensures total { IfOk result (λ w. w.total ≡ 0) }
+    ensures last { IfOk result (λ w. w.last ≡ 0) }
     ensures keeps { IfOk result (λ w. w.keeps ≡ keeps) }
     ensures ends { IfOk result (λ w. EndsIn (first.now.item ∷ []) (state_of w.guest)) }
     ensures opened { OnOk result (TakesMemory first.now) }
@@ -64,6 +68,7 @@ pub(crate) fn open_first(alloc: Global, first: &Record, keeps: bool) -> Result<W
         frames: Vec::new(alloc),
         marks: Vec::new(alloc),
         total: 0,
+        last: 0,
     })
 }
 
@@ -86,6 +91,16 @@ fn copied_frame(frame: &Frame) -> Result<Frame, VerifyFault>
     Ok(frame.clone()?)
 }
 
+/// The tid of the last thread that ran behind a frame, which is the one before where the frame has none.
+fn last_behind(frame: &Frame, before: u32) -> u32
+    ensures { result ≡ thread_after frame.now before }
+{
+    match &frame.end {
+        End::Stuck => before,
+        _ => frame.tid,
+    }
+}
+
 fn follow_frame(
     alloc: Global,
     walk: &mut Walk,
@@ -98,7 +113,9 @@ fn follow_frame(
         walk.new.frames.items walk.new.marks.items walk.new.total) }
     ensures goes_on { walk.new.keeps ≡ walk.old.keeps }
     ensures counted { OnOk result (walk.new.total ≡ walk.old.total + frame.now.count) }
+    ensures last { OnOk result (walk.new.last ≡ thread_after frame.now walk.old.last) }
     ensures grown { OnOk result (walk.new.total ≤ walk.old.total + 2 ^ 20) }
+    ensures stays { OnErr result (walk.new.total ≡ walk.old.total) }
     ensures leads { OnOk result (Leads (items.Frame frame.now)
         (state_of walk.old.base) walk.old.row.items (state_of walk.old.guest)
         (state_of walk.new.base) walk.new.row.items (state_of walk.new.guest)) }
@@ -113,6 +130,7 @@ fn follow_frame(
         walk.frames.push(copied_frame(frame)?)?;
     }
     walk.total += u64::from(frame.count);
+    walk.last = last_behind(frame, walk.last);
     walk.row.clear();
     Ok(())
 }
@@ -125,6 +143,7 @@ fn complete(alloc: Global, walk: &mut Walk, index: usize) -> Result<(), VerifyFa
     ensures row { OnOk result (walk.new.row.items ≡ []) }
     ensures frames { walk.new.frames.items ≡ walk.old.frames.items }
     ensures total { walk.new.total ≡ walk.old.total }
+    ensures last { walk.new.last ≡ walk.old.last }
     ensures goes_on { walk.new.keeps ≡ walk.old.keeps }
     ensures marks { walk.old.keeps ≡ true → OnOk result (walk.new.marks.items ≡ walk.old.marks.items ++ (record {
       frames = length walk.old.frames.items;
@@ -166,7 +185,8 @@ fn follow_part(alloc: Global, walk: &mut Walk, index: usize, part: &Part) -> Res
         walk.old.row.items walk.old.frames.items walk.old.marks.items walk.old.total
         walk.new.frames.items walk.new.marks.items walk.new.total) }
     ensures goes_on { walk.new.keeps ≡ walk.old.keeps }
-    ensures counted { OnOk result (walk.new.total ≡ walk.old.total) }
+    ensures counted { walk.new.total ≡ walk.old.total }
+    ensures last { walk.new.last ≡ walk.old.last }
     ensures leads { OnOk result (Leads (items.Part part.now)
         (state_of walk.old.base) walk.old.row.items (state_of walk.old.guest)
         (state_of walk.new.base) walk.new.row.items (state_of walk.new.guest)) }
@@ -195,6 +215,8 @@ pub(crate) fn follow_record(
         walk.new.frames.items walk.new.marks.items walk.new.total) }
     ensures goes_on { walk.new.keeps ≡ walk.old.keeps }
     ensures counted { OnOk result (walk.new.total ≡ walk.old.total + instructions_in entry.now.item) }
+    ensures last { OnOk result (walk.new.last ≡ thread_behind entry.now.item walk.old.last) }
+    ensures stays { OnErr result (walk.new.total ≡ walk.old.total) }
     ensures row { OnOk result (RowIs entry.now.item walk.old.row.items walk.new.row.items) }
     ensures grown { OnOk result (walk.new.total ≤ walk.old.total + 2 ^ 20) }
     ensures leads { OnOk result (LeadsOn number index entry.now

@@ -1,4 +1,4 @@
-use Rattle.std.proofs.Common.{◌≡◌, ◌+◌, ◌≤◌, List, [], ◌∷◌, ◌++◌, length, refl, ap, sym, subst, ◌∙◌, arith, length-append, Some}
+use Rattle.std.proofs.Common.{◌≡◌, ◌≤◌, List, [], ◌∷◌, ◌++◌, length, refl, ap, sym, subst, ◌∙◌, arith, length-append, Some}
 use Rattle.std.specs.Prelude.{slice_get}
 use Rattle.std.proofs.lemmas.Result.{err_from_is_err_and}
 use Rattle.rrv_model.specs.declared.record.Record.{Record}
@@ -15,7 +15,7 @@ loop-index-init g c =
     let w = c.in_ok-walk.walk in
     record {
       read = first ∷ [];
-      followed = followed_first first w c.in_ok-walk.ensures.stands c.in_ok-walk.ensures.row c.in_ok-walk.ensures.frames c.in_ok-walk.ensures.marks c.in_ok-walk.ensures.total c.in_ok-walk.ensures.ends;
+      followed = followed_first first w c.in_ok-walk.ensures.stands c.in_ok-walk.ensures.row c.in_ok-walk.ensures.frames c.in_ok-walk.ensures.marks c.in_ok-walk.ensures.total c.in_ok-walk.ensures.last c.in_ok-walk.ensures.ends;
       count = refl;
       few = omega (arith, c.len-len.ensures, c.requires);
       keeping = c.in_ok-walk.ensures.keeps;
@@ -35,7 +35,7 @@ loop-index-preserved g c =
     let some : 1 ≤ length inv.read = omega (arith, inv.count, c.loop-index.auto.index) in
     record {
       read = inv.read ++ next.entry ∷ [];
-      followed = followed_next c.args.first.now inv.read next.entry old new some inv.followed next.keeps next.row next.goes_on next.counted
+      followed = followed_next c.args.first.now inv.read next.entry old new some inv.followed next.keeps next.row next.goes_on next.counted next.last
           (subst (λ n. LeadsOn c.args.first.now.guest n next.entry (state_of old.base) old.row.items (state_of old.guest) (state_of new.base) new.row.items (state_of new.guest)) (sym inv.count) next.leads);
       count = omega (arith, inv.count, length-append inv.read (next.entry ∷ []));
       few = omega (arith, c.loop-index-test.true);

@@ -14,7 +14,7 @@ loop-index-init c =
     let first = c.in-Some.first.now in
     let w = c.in_ok-walk.walk in
     let alone : Followed first _ w = followed_first first w c.in_ok-walk.ensures.stands c.in_ok-walk.ensures.row c.in_ok-walk.ensures.frames c.in_ok-walk.ensures.marks c.in_ok-walk.ensures.total
-    c.in_ok-walk.ensures.ends in
+    c.in_ok-walk.ensures.last c.in_ok-walk.ensures.ends in
     record {
       followed = search (rules, first_of_list, alone);
       keeping = c.in_ok-walk.ensures.keeps;
@@ -26,7 +26,7 @@ loop-index-preserved c =
     let inv = c.loop-index.invariant in
     record {
       followed = followed_at c.in-Some.first.now c.args.records.now c.loop-index.index c.index-records-index.result c.loop-index.walk c.follow_record.new.walk
-          (search rules) c.loop-index.auto.index c.index-records-index.is inv.followed (search rules) (search rules) (search rules) (search rules) (search rules);
+          (search rules) c.loop-index.auto.index c.index-records-index.is inv.followed (search rules) (search rules) (search rules) (search rules) (search rules) (search rules);
       keeping = c.follow_record.ensures.goes_on ∙ inv.keeping;
       total = grind arith;
     }
