@@ -72,8 +72,11 @@ record_choices = with_rule (with_rule record_inputs
 abbrev pub record_command : App
 record_command = with_rule (with_progress record_choices) (several 1 16 (codes "ELF"))
 
+abbrev pub dump_command : App
+dump_command = with_rule (with_rule (of_guest (codes "dump")) (flag (codes "places"))) (flag (codes "trace-events"))
+
 abbrev pub verify_command : App
-verify_command = with_progress (of_guest (codes "verify"))
+verify_command = with_progress (with_rule (of_guest (codes "verify")) (flag (codes "long")))
 
 abbrev pub replay_command : App
 replay_command = with_memory (with_rule (of_guest (codes "replay")) (option (codes "at")))
@@ -108,7 +111,7 @@ writing_program = with_subcommand (with_subcommand bare_program (of_store (codes
 
 abbrev pub showing_program : App
 showing_program = with_subcommand (with_subcommand (with_subcommand writing_program (of_store (codes "list")).top)
-    (of_guest (codes "dump")).top) verify_command.top
+    dump_command.top) verify_command.top
 
 abbrev pub replaying_program : App
 replaying_program = with_subcommand (with_subcommand (with_subcommand showing_program replay_command.top)

@@ -1,11 +1,13 @@
 -- What a line of words asks for, by the command that was found and the values of its arguments.
-use Rattle.std.specs.Prelude.{◌≡◌, ◌↔◌, ◌⊎◌, ◌≤◌, ◌==◌, ℕ, Bool, List, [], Option, Some, None, cond, codes, drop, length, map, option_map, take, true}
+use Rattle.std.specs.Prelude.{◌≡◌, ◌↔◌, ◌⊎◌, ◌≤◌, ◌==◌, ℕ, Bool, false, List, [], Option, Some, None, cond, codes, drop, length, map, option_map, take, true}
 use Rattle.std.specs.Prelude.{unwrap_or}
 use Rattle.std.specs.Borrow.{Bor}
 use Rattle.std.specs.List.{AllZip, after_first, before_first}
 use Rattle.std.specs.Str.{bytes_eq}
 use Rattle.std.specs.Str.Parse.{IsNumeral, digits_value, without_leading_plus}
 use Rattle.clap.specs.Words.{Row, Text, all_of, first_of}
+use Rattle.command_line.specs.declared.request.DumpForm.{DumpForm}
+use Rattle.command_line.specs.declared.request.DumpForm.TheVariants as forms
 use Rattle.command_line.specs.declared.request.GuestOf.{GuestOf}
 use Rattle.command_line.specs.declared.request.MemoryRange.{MemoryRange}
 use Rattle.command_line.specs.declared.request.Place.{Place}
@@ -121,6 +123,17 @@ pub record NamesRecording (rows : List Row) (r : Recording) : Type 0 where
   pub then_is : HasThen rows r.then
   pub progress : HasFlag rows (codes "progress") r.progress
 
+-- one flag of two is there, or none
+abbrev pub HasForm : List Row → DumpForm → Type 0
+HasForm rows forms.Lines = HasFlag rows (codes "places") false × HasFlag rows (codes "trace-events") false
+HasForm rows forms.Places = HasFlag rows (codes "places") true × HasFlag rows (codes "trace-events") false
+HasForm rows forms.TraceEvents = HasFlag rows (codes "places") false × HasFlag rows (codes "trace-events") true
+
+pub record NamesVerify (rows : List Row) (guest : GuestOf) (long progress : Bool) : Type 0 where
+  pub guest_is : NamesGuest rows guest
+  pub long_is : HasFlag rows (codes "long") long
+  pub progress_is : HasFlag rows (codes "progress") progress
+
 -- no memory is asked for without a place
 pub record NamesReplay (rows : List Row) (guest : GuestOf) (at : Option Place) (memory : List MemoryRange) (progress : Bool) : Type 0 where
   pub guest_is : NamesGuest rows guest
@@ -155,8 +168,8 @@ HasValues requests.Demonstration rows = ⊥
 HasValues (requests.New store) rows = HasText rows (codes "STORE") store.now
 HasValues (requests.Record recording) rows = NamesRecording rows recording
 HasValues (requests.List store) rows = HasText rows (codes "STORE") store.now
-HasValues (requests.Dump guest) rows = NamesGuest rows guest
-HasValues (requests.Verify guest progress) rows = NamesGuest rows guest × HasFlag rows (codes "progress") progress
+HasValues (requests.Dump guest form) rows = NamesGuest rows guest × HasForm rows form
+HasValues (requests.Verify guest long progress) rows = NamesVerify rows guest long progress
 HasValues (requests.Replay guest at memory progress) rows = NamesReplay rows guest at memory.items progress
 HasValues (requests.Back guest from count memory progress) rows = NamesBack rows guest from count memory.items progress
 HasValues (requests.Last guest from address memory progress) rows = NamesLast rows guest from address memory.items progress
@@ -169,8 +182,8 @@ name_of requests.Demonstration = codes ""
 name_of (requests.New store) = codes "new"
 name_of (requests.Record recording) = codes "record"
 name_of (requests.List store) = codes "list"
-name_of (requests.Dump guest) = codes "dump"
-name_of (requests.Verify guest progress) = codes "verify"
+name_of (requests.Dump guest form) = codes "dump"
+name_of (requests.Verify guest long progress) = codes "verify"
 name_of (requests.Replay guest at memory progress) = codes "replay"
 name_of (requests.Back guest from count memory progress) = codes "back"
 name_of (requests.Last guest from address memory progress) = codes "last"

@@ -2,13 +2,13 @@
 
 ghost use Rattle.std.specs.Prelude.{◌≡◌, IfOk, true};
 ghost use Rattle.clap.specs.Words.{is_simple_and_free};
-ghost use Rattle.command_line.specs.Commands.{IsCommand, back_command, bare_program, choices_command, core_command, last_command, program};
-ghost use Rattle.command_line.specs.Commands.{record_choices, record_command, record_inputs, record_numbers, replay_command};
+ghost use Rattle.command_line.specs.Commands.{IsCommand, back_command, bare_program, choices_command, core_command, dump_command, last_command};
+ghost use Rattle.command_line.specs.Commands.{program, record_choices, record_command, record_inputs, record_numbers, replay_command};
 ghost use Rattle.command_line.specs.Commands.{replaying_program, showing_program, verify_command, writing_program};
 
 use crate::builder::{
-    needed, of_guest, of_guest_from, of_store, option, option_or, repeated, several, with_argument,
-    with_command, with_memory, with_progress,
+    flag, needed, of_guest, of_guest_from, of_store, option, option_or, repeated, several,
+    with_argument, with_command, with_memory, with_progress,
 };
 use clap::Command;
 use std::alloc::{AllocError, Global};
@@ -86,12 +86,28 @@ fn record<'a>(alloc: Global) -> Result<Command<'a>, AllocError>
     with_argument(command, files)
 }
 
+/// `dump STORE GUEST`.
+fn dump<'a>(alloc: Global) -> Result<Command<'a>, AllocError>
+    ensures { IfOk result (IsCommand dump_command) }
+{
+    let command = of_guest(alloc, "dump", "prints a line for each record of a guest")?;
+    let places = flag(alloc, "places", "add the places of each frame");
+    let command = with_argument(command, places)?;
+    let events = flag(
+        alloc,
+        "trace-events",
+        "print the frames as trace events in JSON, instead",
+    );
+    with_argument(command, events)
+}
+
 /// `verify STORE GUEST`.
 fn verify<'a>(alloc: Global) -> Result<Command<'a>, AllocError>
     ensures { IfOk result (IsCommand verify_command) }
 {
     let command = of_guest(alloc, "verify", "replays a guest's records and compares")?;
-    with_progress(alloc, command)
+    let long = flag(alloc, "long", "tell more of how the guest ended");
+    with_progress(alloc, with_argument(command, long)?)
 }
 
 /// `replay STORE GUEST`.
@@ -190,9 +206,8 @@ fn showing_program<'a>(alloc: Global) -> Result<Command<'a>, AllocError>
     ensures { IfOk result (IsCommand showing_program) }
 {
     let list = of_store(alloc, "list", "prints a line for each guest")?;
-    let dump = of_guest(alloc, "dump", "prints a line for each record of a guest")?;
     let command = with_command(writing_program(alloc)?, list)?;
-    let command = with_command(command, dump)?;
+    let command = with_command(command, dump(alloc)?)?;
     with_command(command, verify(alloc)?)
 }
 

@@ -15,4 +15,4 @@ mod values;
 pub use commands::program;
 pub use digits::{BadSeed, seed};
 pub use lines::line;
-pub use request::{GuestOf, MemoryRange, Place, Recording, Request, Then};
+pub use request::{DumpForm, GuestOf, MemoryRange, Place, Recording, Request, Then};

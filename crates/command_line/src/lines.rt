@@ -39,7 +39,8 @@ fn bad_value(alloc: Global, unread: &Unread<'_>) -> Result<Error, AllocError>
 /// version, are the parser's error, whose text says so. So is a value that its argument can't have: GUEST, N and the places FROM,
 /// T and AT are decimal and have 64 bits, or a place is `end`; `--quantum` lies from 64 to 1,048,576, `--every` from 0 to
 /// 4,294,967,295; ADDR has 1 to 8 hexadecimal digits, with `0x` before them or not, and LEN lies from 1 to 65,536; `--then` is
-/// `turns` or `none`. So are `--choices` given neither once nor once for each program, and `replay` with `--memory` and no `--at`.
+/// `turns` or `none`. So are `--choices` given neither once nor once for each program, `replay` with `--memory` and no `--at`, and `dump` with both
+/// `--places` and `--trace-events`.
 pub fn line<'a, S: AsStr>(alloc: Global, words: &'a [S]) -> Result<Request<'a>, Error>
     ensures none { length words.now ≡ 0 → result ≡ Ok Request.Demonstration }
     ensures asked { 1 ≤ length words.now

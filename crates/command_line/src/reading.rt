@@ -3,11 +3,12 @@
 ghost use Rattle.std.specs.Prelude.{◌≡◌, ◌≤◌, IfErr, IfOk, List, Some, codes, length, map, ℕ};
 ghost use Rattle.clap.specs.Words.{Text, all_of, found_of, rows_of};
 ghost use Rattle.command_line.specs.Commands.{IsCommandName};
-ghost use Rattle.command_line.specs.Request.{Asks, HasNumberIn, IsChoicesCount, NamesRecording, texts_of};
+ghost use Rattle.command_line.specs.declared.request.DumpForm.{DumpForm};
+ghost use Rattle.command_line.specs.Request.{Asks, HasForm, HasNumberIn, IsChoicesCount, NamesRecording, texts_of};
 ghost use Rattle.command_line.specs.Unread.{OnBad};
 
 use crate::memory::{memory, memory_at};
-use crate::request::{Recording, Request};
+use crate::request::{DumpForm, Recording, Request};
 use crate::unread::Unread;
 use crate::values::{
     address, flag, guest, number, place, place_or_none, several_or_none, text, text_or_none, texts,
@@ -120,6 +121,22 @@ fn list<'a>(values: &ArgMatches<'a>) -> Result<Request<'a>, Unread<'a>>
     Ok(Request::List { store })
 }
 
+/// How `dump` is to print records.
+fn form<'a>(values: &ArgMatches<'a>) -> Result<DumpForm, Unread<'a>>
+    ensures found { IfOk result (HasForm (rows_of (found_of values.now))) }
+    ensures none { IfErr result (λ e. OnBad e
+        ((form : DumpForm) → HasForm (rows_of (found_of values.now)) form → ⊥)) }
+{
+    let places = flag(values, "places");
+    let events = flag(values, "trace-events");
+    match (places, events) {
+        (false, false) => Ok(DumpForm::Lines),
+        (true, false) => Ok(DumpForm::Places),
+        (false, true) => Ok(DumpForm::TraceEvents),
+        (true, true) => Err(Unread::TwoForms),
+    }
+}
+
 /// `dump STORE GUEST`.
 fn dump<'a>(values: &ArgMatches<'a>) -> Result<Request<'a>, Unread<'a>>
     ensures asked { IfOk result (λ r. Asks r (codes "dump", rows_of (found_of values.now))) }
@@ -127,7 +144,8 @@ fn dump<'a>(values: &ArgMatches<'a>) -> Result<Request<'a>, Unread<'a>>
         ((r : Request) → Asks r (codes "dump", rows_of (found_of values.now)) → ⊥)) }
 {
     let guest = guest(values)?;
-    Ok(Request::Dump { guest })
+    let form = form(values)?;
+    Ok(Request::Dump { guest, form })
 }
 
 /// `verify STORE GUEST`.
@@ -137,8 +155,13 @@ fn verify<'a>(values: &ArgMatches<'a>) -> Result<Request<'a>, Unread<'a>>
         ((r : Request) → Asks r (codes "verify", rows_of (found_of values.now)) → ⊥)) }
 {
     let guest = guest(values)?;
+    let long = flag(values, "long");
     let progress = flag(values, "progress");
-    Ok(Request::Verify { guest, progress })
+    Ok(Request::Verify {
+        guest,
+        long,
+        progress,
+    })
 }
 
 /// `replay STORE GUEST`.

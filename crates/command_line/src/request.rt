@@ -17,13 +17,15 @@ pub enum Request<'a> {
     List {
         store: &'a str,
     },
-    /// `dump STORE GUEST`: a line for each record of a guest.
+    /// `dump STORE GUEST`: prints the records of a guest.
     Dump {
         guest: GuestOf<'a>,
+        form: DumpForm,
     },
-    /// `verify STORE GUEST`: replays a guest's records and compares.
+    /// `verify STORE GUEST`: replays a guest's records and compares. `long`: it tells more of the guest's end.
     Verify {
         guest: GuestOf<'a>,
+        long: bool,
         progress: bool,
     },
     /// `replay STORE GUEST`: puts the guest's output out again, or prints the state at a place, with the bytes of `memory`.
@@ -72,6 +74,17 @@ pub enum Place {
     At(u64),
     /// Behind the last instruction.
     End,
+}
+
+/// How the records of a guest are printed.
+#[derive(Clone, Copy, Debug, PartialEq, Eq)]
+pub enum DumpForm {
+    /// A line for each.
+    Lines,
+    /// The same, and the places of each frame.
+    Places,
+    /// The frames, as trace events.
+    TraceEvents,
 }
 
 /// Bytes of a guest's memory.

@@ -52,6 +52,9 @@ pub(crate) enum Unread<'a> {
         count: usize,
         programs: usize,
     },
+    /// Records are to be printed in two ways at once.
+    #[error("--places cannot be used with --trace-events")]
+    TwoForms,
     /// A growth was refused.
     #[error("out of memory")]
     Memory,

@@ -7,3 +7,4 @@ pub mod JobLists
 pub mod Cores
 pub mod MisfitLists
 pub mod ChoiceLists
+pub mod TurnTexts

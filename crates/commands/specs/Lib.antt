@@ -7,3 +7,4 @@ pub mod Printed
 pub mod Jobs
 pub mod Cores
 pub mod Misfits
+pub mod Turns

@@ -10,6 +10,8 @@ ghost use Rattle.commands.specs.Stores.{IsFailed, RefusesDump, RefusesList};
 use crate::printing::{finish, in_blocks, print_line};
 use crate::refusal::Refusal;
 use crate::store::{Store, guest_in, record_in};
+use crate::turns::print_turns;
+use command_line::DumpForm;
 use recover::Lists;
 use rrv_model::record::{Item, Record};
 use std::alloc::Global;
@@ -155,15 +157,21 @@ pub(crate) fn list<D: Disk + Drop, O: Write>(
     finish(&mut out)
 }
 
-/// Prints the records of a guest in blocks.
+/// Prints the records of a guest in blocks. Where that takes a replay, those before a record that is refused are printed.
 pub(crate) fn dump<D: Disk + Drop, O: Write>(
     alloc: Global,
     store: Store<D>,
     number: u64,
+    form: DumpForm,
     out: &mut O,
 ) -> Result<(), Refusal> {
     let Store { lists, mut disk } = store;
     let mut out = in_blocks(alloc, out)?;
-    print_records(alloc, &lists, &mut disk, number, &mut out)?;
+    match form {
+        DumpForm::Lines => print_records(alloc, &lists, &mut disk, number, &mut out)?,
+        DumpForm::Places | DumpForm::TraceEvents => {
+            print_turns(alloc, &lists, &mut disk, number, form, &mut out)?;
+        }
+    }
     finish(&mut out)
 }

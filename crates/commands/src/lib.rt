@@ -21,6 +21,7 @@ mod store;
 mod stored;
 mod terminals;
 mod trial;
+mod turns;
 mod verifying;
 
 pub use files::read_program;

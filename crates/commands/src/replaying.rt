@@ -6,9 +6,11 @@ ghost use Rattle.guest_calls.specs.Guest.{state_of};
 ghost use Rattle.trace_text.specs.Lines.{verify_line};
 ghost use Rattle.commands.specs.Printed.{with_newline};
 ghost use Rattle.commands.specs.Stores.{RefusesPrint};
+ghost use Rattle.commands.specs.Turns.{end_told};
 
-use crate::printing::{finish, in_blocks, print_line, print_put};
+use crate::printing::{finish, in_blocks, print_line, print_put, print_text};
 use crate::refusal::Refusal;
+use end_text::EndLines;
 use replayer::{Verified, VerifiedEnd};
 use rrv_model::sink::{Sink, SinkError};
 use std::alloc::Global;
@@ -26,10 +28,29 @@ fn print_end<W: Write>(end: &VerifiedEnd, out: &mut W) -> Result<(), Refusal>
     print_line(out, &line)
 }
 
+/// Prints the same and, where `is_long` says so, what ended the guest.
+fn print_told<W: Write>(end: &VerifiedEnd, is_long: bool, out: &mut W) -> Result<(), Refusal>
+    ensures printed { OnOk result (Appends (W.contents out.old) (W.contents out.new)
+        (end_told is_long end.now.len end.now.total end.now.last (state_of end.now.guest))) }
+    ensures refused { IfErr result RefusesPrint }
+{
+    print_end(end, out)?;
+    if !is_long {
+        return Ok(());
+    }
+    let lines = EndLines::new(&end.guest, end.total, end.last);
+    print_text(out, &lines)
+}
+
 /// Prints the same in blocks.
-pub(crate) fn tell<O: Write>(alloc: Global, end: &VerifiedEnd, out: &mut O) -> Result<(), Refusal> {
+pub(crate) fn tell<O: Write>(
+    alloc: Global,
+    end: &VerifiedEnd,
+    is_long: bool,
+    out: &mut O,
+) -> Result<(), Refusal> {
     let mut out = in_blocks(alloc, out)?;
-    print_end(end, &mut out)?;
+    print_told(end, is_long, &mut out)?;
     finish(&mut out)
 }
 

@@ -140,10 +140,16 @@ fn perform<
         Request::New { store } => make_store(rt, store),
         Request::Record(recording) => record(rt, &recording, terminals, out, err),
         Request::List { store } => list(alloc, open_store(rt, store)?, out),
-        Request::Dump { guest } => dump(alloc, open_store(rt, guest.store)?, guest.number, out),
-        Request::Verify { guest, progress } => {
+        Request::Dump { guest, form } => {
+            dump(alloc, open_store(rt, guest.store)?, guest.number, form, out)
+        }
+        Request::Verify {
+            guest,
+            long,
+            progress,
+        } => {
             let end = guest_end(rt, guest, progress || terminals.err, err)?;
-            tell(alloc, &end, out)
+            tell(alloc, &end, long, out)
         }
         Request::Replay {
             guest,

@@ -5,4 +5,9 @@ use Rattle.command_line.proofs.reading.dump.Goals as goal
 pub returns-in_err-guest-clause-none : goal.returns-in_err-guest-clause-none
 returns-in_err-guest-clause-none c =
     passed c.from_residual.result c.in_err-guest.field-0.0 c.from_residual.ensures.1
-    (λ none request asks. let asked = asks_dump request (rows_of (found_of c.args.values.now)) asks in none asked.0 asked.1) c.in_err-guest.ensures.none
+    (λ none request asks. let asked = asks_dump request (rows_of (found_of c.args.values.now)) asks in none asked.0 asked.2) c.in_err-guest.ensures.none
+
+pub returns-in_err-form-clause-none : goal.returns-in_err-form-clause-none
+returns-in_err-form-clause-none c =
+    passed c.from_residual-in_err-form.result c.in_err-form.field-0.0 c.from_residual-in_err-form.ensures.1
+    (λ none request asks. let asked = asks_dump request (rows_of (found_of c.args.values.now)) asks in none asked.1 asked.3) c.in_err-form.ensures.none
