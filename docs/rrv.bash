@@ -43,9 +43,11 @@ _rrv() {
         return
     fi
     case ${COMP_WORDS[1]} in
-        new | list | dump) ;;
+        new | list) ;;
+        dump) options+=' --places --trace-events' ;;
         record) options+=' --quantum --every --input --seed --choices --then --progress' ;;
-        verify | choices | core) options+=' --progress' ;;
+        verify) options+=' --long --progress' ;;
+        choices | core) options+=' --progress' ;;
         replay) options+=' --at --memory --progress' ;;
         back | last) options+=' --memory --progress' ;;
         *) return ;;
