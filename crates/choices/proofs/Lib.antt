@@ -2,4 +2,7 @@ pub mod Texts
 pub mod Schedules
 pub mod OwnSlices
 pub mod SaidChoices
+pub mod Scheduled
+pub mod Again
+pub mod OwnRun
 mod Examples

@@ -35,7 +35,7 @@ front_of (ends.Fault kind) n m tid s after low p = front n (m - 1) tid s after (
 front_of ends.Memory n m tid s after low p = absurd p
 
 -- an end before which another run goes on is that of plain steps
-earlier : (end other : RunEnd) (n m tid : ℕ) (s a b : State) → n < m → Reaches end n tid s a → Reaches other m tid s b → end ≡ ends.Limit
+pub earlier : (end other : RunEnd) (n m tid : ℕ) (s a b : State) → n < m → Reaches end n tid s a → Reaches other m tid s b → end ≡ ends.Limit
 earlier end other n m tid s a b low p q =
     let on = front_of other n m tid s b low q in one_run_end end ends.Limit n tid s a on.0 p on.1
 
@@ -46,13 +46,17 @@ run_end (frame_ends.Fault kind) = ends.Fault kind
 run_end frame_ends.Stuck = ends.Memory
 
 -- a frame that isn't stuck reaches its end
-reaches : (end : End) (old : State) (tid count : ℕ) (new : State) → ¬ (end ≡ frame_ends.Stuck) → FrameStepBy end old tid count new →
+pub reaches : (end : End) (old : State) (tid count : ℕ) (new : State) → ¬ (end ≡ frame_ends.Stuck) → FrameStepBy end old tid count new →
     (1 ≤ count) × (last : State) × Reaches (run_end end) count tid old last
 reaches frame_ends.Preempt old tid count new runs p = (p.some, p.last, p.steps)
 reaches (frame_ends.Call r) old tid count new runs p =
     (p.some, p.called, record { some = p.some; before = p.before; steps = p.steps; calls = p.calls })
 reaches (frame_ends.Fault kind) old tid count new runs p = (p.some, p.before, record { some = p.some; steps = p.steps; faults = p.faults })
 reaches frame_ends.Stuck old tid count new runs p = absurd (runs refl)
+
+-- the thread of a frame that isn't stuck was running
+pub frame_runs : (end : End) (old : State) (tid count : ℕ) (new : State) → ¬ (end ≡ frame_ends.Stuck) → FrameStepBy end old tid count new → IsRunning (thread_at old tid)
+frame_runs end old tid count new runs p = let r = reaches end old tid count new runs p in running_at (run_end end) count tid old r.1 r.0 r.2
 
 -- ---- two slices of one choice
 
@@ -73,7 +77,7 @@ quantum_or None = 0
 quantum_or (Some choice) = choice.quantum
 
 -- the quantum of a frame's choice: as many instructions as the frame counts, and just so many where it was preempted
-chosen : (end : End) (tid count : ℕ) (choice : Choice) → choice_by_end end tid count ≡ Some choice →
+pub chosen : (end : End) (tid count : ℕ) (choice : Choice) → choice_by_end end tid count ≡ Some choice →
     (choice.tid ≡ tid) × (count ≤ choice.quantum) × (run_end end ≡ ends.Limit → choice.quantum ≡ count) × ¬ (end ≡ frame_ends.Stuck)
 chosen frame_ends.Preempt tid count choice is = let e = whole (nat_le MIN_QUANTUM count) is in (e.0, omega (arith, e.1), λ _. e.1, λ stuck. absurd cc) where
   whole : (b : Bool) → cond b (Some (record { tid = tid; quantum = count })) None ≡ Some choice → (choice.tid ≡ tid) × (choice.quantum ≡ count)
@@ -122,7 +126,7 @@ fitting (frame_ends.Call r) old g choice runs fits uncut = (fits.0, fits.1, λ e
 fitting (frame_ends.Fault kind) old g choice runs fits uncut = (fits.0, fits.1, λ e. absurd cc)
 fitting frame_ends.Stuck old g choice runs fits uncut = absurd (runs refl)
 
-same_end : (end other : End) → run_end end ≡ run_end other → IsSameEnd end other
+pub same_end : (end other : End) → run_end end ≡ run_end other → IsSameEnd end other
 same_end frame_ends.Preempt frame_ends.Preempt e = refl
 same_end frame_ends.Preempt (frame_ends.Call r) e = absurd cc
 same_end frame_ends.Preempt (frame_ends.Fault kind) e = absurd cc
@@ -147,11 +151,11 @@ one_end (frame_ends.Call r) other alike none = absurd cc
 one_end (frame_ends.Fault kind) other alike none = alike
 one_end frame_ends.Stuck other alike none = alike
 
-one_frame : (f g : Frame) → g.tid ≡ f.tid → g.count ≡ f.count → g.end ≡ f.end → g ≡ f
+pub one_frame : (f g : Frame) → g.tid ≡ f.tid → g.count ≡ f.count → g.end ≡ f.end → g ≡ f
 one_frame f g tids counts ends_alike = λ i. record { tid = tids i; count = counts i; end = ends_alike i }
 
 -- where a frame leads on, no frame says that no thread runs
-not_stuck : (end : End) (old : State) (tid count : ℕ) (other : State) → (t : ℕ) → IsRunning (thread_at old t) → FrameStepBy end old tid count other → ¬ (end ≡ frame_ends.Stuck)
+pub not_stuck : (end : End) (old : State) (tid count : ℕ) (other : State) → (t : ℕ) → IsRunning (thread_at old t) → FrameStepBy end old tid count other → ¬ (end ≡ frame_ends.Stuck)
 not_stuck frame_ends.Preempt old tid count other t running p = λ e. absurd cc
 not_stuck (frame_ends.Call r) old tid count other t running p = λ e. absurd cc
 not_stuck (frame_ends.Fault kind) old tid count other t running p = λ e. absurd cc
@@ -178,7 +182,7 @@ choices_tell_slices old f new choice step is g other step' fits uncut =
 
 -- ---- tids
 
-lives : (P : Type 0) (o : Option Thread) → IsRunning o → IfSome o (λ _. P) → P
+pub lives : (P : Type 0) (o : Option Thread) → IsRunning o → IfSome o (λ _. P) → P
 lives P None running p = absurd running
 lives P (Some t) running p = p
 

@@ -177,7 +177,7 @@ text_says_choices (f ∷ frames) of =
 
 -- ---- recordings
 
-all_cons : (P : Frame → Type 0) (f : Frame) (frames : List Frame) → P f → All P frames → All P (f ∷ frames)
+pub all_cons : (P : Frame → Type 0) (f : Frame) (frames : List Frame) → P f → All P frames → All P (f ∷ frames)
 all_cons P f frames first rest = at where
   at : (k : ℕ) (d : Frame) → k < length (f ∷ frames) → P (get_or (f ∷ frames) k d)
   at zero d low = first

@@ -3,9 +3,9 @@ use Rattle.std.proofs.Common.{◌≡◌, ◌∙◌, ℕ, zero, suc, ◌<◌, ◌
 use Rattle.std.specs.Prelude.{Contains}
 use Rattle.std.proofs.lemmas.Bool.Decides.{nat_tests}
 use Rattle.rrv_model.specs.declared.record.Choice.{Choice}
-use Rattle.serial_sched.specs.Turns.{turn}
+use Rattle.serial_sched.specs.Turns.{turn, IsTurn}
 use Rattle.choices.specs.declared.schedule.Misfit.{Misfit}
-use Rattle.choices.specs.Schedule.{Plan, AreBehind, AreTurns, Chooses, ChoosesInTurn, EmptyListIsTurns, IsOver, IsSchedule, IsTurn, OneTurn, SchedulesAreLists, TakesListed, TakesNone, TakesTurn, first_misfit, last_tid, plan, refused}
+use Rattle.choices.specs.Schedule.{Plan, AreBehind, AreTurns, Chooses, ChoosesInTurn, EmptyListIsTurns, IsOver, IsSchedule, OneTurn, SchedulesAreLists, TakesListed, TakesNone, TakesTurn, first_misfit, last_tid, plan, refused}
 
 -- ---- behind the list
 

@@ -1,3 +1,5 @@
 pub mod ChoiceText
 pub mod Schedule
+pub mod Scheduled
 pub mod Recorded
+pub mod Again

@@ -1,8 +1,8 @@
 -- A schedule: the choices of a list while they fit, and then turns, or nothing.
-use Rattle.std.specs.Prelude.{◌≡◌, ◌⊎◌, ℕ, ◌+◌, ◌<◌, ◌≤◌, ◌^◌, Bool, true, false, List, [], ◌∷◌, length, map, take, drop, slice_index, Option, Some, None, IfSome, All, Contains, EachIndex}
+use Rattle.std.specs.Prelude.{◌≡◌, ◌⊎◌, ℕ, ◌+◌, ◌<◌, ◌≤◌, ◌^◌, Bool, true, false, List, [], ◌∷◌, length, map, take, drop, Option, Some, None, IfSome, All}
 use Rattle.rrv_model.specs.declared.record.Choice.{Choice}
 use Rattle.serial_sched.specs.Slices.{IsQuantum}
-use Rattle.serial_sched.specs.Turns.{turn, CanChoose, IsCutShort}
+use Rattle.serial_sched.specs.Turns.{CanChoose, IsCutShort, IsTurn}
 use Rattle.choices.specs.declared.schedule.Misfit.{Misfit}
 
 -- What contracts see of a schedule: the choices of the list that are left, how many were taken, the first that didn't
@@ -47,12 +47,6 @@ first_misfit (Some misfit) left taken = Some misfit
 
 abbrev pub refused : Plan → Plan
 refused p = record p { misfit = first_misfit p.misfit p.left p.taken }
-
--- the runnable thread whose turn comes first behind the last one, for a quantum
-pub record IsTurn (quantum last : ℕ) (runnable : List ℕ) (choice : Choice) : Type 0 where
-  pub among : Contains runnable choice.tid
-  pub least : EachIndex runnable (λ k. turn last choice.tid ≤ turn last (slice_index runnable k))
-  pub quantum_is : choice.quantum ≡ quantum
 
 -- the list is over, and it is this thread's turn
 pub record TakesTurn (runnable : List ℕ) (old : Plan) (choice : Choice) (new : Plan) : Type 0 where

@@ -1,8 +1,10 @@
 //! Laws of texts, of schedules and of a recording's choices: functions that do nothing, whose contracts are the laws.
 
+ghost use Rattle.choices.specs.Again.{FramesRunAgain, RecordingsFollow, RunAgainIsAlike, RunAgainIsSame, RunAgainIsWhole};
 ghost use Rattle.choices.specs.ChoiceText.{BadTextsSayNothing};
 ghost use Rattle.choices.specs.Recorded.{ChoicesTellSlices, FramesAreOfGuests, FramesFitChoices, RecordingsSayChoices, TextSaysChoices};
 ghost use Rattle.choices.specs.Schedule.{EmptyListIsTurns, OneTurn, SchedulesAreLists};
+ghost use Rattle.choices.specs.Scheduled.{LastChosenRanLast, NothingKeepsLast};
 
 /// A text with a first bad line says no choices.
 pub fn bad_texts_say_nothing()
@@ -37,4 +39,21 @@ pub fn frames_fit_choices()
 /// A frame's choice has no other slice from the same state, but for what a call was answered and for want of memory.
 pub fn choices_tell_slices()
     ensures { ChoicesTellSlices }
+{}
+
+/// The thread that a schedule chose last is the one that ran last, also where it then chose nothing.
+pub fn last_chosen_ran_last()
+    ensures ran { LastChosenRanLast }
+    ensures nothing { NothingKeepsLast }
+{}
+
+/// Recorded again by its printed choices, a guest can run the same frames, and no others up to the first of which a
+/// call is answered otherwise, or which want of memory cuts short. Where there is none, it runs all of them before it
+/// ends. They may be those of a recording, from where its guest starts.
+pub fn run_again_is_same()
+    ensures allowed { FramesRunAgain }
+    ensures alike { RunAgainIsAlike }
+    ensures same { RunAgainIsSame }
+    ensures whole { RunAgainIsWhole }
+    ensures recordings { RecordingsFollow }
 {}

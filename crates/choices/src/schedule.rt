@@ -2,8 +2,8 @@
 
 ghost use Rattle.std.specs.Prelude.{◌≡◌, ◌≤◌, ◌↔◌, ◌⊎◌, length, Contains, IfSome, IsNone, IsSome, IsTrue, Some, None};
 ghost use Rattle.serial_sched.specs.Slices.{IsQuantum};
-ghost use Rattle.serial_sched.specs.Turns.{CanChoose};
-ghost use Rattle.choices.specs.Schedule.{Chooses, IsOver, IsTurn, TakesListed, plan, refused};
+ghost use Rattle.serial_sched.specs.Turns.{CanChoose, IsTurn};
+ghost use Rattle.choices.specs.Schedule.{Chooses, IsOver, TakesListed, plan, refused};
 
 use rrv_model::limits::{MAX_QUANTUM, MIN_QUANTUM};
 use rrv_model::record::Choice;
@@ -87,6 +87,13 @@ impl Schedule {
         self.misfit
     }
 
+    /// The tid that it chose last; 0 before its first choice.
+    pub fn last(&self) -> u32
+        ensures { result ≡ self.now.last }
+    {
+        self.last
+    }
+
     /// The next choice of the list, where it goes on.
     fn next_listed(&mut self, runnable: &[u32]) -> Option<Choice>
         ensures some { IfSome result (λ choice. TakesListed runnable.now self.old choice self.new) }
@@ -114,6 +121,8 @@ impl Schedule {
 
 impl Chooser for Schedule {
     ghost is_done = { λ s. IsTrue s.done };
+
+    ghost chooses = { λ old runnable result new. Chooses runnable old result new };
 
     fn next(&mut self, runnable: &[u32]) -> Option<Choice>
         requires { 1 ≤ length runnable.now }

@@ -7,10 +7,11 @@ use Rattle.rrv_model.specs.Recording.{EndsIn, frames_of, items_of}
 use Rattle.rrv_model.specs.StateAt.{total}
 use Rattle.rrv_model.proofs.RunLaws.{items-append}
 use Rattle.guest_calls.specs.Guest.{state_of}
+use Rattle.serial_sched.specs.LastThread.{last_tid}
 use Rattle.replayer.specs.declared.fault.VerifyFault.{VerifyFault}
 use Rattle.replayer.specs.Following.{FollowingValue, IsBehind}
 use Rattle.replayer.specs.Kept.{instructions_in}
-use Rattle.replayer.specs.LastThread.{last_tid, thread_behind}
+use Rattle.replayer.specs.LastThread.{thread_behind}
 use Rattle.replayer.specs.Refusals.{RefusesNext, RefusesVerify, TakesMemory}
 use Rattle.replayer.specs.Walks.{LeadsOn, Stands}
 use Rattle.replayer.proofs.Sourced.{counted_next, ends_next, first_more, last_next}

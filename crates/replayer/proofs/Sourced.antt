@@ -15,13 +15,14 @@ use Rattle.rrv_model.specs.Standing.{Leads}
 use Rattle.rrv_model.specs.StateAt.{StateAtFrom, total}
 use Rattle.rrv_model.proofs.RunLaws.{at_total_append, frames-append, items-append}
 use Rattle.guest_calls.specs.Guest.{state_of}
+use Rattle.serial_sched.specs.LastThread.{last_from, last_tid, thread_after}
 use Rattle.replayer.specs.declared.fault.VerifyFault.{VerifyFault}
 use Rattle.replayer.specs.declared.fault.VerifyFault.TheVariants as faults
 use Rattle.replayer.specs.declared.recording.Mark.{Mark}
 use Rattle.replayer.specs.declared.verified_end.VerifiedEnd.{VerifiedEnd}
 use Rattle.replayer.specs.declared.walk.Walk.{Walk}
 use Rattle.replayer.specs.Sourced.{Followed, IsEndOf, RefusesGiven, RefusesSource, is_unreadable}
-use Rattle.replayer.specs.LastThread.{last_from, last_tid, thread_after, thread_behind}
+use Rattle.replayer.specs.LastThread.{thread_behind}
 use Rattle.replayer.specs.Kept.{IsKeptOf, KeepsAll, KeepsOn, RowIs, instructions_in}
 use Rattle.replayer.specs.Refusals.{RefusesFirst, RefusesNext, TakesMemory}
 use Rattle.replayer.specs.Verified.{Keeps}

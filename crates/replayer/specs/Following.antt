@@ -9,9 +9,9 @@ use Rattle.rrv_model.specs.FrameStep.{FrameStep}
 use Rattle.rrv_model.specs.Recording.{EndsIn, IsRecording, frames_of, items_of}
 use Rattle.rrv_model.specs.StateAt.{total}
 use Rattle.guest_calls.specs.Guest.{GuestValue, state_of}
+use Rattle.serial_sched.specs.LastThread.{last_tid}
 use Rattle.replayer.specs.declared.fault.VerifyFault.{VerifyFault}
 use Rattle.replayer.specs.declared.fault.VerifyFault.TheVariants as faults
-use Rattle.replayer.specs.LastThread.{last_tid}
 use Rattle.replayer.specs.Refusals.{TakesMemory}
 use Rattle.replayer.specs.Walks.{Stands}
 

@@ -6,6 +6,7 @@ use Rattle.rrv_model.specs.State.{State}
 use Rattle.rrv_model.specs.Recording.{EndsIn, IsRecording, frames_of, items_of}
 use Rattle.rrv_model.specs.StateAt.{total}
 use Rattle.guest_calls.specs.Guest.{state_of}
+use Rattle.serial_sched.specs.LastThread.{last_tid}
 use Rattle.replayer.specs.declared.fault.VerifyFault.{VerifyFault}
 use Rattle.replayer.specs.declared.fault.VerifyFault.TheVariants as faults
 use Rattle.replayer.specs.declared.fault.SourceFault.{SourceFault}
@@ -13,7 +14,7 @@ use Rattle.replayer.specs.declared.fault.SourceFault.TheVariants as source_fault
 use Rattle.replayer.specs.declared.verified_end.VerifiedEnd.{VerifiedEnd}
 use Rattle.replayer.specs.declared.walk.Walk.{Walk}
 use Rattle.replayer.specs.Kept.{KeepsAll, KeepsOn, RowIs, instructions_in}
-use Rattle.replayer.specs.LastThread.{last_tid, thread_behind}
+use Rattle.replayer.specs.LastThread.{thread_behind}
 use Rattle.replayer.specs.Refusals.{RefusesNext, RefusesVerify}
 use Rattle.replayer.specs.Walks.{LeadsOn, Stands}
 

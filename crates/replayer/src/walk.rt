@@ -6,9 +6,10 @@ ghost use Rattle.rrv_model.specs.Checkpoint.{Describes};
 ghost use Rattle.rrv_model.specs.Recording.{EndsIn};
 ghost use Rattle.rrv_model.specs.Standing.{Leads};
 ghost use Rattle.guest_calls.specs.Guest.{state_of};
+ghost use Rattle.serial_sched.specs.LastThread.{thread_after};
 ghost use Rattle.replayer.specs.Kept.{KeepsOn, RowIs, instructions_in};
 ghost use Rattle.replayer.specs.Refusals.{CheckpointRefused, FrameRefused, PartRefused, RefusesFirst, RefusesNext, TakesMemory};
-ghost use Rattle.replayer.specs.LastThread.{thread_after, thread_behind};
+ghost use Rattle.replayer.specs.LastThread.{thread_behind};
 ghost use Rattle.replayer.specs.Walks.{LeadsOn, Stands};
 
 use crate::fault::VerifyFault;

@@ -3,3 +3,4 @@ pub mod Ecalls
 pub mod RecordedAnswers
 pub mod SliceLaws
 pub mod FollowLaws
+pub mod Chosen

@@ -12,7 +12,7 @@ use Rattle.rrv_model.specs.declared.syscall.Syscall.TheVariants.{Write, Writev}
 use Rattle.rrv_model.specs.Words.{minus}
 use Rattle.rrv_model.specs.Memory.{Memory}
 use Rattle.rrv_model.specs.State.{State, register, thread_at, with_thread, IsRunning}
-use Rattle.rrv_model.specs.Step.{ThreadMayStore, ThreadMayTakeMemory}
+use Rattle.rrv_model.specs.Step.{ThreadMayTakeMemory}
 use Rattle.rrv_model.specs.CallRows.{change_thread, syscall_of}
 use Rattle.rrv_model.specs.Calls.{Answer, Calls}
 use Rattle.rrv_model.specs.FrameStep.{EndsInCall, FrameStep, Steps, closed, closed_at_end}
@@ -21,7 +21,7 @@ use Rattle.rrv_model.specs.RecordText.{HasCallText, HasFrameText, HasTidAndCount
 use Rattle.guest_calls.specs.Guest.{GuestValue, chunks_of, counted, state_of}
 use Rattle.guest_calls.specs.Snapshots.{guest_snapshots}
 use Rattle.guest_calls.specs.Runs.{RunsToCall, RunsToFault, before_call}
-use Rattle.guest_calls.specs.Asking.{Question, CallAsks, CallIsAnswered}
+use Rattle.guest_calls.specs.Asking.{CallAsks, CallIsAnswered}
 use Rattle.guest_calls.specs.Growth.{CallMayGrow}
 use Rattle.serial_sched.specs.Asking.{Gives}
 use Rattle.serial_sched.specs.Slices.{CanRun, FitsChoice, IsSliceOf, IsUntouched, IsWhole, NextMayGrow}

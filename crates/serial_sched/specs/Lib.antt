@@ -3,3 +3,5 @@ pub mod Answered
 pub mod Asking
 pub mod Slices
 pub mod Turns
+pub mod Chosen
+pub mod LastThread

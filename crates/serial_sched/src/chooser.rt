@@ -1,9 +1,10 @@
 //! Who runs next.
 
 ghost use Rattle.std.specs.Prelude.{◌≡◌, ◌≤◌, ◌↔◌, ◌⊎◌, ◌∷◌, length, Contains, EachIndex, IfSome, IsFalse, IsNone};
-ghost use Rattle.std.specs.Prelude.{IsSome, IsTrue, false, slice_index};
+ghost use Rattle.std.specs.Prelude.{ℕ, List, Option, IsSome, IsTrue, false, slice_index};
+ghost use Rattle.rrv_model.specs.declared.record.Choice.{Choice};
 ghost use Rattle.serial_sched.specs.Slices.{IsQuantum};
-ghost use Rattle.serial_sched.specs.Turns.{turn, CanChoose, IsCutShort};
+ghost use Rattle.serial_sched.specs.Turns.{turn, CanChoose, ChoosesListed, GivesTurn, IsCutShort};
 
 use rrv_model::limits::{MAX_QUANTUM, MIN_QUANTUM};
 use rrv_model::record::Choice;
@@ -14,12 +15,16 @@ pub trait Chooser {
     /// It has no choice left.
     ghost is_done: { Self → Type 0 };
 
+    /// What it chooses of these runnable threads, and what it becomes.
+    ghost chooses: { Self → List ℕ → Option Choice → Self → Type 0 };
+
     /// Chooses among the runnable threads; None where it has no choice for them.
     fn next(&mut self, runnable: &[u32]) -> Option<Choice>
         requires { 1 ≤ length runnable.now }
         ensures fits { IfSome result (λ choice. Contains runnable.now choice.tid × IsQuantum choice.quantum) }
         ensures done { is_done self.new ↔ (is_done self.old ⊎ IsNone result) }
-        ensures ended { is_done self.old → IsNone result };
+        ensures ended { is_done self.old → IsNone result }
+        ensures chooses { chooses self.old runnable.now result self.new };
 
     /// Tests whether it has no choice left.
     fn done(&self) -> bool
@@ -49,9 +54,13 @@ impl RoundRobin {
 impl Chooser for RoundRobin {
     ghost is_done = { λ _. ⊥ };
 
+    ghost chooses = { λ old runnable result new.
+        GivesTurn old.quantum old.last runnable result new.quantum new.last };
+
     fn next(&mut self, runnable: &[u32]) -> Option<Choice>
         requires { 1 ≤ length runnable.now }
         ensures fits { IfSome result (λ choice. Contains runnable.now choice.tid × IsQuantum choice.quantum) }
+        ensures chooses { GivesTurn self.old.quantum self.old.last runnable.now result self.new.quantum self.new.last }
         ensures some { IsSome result }
         ensures least { IfSome result (λ choice. EachIndex runnable.now (λ k.
             turn self.old.last choice.tid ≤ turn self.old.last (slice_index runnable.now k))) }
@@ -134,11 +143,14 @@ impl Listed {
 impl Chooser for Listed {
     ghost is_done = { λ l. IsTrue l.done };
 
+    ghost chooses = { λ old runnable result new. ChoosesListed runnable old result new };
+
     fn next(&mut self, runnable: &[u32]) -> Option<Choice>
         requires { 1 ≤ length runnable.now }
         ensures fits { IfSome result (λ choice. Contains runnable.now choice.tid × IsQuantum choice.quantum) }
         ensures done { IsTrue self.new.done ↔ (IsTrue self.old.done ⊎ IsNone result) }
         ensures ended { IsTrue self.old.done → IsNone result }
+        ensures chooses { ChoosesListed runnable.now self.old result self.new }
         ensures takes { IfSome result (λ choice. self.old.left ≡ choice ∷ self.new.left) }
         ensures stops { IsNone result → IsFalse self.old.done → IsCutShort runnable.now self.old.left }
         ensures left { IsNone result → self.new.left ≡ self.old.left }
