@@ -9,3 +9,4 @@ pub mod Recorded
 pub mod Sessions
 pub mod Openings
 pub mod Refusals
+pub mod Chosen

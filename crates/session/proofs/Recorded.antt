@@ -1,13 +1,15 @@
 -- What is committed of each guest of a session.
-use Rattle.std.proofs.Common.{◌≡◌, inl, inr, ℕ, zero, suc, ◌+◌, ◌≤◌, List, [], ◌∷◌, ◌++◌, length, take, drop, refl, sym, ap, ◌∙◌, subst, arith, true, false}
+use Rattle.std.proofs.Common.{◌≡◌, inl, inr, ℕ, zero, suc, ◌+◌, ◌<◌, ◌≤◌, ◌^◌, List, [], ◌∷◌, ◌++◌, length, take, drop, refl, sym, ap, ◌∙◌, subst, arith, true, false}
 use Rattle.std.proofs.lemmas.List.{length-map, take-append-drop}
 use Rattle.std.specs.Prelude.{◌⊎◌, Option, Some, None, slice_get}
 use Rattle.std.specs.List.{AllByRecursion}
 use Rattle.rrv_model.specs.declared.record.Item.{Item}
 use Rattle.rrv_model.specs.declared.record.Record.{Record}
-use Rattle.rrv_model.specs.Recording.{IsNumbered, IsRecording, EndsIn, Starts, items_of}
+use Rattle.rrv_model.specs.Recording.{IsNumbered, IsRecording, EndsIn, Starts, frames_of, items_of}
 use Rattle.rrv_model.specs.RecordText.{HasText}
 use Rattle.rrv_model.specs.Recovered.{of_guest}
+use Rattle.rrv_model.specs.StateAt.{total}
+use Rattle.guest_calls.specs.Guest.{GuestValue, state_of}
 use Rattle.rrv_model.proofs.RecordingLaws.{beginnings_are_recordings}
 use Rattle.commit_core.specs.Runs.{IsOutput, ItemsPut}
 use Rattle.commit_group.specs.Numbers.{base, numbered, renumbered}
@@ -19,11 +21,13 @@ use Rattle.session.specs.declared.fault.SessionFault.{SessionFault}
 use Rattle.session.specs.declared.job.Job.{Job}
 use Rattle.session.specs.declared.task.Task.{Task}
 use Rattle.session.specs.declared.task.Worked.{Worked}
+use Rattle.session.specs.Chosen.{HasChosen}
 use Rattle.session.specs.Pairs.{ArePairs}
 use Rattle.commit_core.proofs.Runs.{output_further}
-use Rattle.session.specs.Sessions.{AreRecorded, AreReported, HasNumber, HasRecorded, IsRecordingOrNone, IsReported, report_of, reports_of}
-use Rattle.session.specs.Tasks.{faults_met, jobs_of, jobs_worked, met_once, seats_worked}
-use Rattle.session.specs.Works.{Choosers, Sinks, HasFinished, HasWorked, IsBegun, IsSameJob, IsToItsEnd, opening_for}
+use Rattle.session.proofs.Chosen.{chosen_again, first_chosen}
+use Rattle.session.specs.Sessions.{AreLeft, AreRecorded, AreReported, HasNumber, HasRecorded, IsRecordingOrNone, IsReported, report_of, reports_of}
+use Rattle.session.specs.Tasks.{faults_met, jobs_of, jobs_worked, met_once, once, seats_worked, states_worked}
+use Rattle.session.specs.Works.{Choosers, Sinks, HasChosenAll, HasFinished, HasWorked, IsBegun, IsBehind, IsSameJob, IsToItsEnd, opening_for}
 
 -- ---- under other numbers
 
@@ -54,6 +58,12 @@ recording_again b rs h = record {
 
 output_again : (b : ℕ) (rs : List Record) (put : List (ℕ × ℕ)) → IsOutput put rs → IsOutput put (renumbered b rs)
 output_again b rs put h = (h.0, subst (λ (l : List Item). ItemsPut l h.0) (sym (items_again b rs)) h.1, h.2)
+
+behind_again : (b : ℕ) (rs : List Record) (guest : GuestValue) → IsBehind rs guest → IsBehind (renumbered b rs) guest
+behind_again b rs guest h = record {
+  ends = subst (λ (l : List Item). EndsIn l (state_of guest)) (sym (items_again b rs)) h.ends;
+  ran = subst (λ (l : List Item). total (frames_of l) < 2 ^ 64 → guest.ran ≡ total (frames_of l)) (sym (items_again b rs)) h.ran;
+}
 
 -- ---- the first of some records
 
@@ -165,6 +175,10 @@ ended_at f first place sent committed seen r h place_is in_group numbers = recor
   halt = h.halted;
 }
 
+-- all that it sent is committed, where all is that was sent
+all_own : (f : FlusherValue) (first place : ℕ) (r : RecorderValue) → IsEnded f first place r → AllCommitted f → of_guest (first + r.guest) f.committed ≡ renumbered first r.sent
+all_own f first place r e all = e.own ∙ ap (λ l. renumbered first l) (ap (λ n. take n r.sent) (e.all all) ∙ take_all r.sent)
+
 -- ---- all guests
 
 none_met : (o : Option SessionFault) (rest : List SessionFault) → met_once o ++ rest ≡ [] → (o ≡ None) × (rest ≡ [])
@@ -182,42 +196,50 @@ module _ {C O S : Type 0} (choosers : Choosers C) (sinks : Sinks S) (f : Flusher
   ends_next n d done each k r at = subst (λ (p : ℕ). IsEnded f first p r) (omega arith) (each (suc k) r at)
 
   recorded_one : (old : Task C O S) (new : Worked C O S) (place : ℕ) → HasWorked choosers sinks old new → IsEnded f first place new.seat
-      → HasRecorded sinks (first + new.seat.guest) f.committed old.job new.job
+      → HasRecorded choosers sinks (first + new.seat.guest) f.committed old.job new.job
   recorded_one old new place w e = record {
     job = w.job;
     records = subst (λ l. IsRecordingOrNone (opening_for (first + new.seat.guest) old.job) (first + new.seat.guest) l) (sym e.own)
         (begun_again first new.seat.guest e.count old.job new.job new.seat.sent w.job w.sent);
+    chosen = subst (λ (l : List Record). HasChosen choosers.chooses old.job l (λ _ _. Unit {0})) (sym e.own)
+        (chosen_again choosers.chooses old.job first (take e.count new.seat.sent) (λ _ _. Unit {0}) (first_chosen choosers.chooses old.job e.count new.seat.sent (λ _ _. Unit {0}) w.chosen));
     put = w.put;
     takes = w.takes;
     output = subst (λ l. IsOutput w.put l) (sym e.own) (put_again first new.seat.guest new.seat.seen e.count (opening_for new.seat.guest new.job) new.seat.sent w.put w.sent e.seen w.output);
   }
 
   pub all_recorded : (n : ℕ) (tasks : List (Task C O S)) (done : List (Worked C O S)) → ArePairs (HasWorked choosers sinks) tasks done → EndsFrom n done
-      → AreRecorded sinks f.committed (first + n) (jobs_of tasks) (jobs_worked done)
+      → AreRecorded choosers sinks f.committed (first + n) (jobs_of tasks) (jobs_worked done)
   all_recorded n [] [] pairs each = tt
   all_recorded n [] (d ∷ done) pairs each = elim pairs [ ]
   all_recorded n (t ∷ tasks) [] pairs each = elim pairs [ ]
   all_recorded n (t ∷ tasks) (d ∷ done) pairs each =
       let e = each 0 d.seat refl in
       let place = e.place_is in (
-        subst (λ (m : ℕ). HasRecorded sinks m f.committed t.job d.job) (omega arith) (recorded_one t d (n + 0) pairs.0 e),
-        subst (λ (m : ℕ). AreRecorded sinks f.committed m (jobs_of tasks) (jobs_worked done)) (omega arith) (all_recorded (suc n) tasks done pairs.1 (ends_next n d done each)),
+        subst (λ (m : ℕ). HasRecorded choosers sinks m f.committed t.job d.job) (omega arith) (recorded_one t d (n + 0) pairs.0 e),
+        subst (λ (m : ℕ). AreRecorded choosers sinks f.committed m (jobs_of tasks) (jobs_worked done)) (omega arith) (all_recorded (suc n) tasks done pairs.1 (ends_next n d done each)),
       )
+
+  -- a worker without a fault has finished, where the flusher has not halted
+  has_finished : (old : Task C O S) (new : Worked C O S) (place : ℕ) (w : HasWorked choosers sinks old new) → IsEnded f first place new.seat → new.fault ≡ None → f.halted ≡ false
+      → HasFinished choosers old.job w.put new
+  has_finished old new place w e none here = elim (w.finished none) [
+    | inl stopped ↦ absurd (true_is_not_false (sym (e.halt stopped.knows) ∙ here))
+    | inr done ↦ done
+  ]
 
   finished_one : (old : Task C O S) (new : Worked C O S) (place : ℕ) → HasWorked choosers sinks old new → IsEnded f first place new.seat → new.fault ≡ None → AllCommitted f → f.halted ≡ false
       → first + new.seat.guest ≤ 4294967294 → IsReported choosers sinks (first + new.seat.guest) f.committed old.job new.job (report_of first new)
   finished_one old new place w e none all here room =
-      let own : of_guest (first + new.seat.guest) f.committed ≡ renumbered first new.seat.sent = e.own ∙ ap (λ l. renumbered first l) (ap (λ n. take n new.seat.sent) (e.all all) ∙ take_all new.seat.sent) in
-      let finished : HasFinished choosers w.put new = elim (w.finished none) [
-        | inl stopped ↦ absurd (true_is_not_false (sym (e.halt stopped.knows) ∙ here))
-        | inr done ↦ done
-      ] in record {
+      let own = all_own f first place new.seat e all in
+      let finished = has_finished old new place w e none here in record {
         number_is = refl;
         count = sym (ap length own ∙ length-map new.seat.sent (numbered first));
         put = w.put;
         takes = w.takes;
         whole = subst (λ l. IsToItsEnd choosers (opening_for (first + new.seat.guest) old.job) (first + new.seat.guest) l w.put new.end new.job) (sym own)
             (to_end_again choosers first new.seat.guest old.job new.job new.seat.sent w.put new.end room w.job finished.whole);
+        chosen = subst (λ (l : List Record). HasChosenAll choosers old.job new.job l new.end) (sym own) (chosen_again choosers.chooses old.job first new.seat.sent _ finished.chosen);
       }
 
   pub all_reported : (n : ℕ) (tasks : List (Task C O S)) (done : List (Worked C O S)) → ArePairs (HasWorked choosers sinks) tasks done → EndsFrom n done → faults_met done ≡ [] → AllCommitted f → f.halted ≡ false
@@ -232,6 +254,30 @@ module _ {C O S : Type 0} (choosers : Choosers C) (sinks : Sinks S) (f : Flusher
         subst (λ (m : ℕ). IsReported choosers sinks m f.committed t.job d.job (report_of first d)) (omega arith) (finished_one t d (n + 0) pairs.0 e none.0 all here (omega arith)),
         subst (λ (m : ℕ). AreReported choosers sinks f.committed m (jobs_of tasks) (jobs_worked done) (reports_of first done)) (omega arith)
             (all_reported (suc n) tasks done pairs.1 (ends_next n d done each) none.1 all here (omega arith)),
+      )
+
+  left_one : (old : Task C O S) (new : Worked C O S) (place : ℕ) → HasWorked choosers sinks old new → IsEnded f first place new.seat → new.fault ≡ None → AllCommitted f → f.halted ≡ false
+      → (guest : GuestValue) × (new.guest ≡ Some guest) × IsBehind (of_guest (first + new.seat.guest) f.committed) guest
+  left_one old new place w e none all here =
+      let finished = has_finished old new place w e none here in (
+        finished.guest,
+        finished.guest_is,
+        subst (λ l. IsBehind l finished.guest) (sym (all_own f first place new.seat e all)) (behind_again first new.seat.sent finished.guest finished.behind),
+      )
+
+  pub all_left : (n : ℕ) (tasks : List (Task C O S)) (done : List (Worked C O S)) → ArePairs (HasWorked choosers sinks) tasks done → EndsFrom n done → faults_met done ≡ [] → AllCommitted f → f.halted ≡ false
+      → AreLeft f.committed (first + n) (jobs_worked done) (states_worked done)
+  all_left n [] [] pairs each met all here = tt
+  all_left n [] (d ∷ done) pairs each met all here = elim pairs [ ]
+  all_left n (t ∷ tasks) [] pairs each met all here = elim pairs [ ]
+  all_left n (t ∷ tasks) (d ∷ done) pairs each met all here =
+      let e = each 0 d.seat refl in
+      let place = e.place_is in
+      let none = none_met d.fault (faults_met done) met in
+      let left = left_one t d (n + 0) pairs.0 e none.0 all here in
+      subst (λ (o : Option GuestValue). AreLeft f.committed (first + n) (d.job ∷ jobs_worked done) (once o ++ states_worked done)) (sym left.1) (
+        subst (λ (m : ℕ). IsBehind (of_guest m f.committed) left.0) (omega arith) left.2,
+        subst (λ (m : ℕ). AreLeft f.committed m (jobs_worked done) (states_worked done)) (omega arith) (all_left (suc n) tasks done pairs.1 (ends_next n d done each) none.1 all here),
       )
 
 -- each guest has a number

@@ -6,6 +6,7 @@ use Rattle.rrv_model.specs.declared.record.Record.{Record}
 use Rattle.rrv_model.specs.CrashModel.{LeavesOnly}
 use Rattle.rrv_model.specs.Recovered.{next_guest, IsRecovered}
 use Rattle.rrv_model.proofs.CrashLaws.{started}
+use Rattle.guest_calls.specs.Guest.{GuestValue}
 use Rattle.trace_log.specs.Kept.{LogValue}
 use Rattle.commit_group.specs.declared.fault.FlushFault.{FlushFault}
 use Rattle.commit_group.specs.Seats.{FlusherValue, GroupId, RecorderValue, new_flusher_seat}
@@ -25,11 +26,12 @@ use Rattle.session.specs.declared.report.GuestReport.{GuestReport}
 use Rattle.session.specs.declared.task.Task.{Task}
 use Rattle.session.specs.declared.task.Worked.{Worked}
 use Rattle.session.specs.Pairs.{ArePairs}
-use Rattle.session.specs.Sessions.{AreReported, reports_of}
-use Rattle.session.specs.Tasks.{faults_met, jobs_of, jobs_worked, seats_of, seats_worked}
+use Rattle.session.specs.Sessions.{AreLeft, AreReported, reports_of}
+use Rattle.session.specs.Tasks.{faults_met, jobs_of, jobs_worked, seats_of, seats_worked, states_worked}
 use Rattle.session.specs.Works.{Choosers, HasWorked}
+use Rattle.session.proofs.Chosen.{none_chosen}
 use Rattle.session.proofs.Gained.{leaves_kept}
-use Rattle.session.proofs.Recorded.{IsEnded, all_recorded, all_reported, ended_at}
+use Rattle.session.proofs.Recorded.{IsEnded, all_left, all_recorded, all_reported, ended_at}
 use Rattle.session.proofs.Pairs.{pairs_length}
 use Rattle.session.proofs.Tasks.{all_of, jobs_length, worked_length}
 
@@ -69,13 +71,14 @@ module _ {D : Type 0} (device : Device D) where
     raised = subst (λ (l : List Record). next_guest l ≤ log.next_guest) (sym (append-nil earlier)) left.above;
   }
 
-  module _ {C O S : Type 0} (sinks : Sinks S) where
-    none_recorded : (number : ℕ) (jobs : List (Job C O S)) → AreRecorded sinks [] number jobs jobs
+  module _ {C O S : Type 0} (choosers : Choosers C) (sinks : Sinks S) where
+    none_recorded : (number : ℕ) (jobs : List (Job C O S)) → AreRecorded choosers sinks [] number jobs jobs
     none_recorded number [] = tt
     none_recorded number (job ∷ jobs) = (
       record {
         job = record { elf = refl; name = refl; random = refl };
         records = inl refl;
+        chosen = none_chosen choosers.chooses job;
         put = [];
         takes = λ _. sym (append-nil (sinks.taken job.sink));
         output = ([], refl, ([], refl));
@@ -83,7 +86,7 @@ module _ {D : Type 0} (device : Device D) where
       none_recorded (number + 1) jobs,
     )
 
-    pub nothing_ran : (log : LogValue D) (jobs : List (Job C O S)) → HasRun sinks device [] log log jobs jobs
+    pub nothing_ran : (log : LogValue D) (jobs : List (Job C O S)) → HasRun choosers sinks device [] log log jobs jobs
     nothing_ran log jobs = record { gained = none_gained log; only = tt; recorded = none_recorded log.next_guest jobs }
 
 -- where there is no fault the flusher met none
@@ -127,12 +130,12 @@ module _ {C O S D : Type 0} (choosers : Choosers C) (sinks : Sinks S) (device : 
       ]
 
   pub has_run : (jobs jobs' : List (Job C O S)) → AreJoined choosers sinks device group old f log log' flushed tasks done → jobs_of tasks ≡ jobs → jobs' ≡ jobs_worked done
-      → HasRun sinks device f.committed log log' jobs jobs'
+      → HasRun choosers sinks device f.committed log log' jobs jobs'
   has_run jobs jobs' j given back = record {
     gained = session_gained device group old f log log' flushed j.new j.flusher;
     only = only_these (length jobs) j (sym (jobs_length tasks) ∙ ap length given);
-    recorded = subst (λ l. AreRecorded sinks f.committed log.next_guest l jobs') given (subst (λ l. AreRecorded sinks f.committed log.next_guest (jobs_of tasks) l) (sym back)
-        (subst (λ (n : ℕ). AreRecorded sinks f.committed n (jobs_of tasks) (jobs_worked done)) (omega arith) (all_recorded choosers sinks f log.next_guest 0 tasks done j.works (ends j))));
+    recorded = subst (λ l. AreRecorded choosers sinks f.committed log.next_guest l jobs') given (subst (λ l. AreRecorded choosers sinks f.committed log.next_guest (jobs_of tasks) l) (sym back)
+        (subst (λ (n : ℕ). AreRecorded choosers sinks f.committed n (jobs_of tasks) (jobs_worked done)) (omega arith) (all_recorded choosers sinks f log.next_guest 0 tasks done j.works (ends j))));
   }
 
   pub has_reported : (jobs jobs' : List (Job C O S)) (first : ℕ) (reports : List GuestReport) → AreJoined choosers sinks device group old f log log' flushed tasks done → jobs_of tasks ≡ jobs → jobs' ≡ jobs_worked done
@@ -145,7 +148,21 @@ module _ {C O S D : Type 0} (choosers : Choosers C) (sinks : Sinks S) (device : 
       (subst (λ (n : ℕ). AreReported choosers sinks f.committed n (jobs_of tasks) (jobs_worked done) (reports_of log.next_guest done)) (omega arith)
       (all_reported choosers sinks f log.next_guest 0 tasks done j.works (ends j) met.1 met.0.0 met.0.1 (omega arith)))))
 
+  pub has_left : (jobs' : List (Job C O S)) (states : List GuestValue) → AreJoined choosers sinks device group old f log log' flushed tasks done → jobs' ≡ jobs_worked done → states ≡ states_worked done
+      → flusher_met flushed ++ faults_met done ≡ [] → AreLeft f.committed log.next_guest jobs' states
+  has_left jobs' states j back all_are none =
+      let met = flusher_met_none flushed (faults_met done) (AllCommitted f × (f.halted ≡ false)) none j.flusher.all in
+      subst (λ l. AreLeft f.committed log.next_guest l states) (sym back) (subst (λ l. AreLeft f.committed log.next_guest (jobs_worked done) l) (sym all_are)
+      (subst (λ (n : ℕ). AreLeft f.committed n (jobs_worked done) (states_worked done)) (omega arith) (all_left choosers sinks f log.next_guest 0 tasks done j.works (ends j) met.1 met.0.0 met.0.1)))
+
 -- of no jobs
+pub none_left_behind : {C O S : Type 0} (number : ℕ) (jobs : List (Job C O S)) (states : List GuestValue) → jobs ≡ [] → states ≡ [] → AreLeft [] number jobs states
+none_left_behind {C = C} {O = O} {S = S} number jobs states no_jobs no_states =
+    subst (λ (l : List (Job C O S)). AreLeft [] number l states) (sym no_jobs) (subst (λ (l : List GuestValue). AreLeft [] number none l) (sym no_states) tt)
+  where
+    none : List (Job C O S)
+    none = []
+
 pub none_reported : {C O S : Type 0} (choosers : Choosers C) (sinks : Sinks S) (number : ℕ) (jobs : List (Job C O S)) (reports : List GuestReport) → jobs ≡ [] → reports ≡ []
     → AreReported choosers sinks [] number jobs jobs reports
 none_reported {C = C} {O = O} {S = S} choosers sinks number jobs reports no_jobs no_reports =

@@ -3,6 +3,7 @@ use Rattle.std.proofs.Common.{◌≡◌, ℕ, zero, suc, List, [], ◌∷◌, �
 use Rattle.std.proofs.lemmas.List.{append-nil}
 use Rattle.std.specs.Prelude.{slice_get, Some, MatchOption, unwrap_or, Option}
 use Rattle.std.specs.List.{AllByRecursion}
+use Rattle.guest_calls.specs.Guest.{GuestValue}
 use Rattle.commit_group.specs.Seats.{AllNew, AllOf, GroupId, RecorderValue, new_seat}
 use Rattle.session.specs.declared.job.Job.{Job}
 use Rattle.session.specs.declared.task.Task.{Task}
@@ -11,7 +12,7 @@ use Rattle.session.specs.declared.report.GuestReport.{GuestReport}
 use Rattle.session.specs.Pairs.{ArePairs}
 use Rattle.session.specs.Sessions.{reports_of}
 use Rattle.session.specs.Openings.{StartsGuest}
-use Rattle.session.specs.Tasks.{jobs_of, jobs_worked, seats_of, seats_worked}
+use Rattle.session.specs.Tasks.{jobs_of, jobs_worked, once, seats_of, seats_worked, states_worked}
 use Rattle.session.specs.Works.{Choosers, Sinks, HasWorked, IsFresh}
 
 -- ---- seats of one group
@@ -71,6 +72,14 @@ module _ {C O S : Type 0} where
 
   pub reports_end : (first : ℕ) (reports : List GuestReport) (rest : List (Worked C O S)) (all : List GuestReport) → reports ++ reports_of first rest ≡ all → rest ≡ [] → reports ≡ all
   reports_end first reports rest all e none = sym (append-nil reports) ∙ ap (λ l. reports ++ reports_of first l) (sym none) ∙ e
+
+  pub states_end : (states : List GuestValue) (rest : List (Worked C O S)) (all : List GuestValue) → states ++ states_worked rest ≡ all → rest ≡ [] → states ≡ all
+  states_end states rest all e none = sym (append-nil states) ∙ ap (λ l. states ++ states_worked l) (sym none) ∙ e
+
+  pub states_over : (states states' : List GuestValue) (w : Worked C O S) (rest rest' : List (Worked C O S)) (all : List GuestValue)
+      → states ++ states_worked rest ≡ all → rest ≡ w ∷ rest' → states' ≡ states ++ once w.guest → states' ++ states_worked rest' ≡ all
+  states_over states states' w rest rest' all e is now =
+      ap (λ l. l ++ states_worked rest') now ∙ append_assoc states (once w.guest) (states_worked rest') ∙ ap (λ l. states ++ states_worked l) (sym is) ∙ e
 
   fresh_from : (n : ℕ) (group : GroupId) (tasks : List (Task C O S)) → AreFrom n group (seats_of tasks) → AllByRecursion StartsGuest (jobs_of tasks) → AllByRecursion IsFresh tasks
   fresh_from n group [] new starts = tt

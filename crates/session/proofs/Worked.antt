@@ -2,6 +2,7 @@
 use Rattle.std.proofs.Common.{◌≡◌, ◌⊎◌, inl, inr, ℕ, ◌+◌, ◌-◌, ◌≤◌, List, [], ◌∷◌, ◌++◌, length, length-append, take, None, Option, Some, true, true≢false, refl, sym, ap, ◌∙◌, subst, arith}
 use Rattle.std.proofs.lemmas.List.{append-nil, take-append-le, take_all}
 use Rattle.std.specs.Prelude.{IsSome}
+use Rattle.rrv_model.specs.declared.record.Frame.{Frame}
 use Rattle.rrv_model.specs.declared.record.Item.{Item}
 use Rattle.rrv_model.specs.declared.record.Item.TheVariants as items
 use Rattle.rrv_model.specs.declared.record.Part.{Part}
@@ -15,7 +16,7 @@ use Rattle.rrv_model.proofs.RecordingLaws.{beginnings_are_recordings}
 use Rattle.rrv_model.proofs.RecoveredLaws.{numbered_front}
 use Rattle.rrv_model.proofs.RunLaws.{at_total_of_first}
 use Rattle.rrv_model.specs.declared.machine.GuestEnd.{GuestEnd}
-use Rattle.guest_calls.specs.Guest.{state_of}
+use Rattle.guest_calls.specs.Guest.{GuestValue, state_of}
 use Rattle.commit_core.specs.Runs.{IsOutput, ItemsPut}
 use Rattle.commit_group.specs.Seats.{RecorderValue}
 use Rattle.recorder.specs.Recorded.{IsRecorded, opening_of}
@@ -28,8 +29,10 @@ use Rattle.session.specs.declared.job.Job.{Job}
 use Rattle.session.specs.declared.task.Task.{Task}
 use Rattle.session.specs.declared.task.Worked.{Worked}
 use Rattle.session.proofs.Works.{no_fault, none_put}
+use Rattle.session.proofs.Chosen.{chosen_from_start, front_chosen, none_chosen}
+use Rattle.session.specs.Chosen.{HasChosen, IsAtStart, IsLeftWith, MakesChosen, frames_in}
 use Rattle.session.specs.Drives.{Drives, HasHalted, IsDone, IsDriven, IsOver, LeavesWith}
-use Rattle.session.specs.Works.{AreMet, Choosers, HasFinished, HasStopped, HasWorked, IsBegun, IsRecordedFrom, IsSameJob, Sinks, opening_for}
+use Rattle.session.specs.Works.{AreMet, Choosers, HasChosenAll, HasFinished, IsBehind, HasStopped, HasWorked, IsBegun, IsRecordedFrom, IsSameJob, Sinks, opening_for}
 
 none_left : (o : Owed) (k : ℕ) → k ≤ o.released → left_of o k ≡ []
 none_left o k low =
@@ -92,9 +95,33 @@ is_no_none o some none = true≢false (sym (subst IsSome none some))
 same_opening : {C O S : Type 0} (guest guest' : ℕ) (job job' : Job C O S) → guest' ≡ guest → IsSameJob job job' → opening_for guest job ≡ opening_for guest' job'
 same_opening guest guest' job job' e same = λ i. opening_of (sym e i) (sym same.elf i) (sym same.name i) (sym same.random i)
 
+-- the guest comes back behind all that was made of it
+left_behind : {C O S : Type 0} (choosers : Choosers C) (job : Job C O S) (old new : GuestRecorder) (opening : Record) (Ends : C → Type 0) → IsRecordedFrom opening new.seat.guest (made new) (state_of new.guest) → IsAtStart job old
+    → MakesChosen choosers.chooses old job.chooser new Ends → IsBehind (made new) new.guest
+left_behind choosers job old new opening Ends recorded start makes =
+    let all : frames_in (made new) ≡ makes.frames = makes.made_are ∙ ap (λ (l : List Frame). l ++ makes.frames) start.none in
+    let count : total (frames_in (made new)) ≡ total makes.frames = ap (λ (l : List Frame). total l) all in
+    let none = start.ran in
+    record {
+      ends = recorded.recorded.ends;
+      ran = λ low. makes.ran (omega arith) ∙ omega arith;
+    }
+
+-- to the guest's end
+chosen_to_end : {C O S : Type 0} (choosers : Choosers C) (job job' : Job C O S) (old new : GuestRecorder) (end : Option GuestEnd) → end ≡ (state_of new.guest).ended → IsAtStart job old
+    → MakesChosen choosers.chooses old job.chooser new (IsLeftWith choosers.chooses job'.chooser (state_of new.guest)) → HasChosenAll choosers job job' (made new) end
+chosen_to_end choosers job job' old new end end_is start left =
+    let h = chosen_from_start choosers.chooses job old new (IsLeftWith choosers.chooses job'.chooser (state_of new.guest)) start left in
+    record {
+      state = h.state;
+      last = h.last;
+      chosen = h.chosen;
+      ends = (end_is ∙ ap (λ (s : State). s.ended) (sym h.ends.0), subst (λ (s : State). IsLeftWith choosers.chooses job'.chooser s h.last) (sym h.ends.0) h.ends.1);
+    }
+
 module _ {C O S : Type 0} (choosers : Choosers C) (sinks : Sinks S) (old new : GuestRecorder) (job job' : Job C O S)
     (begun : IsDriven (opening_for old.seat.guest job) old []) (drives : Drives sinks old new job.sink job'.sink) (same : IsSameJob job job')
-    (low : new.seat.seen ≤ length new.seat.sent) where
+    (low : new.seat.seen ≤ length new.seat.sent) (start : IsAtStart job old) (makes : MakesChosen choosers.chooses old job.chooser new (λ _. Unit {0})) where
   abbrev opening : Record
   opening = opening_for new.seat.guest job'
 
@@ -107,9 +134,9 @@ module _ {C O S : Type 0} (choosers : Choosers C) (sinks : Sinks S) (old new : G
   output : IsOutput drives.put (take new.seat.seen new.seat.sent)
   output = subst (λ (l : List Record). IsOutput drives.put l) (take-append-le new.seat.seen new.seat.sent new.backlog low) (output_is_durable new drives.put low driven.has_put)
 
-  pub finished : (end : Option GuestEnd) (fault : Option SessionFault) → end ≡ (state_of new.guest).ended → IsSettled new → IsOver choosers new job'.chooser
-      → HasFinished choosers drives.put (record { seat = seat; job = job'; end = end; fault = fault })
-  finished end fault end_is settled over =
+  pub finished : (guest : Option GuestValue) (end : Option GuestEnd) (fault : Option SessionFault) → guest ≡ Some new.guest → end ≡ (state_of new.guest).ended → IsSettled new → IsOver choosers new job'.chooser
+      → MakesChosen choosers.chooses old job.chooser new (IsLeftWith choosers.chooses job'.chooser (state_of new.guest)) → HasFinished choosers job drives.put (record { seat = seat; job = job'; guest = guest; end = end; fault = fault })
+  finished guest end fault guest_is end_is settled over left =
       let whole : made new ≡ new.seat.sent = ap (λ (l : List Record). new.seat.sent ++ l) settled.sent ∙ append-nil new.seat.sent in
       let all = settled_has_put_all new drives.put settled driven.has_put in
       record {
@@ -121,6 +148,10 @@ module _ {C O S : Type 0} (choosers : Choosers C) (sinks : Sinks S) (old new : G
           output = (all.0, subst (λ (l : List Record). ItemsPut (items_of l) all.0) whole all.1, all.2);
           goes_on = λ none. goes_on none over;
         };
+        chosen = subst (λ (l : List Record). HasChosenAll choosers job job' l end) whole (chosen_to_end choosers job job' old new end end_is start left);
+        guest = new.guest;
+        guest_is = guest_is;
+        behind = subst (λ (l : List Record). IsBehind l new.guest) whole (left_behind choosers job old new opening _ driven.recorded start left);
       }
     where
       goes_on : end ≡ None → IsOver choosers new job'.chooser → choosers.is_done job'.chooser ⊎ (length new.seat.sent ≡ 4294967295)
@@ -128,8 +159,8 @@ module _ {C O S : Type 0} (choosers : Choosers C) (sinks : Sinks S) (old new : G
       goes_on none (inr (inl done)) = inl done
       goes_on none (inr (inr many)) = inr (sym (ap length (ap (λ (l : List Record). new.seat.sent ++ l) settled.sent ∙ append-nil new.seat.sent)) ∙ many)
 
-  pub stopped : (end : Option GuestEnd) (fault : Option SessionFault) → HasHalted new → HasStopped drives.put (record { seat = seat; job = job'; end = end; fault = fault })
-  stopped end fault halted =
+  pub stopped : (guest : Option GuestValue) (end : Option GuestEnd) (fault : Option SessionFault) → HasHalted new → HasStopped drives.put (record { seat = seat; job = job'; guest = guest; end = end; fault = fault })
+  stopped guest end fault halted =
       let size : length (made new) ≡ length new.seat.sent + length new.backlog = length-append new.seat.sent new.backlog in
       let h = driven.has_put.each new.seat.seen (omega arith) (omega arith) in
       record {
@@ -141,15 +172,16 @@ module _ {C O S : Type 0} (choosers : Choosers C) (sinks : Sinks S) (old new : G
         );
       }
 
-  pub has_worked : (end : Option GuestEnd) (fault : Option SessionFault) → AreMet new.seat.guest fault
-      → (fault ≡ None → HasStopped drives.put (record { seat = seat; job = job'; end = end; fault = fault }) ⊎ HasFinished choosers drives.put (record { seat = seat; job = job'; end = end; fault = fault }))
-      → HasWorked choosers sinks (record { seat = old.seat; job = job }) (record { seat = seat; job = job'; end = end; fault = fault })
-  has_worked end fault met done = record {
+  pub has_worked : (guest : Option GuestValue) (end : Option GuestEnd) (fault : Option SessionFault) → AreMet new.seat.guest fault
+      → (fault ≡ None → HasStopped drives.put (record { seat = seat; job = job'; guest = guest; end = end; fault = fault }) ⊎ HasFinished choosers job drives.put (record { seat = seat; job = job'; guest = guest; end = end; fault = fault }))
+      → HasWorked choosers sinks (record { seat = old.seat; job = job }) (record { seat = seat; job = job'; guest = guest; end = end; fault = fault })
+  has_worked guest end fault met done = record {
     group = drives.goes.group;
     guest = drives.goes.guest;
     left = refl;
     job = same;
     sent = begun_front opening new.seat.guest new.seat.sent new.backlog (state_of new.guest) driven.recorded;
+    chosen = front_chosen choosers.chooses job new.seat.sent new.backlog _ (chosen_from_start choosers.chooses job old new (λ _. Unit {0}) start makes);
     put = drives.put;
     takes = drives.takes;
     output = output;
@@ -159,30 +191,33 @@ module _ {C O S : Type 0} (choosers : Choosers C) (sinks : Sinks S) (old new : G
 
 -- what leaves of a recorder
 abbrev pub left_with : {C O S : Type 0} → GuestRecorder → Job C O S → Option SessionFault → Worked C O S
-left_with r job fault = record { seat = record r.seat { has_left = true }; job = job; end = (state_of r.guest).ended; fault = fault }
+left_with r job fault = record { seat = record r.seat { has_left = true }; job = job; guest = Some r.guest; end = (state_of r.guest).ended; fault = fault }
 
 pub worked : {C O S : Type 0} (choosers : Choosers C) (sinks : Sinks S) (guest : ℕ) (seat : RecorderValue) (old new : GuestRecorder) (job job' : Job C O S) (fault : Option SessionFault) (worked : Worked C O S)
     → guest ≡ seat.guest → old.seat ≡ seat → IsDriven (opening_for seat.guest job) old [] → Drives sinks old new job.sink job'.sink → IsSameJob job job' → AreMet guest fault
-    → (fault ≡ None → HasHalted new ⊎ IsDone choosers new job'.chooser) → LeavesWith new job' fault worked
+    → IsAtStart job old → MakesChosen choosers.chooses old job.chooser new (λ _. Unit {0})
+    → (fault ≡ None → HasHalted new ⊎ IsDone choosers new job'.chooser)
+    → (fault ≡ None → HasHalted new ⊎ MakesChosen choosers.chooses old job.chooser new (IsLeftWith choosers.chooses job'.chooser (state_of new.guest))) → LeavesWith new job' fault worked
     → HasWorked choosers sinks (record { seat = seat; job = job }) worked
-worked {C = C} {O = O} {S = S} choosers sinks guest seat old new job job' fault out place same_seat begun drives same met done leaves =
+worked {C = C} {O = O} {S = S} choosers sinks guest seat old new job job' fault out place same_seat begun drives same met start makes done left leaves =
     let begun' : IsDriven (opening_for old.seat.guest job) old [] = subst (λ (q : RecorderValue). IsDriven (opening_for q.guest job) old []) (sym same_seat) begun in
     let met' : AreMet new.seat.guest fault = subst (λ n. AreMet n fault) (place ∙ ap (λ (q : RecorderValue). q.guest) (sym same_seat) ∙ sym drives.goes.guest) met in
     let end = (state_of new.guest).ended in
     let low = leaves.seen in
     subst (λ (x : RecorderValue × Worked C O S). HasWorked choosers sinks (record { seat = x.0; job = job }) x.1) (λ i. (same_seat i, sym leaves.is i))
-    (has_worked choosers sinks old new job job' begun' drives same low end fault met' (λ none. finish (done none)))
+    (has_worked choosers sinks old new job job' begun' drives same low start makes (Some new.guest) end fault met' (λ none. finish (done none) (left none)))
   where
     begun_here : IsDriven (opening_for old.seat.guest job) old []
     begun_here = subst (λ (q : RecorderValue). IsDriven (opening_for q.guest job) old []) (sym same_seat) begun
 
-    finish : HasHalted new ⊎ IsDone choosers new job'.chooser → HasStopped drives.put (left_with new job' fault) ⊎ HasFinished choosers drives.put (left_with new job' fault)
-    finish (inl halted) = inl (stopped choosers sinks old new job job' begun_here drives same leaves.seen (state_of new.guest).ended fault halted)
-    finish (inr done) = inr (finished choosers sinks old new job job' begun_here drives same leaves.seen (state_of new.guest).ended fault refl done.settled done.over)
+    finish : HasHalted new ⊎ IsDone choosers new job'.chooser → HasHalted new ⊎ MakesChosen choosers.chooses old job.chooser new (IsLeftWith choosers.chooses job'.chooser (state_of new.guest)) → HasStopped drives.put (left_with new job' fault) ⊎ HasFinished choosers job drives.put (left_with new job' fault)
+    finish (inl halted) left = inl (stopped choosers sinks old new job job' begun_here drives same leaves.seen start makes (Some new.guest) (state_of new.guest).ended fault halted)
+    finish (inr done) (inl halted) = inl (stopped choosers sinks old new job job' begun_here drives same leaves.seen start makes (Some new.guest) (state_of new.guest).ended fault halted)
+    finish (inr done) (inr left) = inr (finished choosers sinks old new job job' begun_here drives same leaves.seen start makes (Some new.guest) (state_of new.guest).ended fault refl refl done.settled done.over left)
 
 -- a worker that found no memory for its recorder
 pub worked_none : {C O S : Type 0} (choosers : Choosers C) (sinks : Sinks S) (task : Task C O S) (seat : RecorderValue) → seat ≡ record task.seat { has_left = true } → task.seat.sent ≡ []
-    → HasWorked choosers sinks task (record { seat = seat; job = task.job; end = None; fault = Some faults.Memory })
+    → HasWorked choosers sinks task (record { seat = seat; job = task.job; guest = None; end = None; fault = Some faults.Memory })
 worked_none choosers sinks task seat is none =
     let sent : seat.sent ≡ [] = ap (λ (q : RecorderValue). q.sent) is ∙ none in
     record {
@@ -191,6 +226,7 @@ worked_none choosers sinks task seat is none =
       left = ap (λ (q : RecorderValue). q.has_left) is;
       job = record { elf = refl; name = refl; random = refl };
       sent = inl sent;
+      chosen = subst (λ (l : List Record). HasChosen choosers.chooses task.job l (λ _ _. Unit {0})) (sym sent) (none_chosen choosers.chooses task.job);
       put = [];
       takes = λ t. sym (append-nil (sinks.taken task.job.sink));
       output = none_put seat.seen seat.sent sent;

@@ -78,12 +78,13 @@ pub record IsDone {C : Type 0} (choosers : Choosers C) (r : GuestRecorder) (choo
   pub over : IsOver choosers r chooser
   pub settled : IsSettled r
 
--- the recorder's seat leaves, with the job, how the guest ended, and what the worker met
+-- the recorder's seat leaves, with the job, the guest, how it ended, and what the worker met
 pub record LeavesWith {C O S : Type 0} (r : GuestRecorder) (job : Job C O S) (fault : Option SessionFault)
     (worked : Worked C O S) : Type 0 where
   pub is : worked ≡ record {
     seat = record r.seat { has_left = true };
     job = job;
+    guest = Some r.guest;
     end = (state_of r.guest).ended;
     fault = fault;
   }

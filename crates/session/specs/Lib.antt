@@ -8,3 +8,4 @@ pub mod Drives
 pub mod Sessions
 pub mod Rooms
 pub mod Openings
+pub mod Chosen

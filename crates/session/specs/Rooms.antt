@@ -15,3 +15,4 @@ pub record HasRoom {C O S : Type 0} (guests : ℕ) (r : Room C O S) : Type 0 whe
   pub seats_back : (vec_items r.seats_back ≡ []) × (guests ≤ vec_capacity r.seats_back)
   pub jobs_back : (vec_items r.jobs_back ≡ []) × (guests ≤ vec_capacity r.jobs_back)
   pub reports : (vec_items r.reports ≡ []) × (guests ≤ vec_capacity r.reports)
+  pub states : (vec_items r.states ≡ []) × (guests ≤ vec_capacity r.states)

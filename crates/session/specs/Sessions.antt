@@ -5,6 +5,7 @@ use Rattle.std.specs.declared.alloc.Global.{Global}
 use Rattle.rrv_model.specs.declared.record.Record.{Record}
 use Rattle.rrv_model.specs.Recording.{IsNumbered, IsRecording}
 use Rattle.rrv_model.specs.Recovered.{next_guest, of_guest, IsRecovered}
+use Rattle.guest_calls.specs.Guest.{GuestValue}
 use Rattle.trace_log.specs.Kept.{Keeps, LogValue}
 use Rattle.commit_core.specs.Runs.{IsOutput}
 use Rattle.commit_group.specs.Numbers.{IsPlaced}
@@ -15,26 +16,28 @@ use Rattle.session.specs.declared.job.Job.{Job}
 use Rattle.session.specs.declared.report.GuestReport.{GuestReport}
 use Rattle.session.specs.declared.task.Worked.{Worked}
 use Rattle.session.specs.Gains.{Device, HasGained, IsFull}
+use Rattle.session.specs.Chosen.{HasChosen}
 use Rattle.session.specs.Openings.{IsFirstBad}
-use Rattle.session.specs.Works.{Choosers, Sinks, IsSameJob, IsToItsEnd, Takes, opening_for}
+use Rattle.session.specs.Works.{Choosers, Sinks, HasChosenAll, IsBehind, IsSameJob, IsToItsEnd, Takes, opening_for}
 
 -- there is no record, or they are a recording of this guest, its opening's first
 abbrev pub IsRecordingOrNone : Record → ℕ → List Record → Type 0
 IsRecordingOrNone opening guest records =
     (records ≡ []) ⊎ (IsFirst opening records × IsRecording records × IsNumbered guest 0 records)
 
--- What is committed under this number is nothing, or a recording of the job's opening. The job's sink took a beginning of
--- what these records put out.
-pub record HasRecorded {C O S : Type 0} (sinks : Sinks S) (number : ℕ) (committed : List Record) (old new : Job C O S)
-    : Type 0 where
+-- What is committed under this number is nothing, or a recording of the job's opening, whose frames the job's chooser
+-- chose. The job's sink took a beginning of what these records put out.
+pub record HasRecorded {C O S : Type 0} (choosers : Choosers C) (sinks : Sinks S) (number : ℕ) (committed : List Record)
+    (old new : Job C O S) : Type 0 where
   pub job : IsSameJob old new
   pub records : IsRecordingOrNone (opening_for number old) number (of_guest number committed)
+  pub chosen : HasChosen choosers.chooses old (of_guest number committed) (λ _ _. Unit {0})
   pub put : List (ℕ × ℕ)
   pub takes : Takes sinks old.sink new.sink put
   pub output : IsOutput put (of_guest number committed)
 
--- What is committed under this number is a recording of the job's opening to the guest's end, as it is reported. The
--- job's sink took all of its output.
+-- What is committed under this number is a recording of the job's opening to the guest's end, as it is reported. Its frames
+-- are all that the job's chooser chose, and the job's sink took all of its output.
 pub record IsReported {C O S : Type 0} (choosers : Choosers C) (sinks : Sinks S) (number : ℕ) (committed : List Record)
     (old new : Job C O S) (report : GuestReport) : Type 0 where
   pub number_is : report.number ≡ number
@@ -42,14 +45,15 @@ pub record IsReported {C O S : Type 0} (choosers : Choosers C) (sinks : Sinks S)
   pub put : List (ℕ × ℕ)
   pub takes : Takes sinks old.sink new.sink put
   pub whole : IsToItsEnd choosers (opening_for number old) number (of_guest number committed) put report.end new
+  pub chosen : HasChosenAll choosers old new (of_guest number committed) report.end
 
 -- so of each job, under the numbers from this one on
-abbrev pub AreRecorded : {C O S : Type 0} → Sinks S → List Record → ℕ → (jobs jobs' : List (Job C O S)) → Type 0
-AreRecorded sinks committed number [] [] = Unit {0}
-AreRecorded sinks committed number [] (new ∷ news) = ⊥
-AreRecorded sinks committed number (old ∷ olds) [] = ⊥
-AreRecorded sinks committed number (old ∷ olds) (new ∷ news) =
-    HasRecorded sinks number committed old new × AreRecorded sinks committed (number + 1) olds news
+abbrev pub AreRecorded : {C O S : Type 0} → Choosers C → Sinks S → List Record → ℕ → (jobs jobs' : List (Job C O S)) → Type 0
+AreRecorded choosers sinks committed number [] [] = Unit {0}
+AreRecorded choosers sinks committed number [] (new ∷ news) = ⊥
+AreRecorded choosers sinks committed number (old ∷ olds) [] = ⊥
+AreRecorded choosers sinks committed number (old ∷ olds) (new ∷ news) =
+    HasRecorded choosers sinks number committed old new × AreRecorded choosers sinks committed (number + 1) olds news
 
 abbrev pub AreReported : {C O S : Type 0} → Choosers C → Sinks S → List Record → ℕ → (jobs jobs' : List (Job C O S))
     → List GuestReport → Type 0
@@ -58,6 +62,13 @@ AreReported choosers sinks committed number (old ∷ olds) (new ∷ news) (repor
     IsReported choosers sinks number committed old new report
     × AreReported choosers sinks committed (number + 1) olds news reports
 AreReported choosers sinks committed number _ _ _ = ⊥
+
+-- each job's guest is in the state behind what is committed under its number, which go up from this one
+abbrev pub AreLeft : {C O S : Type 0} → List Record → ℕ → (jobs : List (Job C O S)) → List GuestValue → Type 0
+AreLeft committed number [] [] = Unit {0}
+AreLeft committed number (job ∷ jobs) (guest ∷ guests) =
+    IsBehind (of_guest number committed) guest × AreLeft committed (number + 1) jobs guests
+AreLeft committed number _ _ = ⊥
 
 -- ---- the log
 
@@ -70,12 +81,12 @@ pub record IsLeft {D : Type 0} (device : Device D) (log : LogValue D) (bodies : 
   pub above : next_guest earlier ≤ log.next_guest
 
 -- These records were committed, whatever bodies the log kept before: of each job what was recorded so far, and no others.
-pub record HasRun {C O S D : Type 0} (sinks : Sinks S) (device : Device D) (committed : List Record)
-    (log log' : LogValue D) (jobs jobs' : List (Job C O S)) : Type 0 where
+pub record HasRun {C O S D : Type 0} (choosers : Choosers C) (sinks : Sinks S) (device : Device D)
+    (committed : List Record) (log log' : LogValue D) (jobs jobs' : List (Job C O S)) : Type 0 where
   pub gained : (bodies : List (List ℕ)) (earlier : List Record)
       → IsLeft device log bodies earlier → HasGained device committed log log' bodies earlier
   pub only : AllByRecursion (IsPlaced log.next_guest (length jobs)) committed
-  pub recorded : AreRecorded sinks committed log.next_guest jobs jobs'
+  pub recorded : AreRecorded choosers sinks committed log.next_guest jobs jobs'
 
 -- ---- faults
 

@@ -1,5 +1,6 @@
 -- Lists of tasks, and of what came of them.
 use Rattle.std.specs.Prelude.{List, [], ◌∷◌, ◌++◌, Option, Some, None}
+use Rattle.guest_calls.specs.Guest.{GuestValue}
 use Rattle.commit_group.specs.Seats.{RecorderValue}
 use Rattle.session.specs.declared.fault.SessionFault.{SessionFault}
 use Rattle.session.specs.declared.job.Job.{Job}
@@ -21,6 +22,14 @@ seats_worked (worked ∷ rest) = worked.seat ∷ seats_worked rest
 abbrev pub jobs_worked : {C O S : Type 0} → List (Worked C O S) → List (Job C O S)
 jobs_worked [] = []
 jobs_worked (worked ∷ rest) = worked.job ∷ jobs_worked rest
+
+abbrev pub once : Option GuestValue → List GuestValue
+once None = []
+once (Some guest) = guest ∷ []
+
+abbrev pub states_worked : {C O S : Type 0} → List (Worked C O S) → List GuestValue
+states_worked [] = []
+states_worked (worked ∷ rest) = once worked.guest ++ states_worked rest
 
 abbrev pub met_once : Option SessionFault → List SessionFault
 met_once None = []

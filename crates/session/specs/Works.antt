@@ -1,13 +1,15 @@
 -- What a worker is given, and what it gives back.
-use Rattle.std.specs.Prelude.{◌≡◌, ◌⊎◌, ℕ, true, false, List, [], ◌++◌, length, take, vec_items, Option, Some, None}
+use Rattle.std.specs.Prelude.{◌≡◌, ◌⊎◌, ℕ, ◌<◌, ◌^◌, true, false, List, [], ◌++◌, length, take, vec_items, Option, Some, None}
 use Rattle.rrv_model.specs.declared.record.Record.{Record}
 use Rattle.rrv_model.specs.declared.machine.GuestEnd.{GuestEnd}
 use Rattle.rrv_model.specs.declared.sink.Sink as sinks
 use Rattle.rrv_model.specs.Elf.{refusal}
 use Rattle.rrv_model.specs.Opening.{IsName}
 use Rattle.rrv_model.specs.Output.{Chunk, spread}
-use Rattle.rrv_model.specs.Recording.{items_of}
+use Rattle.rrv_model.specs.Recording.{EndsIn, items_of}
 use Rattle.rrv_model.specs.State.{State}
+use Rattle.rrv_model.specs.StateAt.{total}
+use Rattle.guest_calls.specs.Guest.{GuestValue, state_of}
 use Rattle.serial_sched.specs.declared.chooser.Chooser as choosers
 use Rattle.commit_core.specs.Runs.{ItemsPut, IsOutput}
 use Rattle.recorder.specs.Recorded.{IsFirst, IsRecorded, opening_of}
@@ -16,6 +18,7 @@ use Rattle.session.specs.declared.fault.SessionFault.TheVariants as faults
 use Rattle.session.specs.declared.job.Job.{Job}
 use Rattle.session.specs.declared.task.Task.{Task}
 use Rattle.session.specs.declared.task.Worked.{Worked}
+use Rattle.session.specs.Chosen.{HasChosen, IsLeftWith, frames_in}
 
 -- what a type of sinks, and what one of choosers, says of each
 abbrev pub Sinks : Type 0 → Type 1
@@ -81,17 +84,34 @@ abbrev pub AreMet : ℕ → Option SessionFault → Type 0
 AreMet guest None = Unit {0}
 AreMet guest (Some fault) = IsMet guest fault
 
--- all is sent, and seen to be durable, and the guest is recorded to its end
-pub record HasFinished {C O S : Type 0} (choosers : Choosers C) (put : List (ℕ × ℕ)) (new : Worked C O S) : Type 0 where
+-- The frames of these records are chosen by the job's chooser, up to where the guest ended so. The chooser that they lead to
+-- is that of the job then, or had no choice left when the job's was made of it.
+abbrev pub HasChosenAll : {C O S : Type 0} → Choosers C → (old new : Job C O S) → List Record → Option GuestEnd → Type 0
+HasChosenAll choosers old new records end =
+    HasChosen choosers.chooses old records (λ s last. (end ≡ s.ended) × IsLeftWith choosers.chooses new.chooser s last)
+
+-- the guest is in the state behind these records, and ran the steps of their frames, as far as it counts them
+pub record IsBehind (records : List Record) (guest : GuestValue) : Type 0 where
+  pub ends : EndsIn (items_of records) (state_of guest)
+  pub ran : total (frames_in records) < 2 ^ 64 → guest.ran ≡ total (frames_in records)
+
+-- all is sent, and seen to be durable, and the guest is recorded to its end, and comes back as it is then
+pub record HasFinished {C O S : Type 0} (choosers : Choosers C) (old : Job C O S) (put : List (ℕ × ℕ)) (new : Worked C O S)
+    : Type 0 where
   pub seen : new.seat.seen ≡ length new.seat.sent
   pub whole : IsToItsEnd choosers (opening_for new.seat.guest new.job) new.seat.guest new.seat.sent put new.end new.job
+  pub chosen : HasChosenAll choosers old new.job new.seat.sent new.end
+  pub guest : GuestValue
+  pub guest_is : new.guest ≡ Some guest
+  pub behind : IsBehind new.seat.sent guest
 
 -- it found the group halted, and all output of the records that it saw to be durable has left
 pub record HasStopped {C O S : Type 0} (put : List (ℕ × ℕ)) (new : Worked C O S) : Type 0 where
   pub knows : new.seat.knows_halt ≡ true
   pub output : IsAllOutput put (take new.seat.seen new.seat.sent)
 
--- The seat and the job are the same, and the seat has left. What was sent is nothing, or a recording of the job's opening. The sink took a
+-- The seat and the job are the same, and the seat has left. What was sent is nothing, or a recording of the job's opening, whose
+-- frames the job's chooser chose. The sink took a
 -- beginning of the output of those records that were seen to be durable. The guest is recorded to its end, unless the
 -- worker met a fault or found the group halted.
 pub record HasWorked {C O S : Type 0} (choosers : Choosers C) (sinks : Sinks S)
@@ -101,8 +121,9 @@ pub record HasWorked {C O S : Type 0} (choosers : Choosers C) (sinks : Sinks S)
   pub left : new.seat.has_left ≡ true
   pub job : IsSameJob old.job new.job
   pub sent : IsBegun (opening_for new.seat.guest new.job) new.seat.guest new.seat.sent
+  pub chosen : HasChosen choosers.chooses old.job new.seat.sent (λ _ _. Unit {0})
   pub put : List (ℕ × ℕ)
   pub takes : Takes sinks old.job.sink new.job.sink put
   pub output : IsOutput put (take new.seat.seen new.seat.sent)
   pub faults : AreMet new.seat.guest new.fault
-  pub finished : new.fault ≡ None → HasStopped put new ⊎ HasFinished choosers put new
+  pub finished : new.fault ≡ None → HasStopped put new ⊎ HasFinished choosers old.job put new

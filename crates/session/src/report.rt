@@ -1,5 +1,6 @@
 //! What is told of a session that was recorded to its end.
 
+use guest_calls::Guest;
 use rrv_model::machine::GuestEnd;
 
 /// What was recorded of a guest.
@@ -13,7 +14,9 @@ pub struct GuestReport {
 }
 
 /// What was recorded of each guest, in the order of the jobs.
-#[derive(Debug, Drop)]
+#[derive(Drop)]
 pub struct SessionReport {
     pub guests: Vec<GuestReport>,
+    /// Each guest, as it is behind the last of its records.
+    pub states: Vec<Guest>,
 }

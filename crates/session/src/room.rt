@@ -8,7 +8,7 @@ use crate::report::GuestReport;
 use crate::task::{Task, Worked};
 use crate::worker::Worker;
 use commit_group::{FlusherSeat, Group, RecorderSeat};
-use guest_calls::Outside;
+use guest_calls::{Guest, Outside};
 use rrv_model::refusal::Memory;
 use rrv_model::sink::Sink;
 use serial_sched::Chooser;
@@ -25,6 +25,7 @@ pub(crate) struct Room<C: Chooser + Drop, O: Outside + Drop, S: Sink + Drop> {
     pub(crate) seats_back: Vec<RecorderSeat>,
     pub(crate) jobs_back: Vec<Job<C, O, S>>,
     pub(crate) reports: Vec<GuestReport>,
+    pub(crate) states: Vec<Guest>,
 }
 
 /// A group of so many guests, and room for them.
@@ -45,5 +46,6 @@ pub(crate) fn make_room<C: Chooser + Drop, O: Outside + Drop, S: Sink + Drop>(
         seats_back: Vec::with_capacity(alloc, guests)?,
         jobs_back: Vec::with_capacity(alloc, guests)?,
         reports: Vec::with_capacity(alloc, guests)?,
+        states: Vec::with_capacity(alloc, guests)?,
     })
 }

@@ -1,7 +1,11 @@
 //! The rounds of a worker: it sends and releases what it can, and makes a frame where the gate lets it.
 
-ghost use Rattle.std.specs.Prelude.{◌≡◌, ◌≢◌, ◌↔◌, ◌<◌, [], true, Err, IfErr, IfOk, IsTrue, None, OnOk};
+ghost use Rattle.std.specs.Prelude.{◌≡◌, ◌≢◌, ◌↔◌, ◌<◌, [], true, Err, IfErr, IfOk, IsTrue, None, OnErr, OnOk};
+ghost use Rattle.guest_calls.specs.Guest.{state_of};
+ghost use Rattle.serial_sched.specs.Chosen.{Picks};
+ghost use Rattle.recorder.specs.RecorderCalls.{KeepsMade};
 ghost use Rattle.recorder.specs.Recorders.{IsSettled};
+ghost use Rattle.session.specs.Chosen.{IsLeftWith, MakesChosen, TurnLeaves};
 ghost use Rattle.session.specs.Drives.{Drives, GoesOn, HasHalted, HasSent, IsOver, next_held, work_told};
 ghost use Rattle.session.specs.declared.rounds.WorkFault.TheVariants as work_faults;
 
@@ -78,7 +82,9 @@ fn choose<C: Chooser>(
     guest: &Guest,
     chooser: &mut C,
 ) -> Result<Option<Choice>, Memory>
-    ensures { IfOk result (λ choice. choice ≡ None → C.is_done chooser.new) }
+    ensures done { IfOk result (λ choice. choice ≡ None → C.is_done chooser.new) }
+    ensures picks { IfOk result (λ choice.
+        Picks C.chooses (state_of guest.now) chooser.old choice chooser.new) }
 {
     let runnable = guest.running(alloc)?;
     if runnable.is_empty() {
@@ -108,6 +114,9 @@ fn take_turn<C: Chooser, O: Outside, G: Gate>(
     ensures goes { GoesOn recorder.old recorder.new [] }
     ensures over { IfOk result (λ turn. turn ≡ Turn.Over → IsOver C.Chooser recorder.new chooser.new) }
     ensures no_halt { IfErr result (λ e. e ≢ WorkFault.Halted) }
+    ensures chosen { OnErr result (MakesChosen C.chooses recorder.old chooser.old recorder.new (λ _. Unit {0})) }
+    ensures turn { IfOk result (λ turn. MakesChosen C.chooses recorder.old chooser.old recorder.new
+        (TurnLeaves C.chooses turn chooser.new (state_of recorder.new.guest))) }
 {
     if recorder.sent() != recorder.made() {
         return Ok(Turn::Waits);
@@ -132,6 +141,7 @@ fn send<G: Gate, R: Wait>(
     place: &Place<G>,
 ) -> Result<(), RecorderFault>
     ensures goes { GoesOn recorder.old recorder.new [] }
+    ensures keeps { KeepsMade recorder.old recorder.new }
     ensures halted { IfErr result (λ _. recorder.new.seat.knows_halt ≡ true) }
 {
     let before = recorder.sent();
@@ -148,6 +158,7 @@ fn send_and_release<S: Sink, G: Gate, R: Wait>(
     place: &Place<G>,
 ) -> Result<(), RecorderFault>
     ensures drives { Drives S.Sink recorder.old recorder.new sink.old sink.new }
+    ensures keeps { KeepsMade recorder.old recorder.new }
     ensures halted { result ≡ Err RecorderFault.Halted → HasHalted recorder.new }
 {
     let sent = send(rt, recorder, place);
@@ -188,6 +199,9 @@ fn make_frames<C: Chooser, O: Outside, S: Sink, G: Gate, R: Wait>(
 ) -> Result<(), WorkFault>
     ensures drives { Drives S.Sink recorder.old recorder.new sink.old sink.new }
     ensures over { OnOk result (IsOver C.Chooser recorder.new chooser.new) }
+    ensures chosen { MakesChosen C.chooses recorder.old chooser.old recorder.new (λ _. Unit {0}) }
+    ensures left { OnOk result (MakesChosen C.chooses recorder.old chooser.old recorder.new
+        (IsLeftWith C.chooses chooser.new (state_of recorder.new.guest))) }
     ensures halted { result ≡ Err WorkFault.Halted → HasHalted recorder.new }
 {
     let mut held = 0;
@@ -214,6 +228,9 @@ pub(crate) fn drive<C: Chooser, O: Outside, S: Sink, G: Gate, R: Wait>(
 ) -> Result<(), WorkFault>
     ensures drives { Drives S.Sink recorder.old recorder.new sink.old sink.new }
     ensures over { OnOk result (IsOver C.Chooser recorder.new chooser.new) }
+    ensures chosen { MakesChosen C.chooses recorder.old chooser.old recorder.new (λ _. Unit {0}) }
+    ensures left { OnOk result (MakesChosen C.chooses recorder.old chooser.old recorder.new
+        (IsLeftWith C.chooses chooser.new (state_of recorder.new.guest))) }
     ensures settled { OnOk result (IsSettled recorder.new) }
     ensures halted { result ≡ Err WorkFault.Halted → HasHalted recorder.new }
 {
@@ -226,6 +243,7 @@ pub(crate) fn drive<C: Chooser, O: Outside, S: Sink, G: Gate, R: Wait>(
 /// Sends what waits, while that may be.
 pub(crate) fn send_rest<G: Gate, R: Wait>(rt: &R, recorder: &mut Recorder, place: &Place<G>)
     ensures goes { GoesOn recorder.old recorder.new [] }
+    ensures keeps { KeepsMade recorder.old recorder.new }
     ensures rest { HasSent recorder.new }
 {
     for _ in rt.forever() {

@@ -4,7 +4,7 @@ ghost use Rattle.std.specs.Prelude.{◌≡◌, ◌<◌, ◌≤◌, ◌+◌, List
 ghost use Rattle.rrv_model.specs.declared.record.Record.{Record};
 ghost use Rattle.std.specs.List.{AllByRecursion};
 ghost use Rattle.session.specs.Openings.{StartsGuest};
-ghost use Rattle.session.specs.Sessions.{AreReported, AreTooMany, AreUntouched, HasRun, RefusesSession};
+ghost use Rattle.session.specs.Sessions.{AreLeft, AreReported, AreTooMany, AreUntouched, HasRun, RefusesSession};
 
 use crate::fault::SessionFault;
 use crate::gate::Gate;
@@ -49,9 +49,9 @@ fn record_some<
     requires some { (0 < length jobs.items) × (length jobs.items ≤ 16) }
     requires whole { log.is_broken ≡ false }
     requires numbers { log.next_guest + length jobs.items ≤ 4294967295 }
-    ensures recorded { (committed : List Record) × HasRun S.Sink D.Disk committed log result.0 jobs.items result.1.items
-        × IfOk result.2 (λ r. AreReported C.Chooser S.Sink committed log.next_guest
-        jobs.items result.1.items r.guests.items) }
+    ensures recorded { (committed : List Record) × HasRun C.Chooser S.Sink D.Disk committed log result.0
+        jobs.items result.1.items × IfOk result.2 (λ r. AreReported C.Chooser S.Sink committed log.next_guest
+        jobs.items result.1.items r.guests.items × AreLeft committed log.next_guest result.1.items r.states.items) }
     ensures whole { OnOk result.2 (result.0.is_broken ≡ false) }
     ensures refused { IfErr result.2 (RefusesSession log result.0 jobs result.1) }
 {
@@ -68,16 +68,28 @@ fn record_some<
         mut seats_back,
         mut jobs_back,
         mut reports,
+        mut states,
     } = room;
     give(seats, jobs, &mut tasks);
     let (done, flusher, log, flushed) = run(rt, alloc, tasks, flusher, log, gate, workers, done);
     let lowest = lowest_fault(flushed, &done);
-    take_back(first, done, &mut seats_back, &mut jobs_back, &mut reports);
+    take_back(
+        first,
+        done,
+        &mut seats_back,
+        &mut jobs_back,
+        &mut reports,
+        &mut states,
+    );
     let _ = end(seats_back, flusher);
     if let Some(fault) = lowest {
         return (log, jobs_back, Err(fault));
     }
-    (log, jobs_back, Ok(SessionReport { guests: reports }))
+    let report = SessionReport {
+        guests: reports,
+        states,
+    };
+    (log, jobs_back, Ok(report))
 }
 
 /// Records a guest for each job, each by a worker in a thread of its own, and commits what they send by a flusher in this one. The
@@ -101,9 +113,9 @@ pub fn record_all<
     Result<SessionReport, SessionFault>,
 )
     requires whole { log.is_broken ≡ false }
-    ensures recorded { (committed : List Record) × HasRun S.Sink D.Disk committed log result.0 jobs.items result.1.items
-        × IfOk result.2 (λ r. AreReported C.Chooser S.Sink committed log.next_guest
-        jobs.items result.1.items r.guests.items) }
+    ensures recorded { (committed : List Record) × HasRun C.Chooser S.Sink D.Disk committed log result.0
+        jobs.items result.1.items × IfOk result.2 (λ r. AreReported C.Chooser S.Sink committed log.next_guest
+        jobs.items result.1.items r.guests.items × AreLeft committed log.next_guest result.1.items r.states.items) }
     ensures whole { OnOk result.2 (result.0.is_broken ≡ false) }
     ensures starts { OnOk result.2 (AllByRecursion StartsGuest jobs.items) }
     ensures refused { IfErr result.2 (RefusesSession log result.0 jobs result.1) }
@@ -117,6 +129,7 @@ pub fn record_all<
     if count == 0 {
         let report = SessionReport {
             guests: Vec::new(alloc),
+            states: Vec::new(alloc),
         };
         return (log, jobs, Ok(report));
     }

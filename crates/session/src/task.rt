@@ -5,7 +5,7 @@ ghost use Rattle.session.specs.Works.{HasWorked};
 use crate::fault::SessionFault;
 use crate::job::Job;
 use commit_group::RecorderSeat;
-use guest_calls::Outside;
+use guest_calls::{Guest, Outside};
 use rrv_model::machine::GuestEnd;
 use rrv_model::sink::Sink;
 use serial_sched::Chooser;
@@ -19,11 +19,13 @@ pub struct Task<C: Chooser + Drop, O: Outside + Drop, S: Sink + Drop> {
     pub job: Job<C, O, S>,
 }
 
-/// The seat and the job again, how the guest ended, and the fault that its worker met.
+/// The seat and the job again, the guest behind all that was made of it, how it ended, and the fault that its worker met.
 #[derive(Drop)]
 pub struct Worked<C: Chooser + Drop, O: Outside + Drop, S: Sink + Drop> {
     pub seat: RecorderSeat,
     pub job: Job<C, O, S>,
+    /// None where there was no memory for its recorder.
+    pub guest: Option<Guest>,
     pub end: Option<GuestEnd>,
     pub fault: Option<SessionFault>,
 }

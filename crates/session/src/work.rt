@@ -1,6 +1,9 @@
 //! What a worker does.
 
 ghost use Rattle.std.specs.Prelude.{◌≡◌, ◌⊎◌, [], true, IfErr, IfOk, None};
+ghost use Rattle.guest_calls.specs.Guest.{state_of};
+ghost use Rattle.recorder.specs.RecorderCalls.{KeepsMade};
+ghost use Rattle.session.specs.Chosen.{IsAtStart, IsLeftWith, MakesChosen};
 ghost use Rattle.session.specs.Drives.{Drives, GoesOn, HasHalted, HasSent, IsDone, IsDriven, LeavesWith, fault_told};
 ghost use Rattle.session.specs.Works.{AreMet, HasWorked, IsFresh, IsSameJob, opening_for};
 
@@ -29,6 +32,7 @@ fn open<C: Chooser + Drop, O: Outside + Drop, S: Sink + Drop>(
     requires { IsFresh (record { seat = seat; job = job.now }) }
     ensures seat { IfOk result (λ r. r.seat ≡ seat) }
     ensures driven { IfOk result (λ r. IsDriven (opening_for seat.guest job.now) r []) }
+    ensures start { IfOk result (IsAtStart job.now) }
     ensures back { IfErr result (λ e. e ≡ seat) }
 {
     let Ok(opening) = copy_opening(alloc, &job.elf, &job.name, &job.random) else {
@@ -62,6 +66,7 @@ fn end_early<G: Gate, R: Wait>(
     fault: WorkFault,
 ) -> Option<SessionFault>
     ensures goes { GoesOn recorder.old recorder.new [] }
+    ensures keeps { KeepsMade recorder.old recorder.new }
     ensures told { result ≡ fault_told place.now.guest fault }
     ensures met { AreMet place.now.guest result }
     ensures none { result ≡ None → (fault ≡ WorkFault.Halted) × (recorder.new ≡ recorder.old) }
@@ -88,6 +93,9 @@ fn record<C: Chooser + Drop, O: Outside + Drop, S: Sink + Drop, G: Gate, R: Wait
     ensures job { IsSameJob job.old job.new }
     ensures met { AreMet place.now.guest result }
     ensures done { result ≡ None → HasHalted recorder.new ⊎ IsDone C.Chooser recorder.new job.new.chooser }
+    ensures chosen { MakesChosen C.chooses recorder.old job.old.chooser recorder.new (λ _. Unit {0}) }
+    ensures left { result ≡ None → HasHalted recorder.new ⊎ MakesChosen C.chooses recorder.old job.old.chooser
+        recorder.new (IsLeftWith C.chooses job.new.chooser (state_of recorder.new.guest)) }
     ensures rest { HasSent recorder.new }
 {
     let driven = drive(
@@ -105,7 +113,7 @@ fn record<C: Chooser + Drop, O: Outside + Drop, S: Sink + Drop, G: Gate, R: Wait
     }
 }
 
-/// The seat, which has left, and what else a worker gives back.
+/// The seat, which has left, the guest, and what else a worker gives back.
 fn leave<C: Chooser + Drop, O: Outside + Drop, S: Sink + Drop>(
     recorder: Recorder,
     job: Job<C, O, S>,
@@ -113,10 +121,12 @@ fn leave<C: Chooser + Drop, O: Outside + Drop, S: Sink + Drop>(
 ) -> Worked<C, O, S>
     ensures left { LeavesWith recorder job fault result }
 {
-    let end = recorder.guest().ended();
+    let (seat, guest) = recorder.finish();
+    let end = guest.ended();
     Worked {
-        seat: recorder.leave(),
+        seat,
         job,
+        guest: Some(guest),
         end,
         fault,
     }
@@ -146,6 +156,7 @@ fn record_and_leave<C: Chooser + Drop, O: Outside + Drop, S: Sink + Drop, G: Gat
             Worked {
                 seat,
                 job,
+                guest: None,
                 end: None,
                 fault: Some(SessionFault::Memory),
             }

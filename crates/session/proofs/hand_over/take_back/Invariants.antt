@@ -2,7 +2,7 @@ use Rattle.std.specs.Prelude.{◌≡◌, ◌+◌, ◌≤◌, ◌++◌, length, v
 use Rattle.std.specs.List.{AllByRecursion}
 use Rattle.std.specs.Vec.Iter.{into_iter_items, into_iter_len}
 use Rattle.session.specs.Sessions.{HasNumber, reports_of}
-use Rattle.session.specs.Tasks.{seats_worked, jobs_worked}
+use Rattle.session.specs.Tasks.{seats_worked, jobs_worked, states_worked}
 use Rattle.session.proofs.hand_over.take_back.Given as goal
 
 abbrev pub invariant-loop-worked : goal.invariant-loop-worked
@@ -15,3 +15,5 @@ invariant-loop-worked g l =
     × (l.reports.items ++ reports_of l.fn.first (into_iter_items l.worked-iterator) ≡ reports_of l.fn.first l.fn.done.items)
     × (vec_len l.reports + into_iter_len l.worked-iterator ≤ vec_capacity l.reports)
     × AllByRecursion (HasNumber l.fn.first) (into_iter_items l.worked-iterator)
+    × (l.states.items ++ states_worked (into_iter_items l.worked-iterator) ≡ states_worked l.fn.done.items)
+    × (vec_len l.states + into_iter_len l.worked-iterator ≤ vec_capacity l.states)

@@ -1,3 +1,8 @@
+use Rattle.std.proofs.Common.{sym, subst}
+use Rattle.guest_calls.specs.Guest.{GuestValue, state_of}
+use Rattle.recorder.specs.RecorderCalls.{KeepsMade}
+use Rattle.session.specs.Chosen.{IsLeftWith, MakesChosen}
+use Rattle.session.proofs.Chosen.{makes_kept}
 use Rattle.session.proofs.Driven.{drives_both, drives_more}
 use Rattle.session.proofs.rounds.drive.Goals as goal
 
@@ -10,3 +15,15 @@ pub returns-clause-drives : goal.returns-clause-drives
 returns-clause-drives g c =
     let s = c.settle.ensures in
     drives_both g.S.Sink _ _ _ _ _ _ c.make_frames.ensures.drives (drives_more g.S.Sink _ _ _ _ _ s.keeps s.put s.tells)
+
+pub returns-in_err-settle-clause-chosen : goal.returns-in_err-settle-clause-chosen
+returns-in_err-settle-clause-chosen g c = makes_kept g.C.Chooser.chooses _ _ _ _ _ c.settle.ensures.keeps c.make_frames.ensures.chosen
+
+pub returns-clause-chosen : goal.returns-clause-chosen
+returns-clause-chosen g c = makes_kept g.C.Chooser.chooses _ _ _ _ _ c.settle.ensures.keeps c.make_frames.ensures.chosen
+
+pub returns-clause-left : goal.returns-clause-left
+returns-clause-left g c =
+    let kept : KeepsMade c.make_frames.new.recorder c.settle.new.self = c.settle.ensures.keeps in
+    subst (λ (v : GuestValue). MakesChosen g.C.Chooser.chooses c.args.recorder.now c.args.chooser.now c.settle.new.self (IsLeftWith g.C.Chooser.chooses c.make_frames.new.chooser (state_of v))) (sym kept.guest)
+    (makes_kept g.C.Chooser.chooses _ _ _ _ _ kept c.in_ok-make_frames.ensures.left)

@@ -2,7 +2,7 @@ use Rattle.std.proofs.Common.{subst, sym, ◌∙◌}
 use Rattle.std.proofs.lemmas.Result.{err_from_is_err_and}
 use Rattle.recorder.specs.declared.fault.RecorderFault.TheVariants as faults
 use Rattle.recorder.specs.RecorderCalls.{RefusesRelease}
-use Rattle.recorder.proofs.Made.{keeps_released}
+use Rattle.recorder.proofs.Made.{keeps_both, keeps_released}
 use Rattle.session.proofs.Driven.{drives_both, drives_more, drives_still, halted_is}
 use Rattle.session.proofs.rounds.send_and_release.Goals as goal
 
@@ -22,3 +22,13 @@ pub returns-in_err-release-clause-halted : goal.returns-in_err-release-clause-ha
 returns-in_err-release-clause-halted g c e =
     let p = err_from_is_err_and c.from_residual.result c.from_residual.ensures.1 in
     absurd (subst (λ f. RefusesRelease f (g.S.Sink.faults c.args.sink.now) (g.S.Sink.faults c.release.new.sink)) {y = faults.Halted} (sym p.2 ∙ halted_is p.0 _ p.1 e) c.in_err-release.ensures.refused)
+
+pub returns-in_err-release-clause-keeps : goal.returns-in_err-release-clause-keeps
+returns-in_err-release-clause-keeps g c =
+    let r = c.release.ensures in
+    keeps_both _ _ _ c.send-sent.ensures.keeps (keeps_released _ _ _ r.looks r.same r.checkpoints)
+
+pub returns-clause-keeps : goal.returns-clause-keeps
+returns-clause-keeps g c =
+    let r = c.release.ensures in
+    keeps_both _ _ _ c.send-sent.ensures.keeps (keeps_released _ _ _ r.looks r.same r.checkpoints)

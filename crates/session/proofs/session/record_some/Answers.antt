@@ -10,12 +10,12 @@ use Rattle.session.specs.Works.{HasWorked}
 use Rattle.session.proofs.Pairs.{pairs_length}
 use Rattle.session.proofs.Recorded.{all_numbered}
 use Rattle.session.proofs.Refusals.{lowest_tells}
-use Rattle.session.proofs.Sessions.{AreJoined, flusher_met_none, has_reported, has_run, nothing_ran}
+use Rattle.session.proofs.Sessions.{AreJoined, flusher_met_none, has_left, has_reported, has_run, nothing_ran}
 use Rattle.session.proofs.Tasks.{all_fresh, all_of, jobs_length, seats_length, worked_length}
 use Rattle.session.proofs.session.record_some.Goals as goal
 
 pub returns-in_default-clause-recorded : goal.returns-in_default-clause-recorded
-returns-in_default-clause-recorded g c = ([], nothing_ran g.D.Disk g.S.Sink c.args.log c.args.jobs.items, tt)
+returns-in_default-clause-recorded g c = ([], nothing_ran g.D.Disk g.C.Chooser g.S.Sink c.args.log c.args.jobs.items, tt)
 
 pub run-done-requires-after_bounds : goal.run-done-requires-after_bounds
 run-done-requires-after_bounds g c κs within =
@@ -54,6 +54,14 @@ take_back-requires-clause-reports g c =
     let same = pairs_length (HasWorked g.C.Chooser g.S.Sink) c.give.new.tasks.items c.run-done.result.0.items c.run-done.ensures.works in
     let count = h.count in
     (h.reports.0, (let r = h.reports.1 in omega arith))
+
+pub take_back-requires-clause-states : goal.take_back-requires-clause-states
+take_back-requires-clause-states g c =
+    let h = c.in-Ok.ensures in
+    let len : length c.give.new.tasks.items ≡ length c.in-Ok.room.seats.items = sym (seats_length c.give.new.tasks.items) ∙ ap length c.give.ensures.seats in
+    let same = pairs_length (HasWorked g.C.Chooser g.S.Sink) c.give.new.tasks.items c.run-done.result.0.items c.run-done.ensures.works in
+    let count = h.count in
+    (h.states.0, (let r = h.states.1 in omega arith))
 
 pub take_back-requires-clause-numbers : goal.take_back-requires-clause-numbers
 take_back-requires-clause-numbers g c =
@@ -127,8 +135,12 @@ returns-clause-recorded g c =
     ∙ subst (λ (o : Option SessionFault). IsLowest (met ++ faults_met c.deref.result.now) o) c.in_default-lowest.is c.lowest_fault-lowest.ensures in (
       c.run-done.result.1.committed,
       run,
-      has_reported g.C.Chooser g.S.Sink g.D.Disk group c.in-Ok.room.flusher c.run-done.result.1 c.args.log c.run-done.result.2 c.run-done.result.3 T Z c.args.jobs.items c.take_back.new.jobs.items
-          c.next_guest-first.result c.take_back.new.reports.items joined c.give.ensures.jobs c.take_back.ensures.jobs c.next_guest-first.ensures c.take_back.ensures.reports none (omega arith),
+      (
+        has_reported g.C.Chooser g.S.Sink g.D.Disk group c.in-Ok.room.flusher c.run-done.result.1 c.args.log c.run-done.result.2 c.run-done.result.3 T Z c.args.jobs.items c.take_back.new.jobs.items
+            c.next_guest-first.result c.take_back.new.reports.items joined c.give.ensures.jobs c.take_back.ensures.jobs c.next_guest-first.ensures c.take_back.ensures.reports none (omega arith),
+        has_left g.C.Chooser g.S.Sink g.D.Disk group c.in-Ok.room.flusher c.run-done.result.1 c.args.log c.run-done.result.2 c.run-done.result.3 T Z c.take_back.new.jobs.items c.take_back.new.states.items
+            joined c.take_back.ensures.jobs c.take_back.ensures.states none,
+      ),
     )
 
 pub returns-in-Some-clause-refused : goal.returns-in-Some-clause-refused

@@ -1,0 +1,208 @@
+-- Frames that a chooser chose.
+use Rattle.std.proofs.Common.{true, false, true≢false, ◌≡◌, ◌∙◌, inl, inr, ℕ, ◌+◌, ◌<◌, ◌^◌, arith, min, List, [], ◌∷◌, ◌++◌, length, map, take, drop, refl, sym, ap, subst, append_assoc}
+use denote.Enum.Bare.{sameb}
+use Rattle.std.proofs.lemmas.List.{append-nil, take-append-drop}
+use Rattle.std.proofs.lemmas.List.Sums.{sum_by-append}
+use Rattle.std.specs.Prelude.{◌≢◌, Some, None, vec_items}
+use Rattle.rrv_model.specs.declared.record.Choice.{Choice}
+use Rattle.rrv_model.specs.declared.record.Frame.{Frame}
+use Rattle.rrv_model.specs.declared.record.Item.{Item}
+use Rattle.rrv_model.specs.declared.record.Item.TheVariants as items
+use Rattle.rrv_model.specs.declared.record.Opening.{Opening}
+use Rattle.rrv_model.specs.declared.record.Part.{Part}
+use Rattle.rrv_model.specs.declared.record.Record.{Record}
+use Rattle.rrv_model.specs.FrameStep.{FrameStep}
+use Rattle.rrv_model.specs.Opening.{opening_state}
+use Rattle.rrv_model.specs.Recording.{EndsIn, frame_record, frames_of, items_of}
+use Rattle.rrv_model.specs.State.{State}
+use Rattle.rrv_model.specs.StateAt.{total}
+use Rattle.guest_calls.specs.Guest.{GuestValue, counted, state_of}
+use Rattle.serial_sched.specs.Asking.{Gives}
+use Rattle.serial_sched.specs.Chosen.{AreChosen, Choosing, Picks}
+use Rattle.serial_sched.proofs.Chosen.{beginnings_are_chosen, chosen_on}
+use Rattle.commit_core.proofs.Runs.{frames_of-append}
+use Rattle.commit_core.specs.World.{opening_record}
+use Rattle.commit_group.specs.Numbers.{renumbered}
+use Rattle.recorder.specs.declared.checkpoints.Parts.{Parts}
+use Rattle.recorder.specs.RecorderCalls.{HasStepped, IsUnmoved, KeepsMade, part_records}
+use Rattle.recorder.specs.Recorders.{GuestRecorder, HasRecorded, made, records_from}
+use Rattle.session.specs.contracts.rounds.Turn.{the_type}
+use Rattle.session.specs.declared.job.Job.{Job}
+use Rattle.session.specs.declared.rounds.Turn.{Turn}
+use Rattle.session.specs.declared.rounds.Turn.TheVariants as turns
+use Rattle.session.specs.Chosen.{HasChosen, IsAtStart, IsLeftWith, MakesChosen, TurnLeaves, frames_in, start_of}
+
+-- ---- the frames among records
+
+items_append : (xs ys : List Record) → items_of (xs ++ ys) ≡ items_of xs ++ items_of ys
+items_append [] ys = refl
+items_append (x ∷ xs) ys = ap (λ (l : List Item). x.item ∷ l) (items_append xs ys)
+
+frames_append : (xs ys : List Record) → frames_in (xs ++ ys) ≡ frames_in xs ++ frames_in ys
+frames_append xs ys = ap (λ (l : List Item). frames_of l) (items_append xs ys) ∙ frames_of-append (items_of xs) (items_of ys)
+
+no_frames : (place index : ℕ) (parts : List Part) → frames_in (records_from place index (map items.Part parts)) ≡ []
+no_frames place index [] = refl
+no_frames place index (p ∷ parts) = no_frames place (index + 1) parts
+
+-- ---- how many steps a guest counts
+
+abbrev Counts : ℕ → ℕ → ℕ → Type 0
+Counts before steps after = before + steps < 2 ^ 64 → after ≡ before + steps
+
+counts_none : (n : ℕ) → Counts n 0 n
+counts_none n low = omega arith
+
+counts_both : (a b c : ℕ) (fs gs : List Frame) → Counts a (total fs) b → Counts b (total gs) c → Counts a (total (fs ++ gs)) c
+counts_both a b c fs gs p q low =
+    let sum : total (fs ++ gs) ≡ total fs + total gs = sum_by-append (λ (f : Frame). f.count) fs gs in
+    let first : b ≡ a + total fs = p (omega arith) in
+    let second : c ≡ b + total gs = q (omega arith) in
+    omega arith
+
+counts_one : (a b : ℕ) (f : Frame) → b ≡ counted a f.count → Counts a (total (f ∷ [])) b
+counts_one a b f is low = is ∙ omega arith
+
+-- ---- what a recorder makes
+
+module _ {C : Type 0} (chooses : Choosing C) where
+  -- no frame
+  pub makes_none : (r : GuestRecorder) (c : C) (E : C → Type 0) → E c → MakesChosen chooses r c r E
+  makes_none r c E e = record {
+    frames = [];
+    made_are = sym (append-nil (frames_in (made r)));
+    last = c;
+    chosen = (refl, refl);
+    ran = counts_none r.guest.ran;
+    ends = e;
+  }
+
+  -- the chooser had no choice left
+  pub makes_left : (r : GuestRecorder) (c c' : C) → Picks chooses (state_of r.guest) c None c' → MakesChosen chooses r c r (IsLeftWith chooses c' (state_of r.guest))
+  makes_left r c c' picks = makes_none r c (IsLeftWith chooses c' (state_of r.guest)) (inr picks)
+
+  pub makes_unmoved : {O : Type 0} (a b : GuestRecorder) (before after : O) (c : C) (E : C → Type 0) → E c → IsUnmoved a b before after → MakesChosen chooses a c b E
+  makes_unmoved a b before after c E e h = record {
+    frames = [];
+    made_are = (λ i. frames_in ((h.seat i).sent ++ h.backlog i)) ∙ sym (append-nil (frames_in (made a)));
+    last = c;
+    chosen = (h.state, refl);
+    ran = subst (λ (n : ℕ). Counts a.guest.ran 0 n) (sym h.ran) (counts_none a.guest.ran);
+    ends = e;
+  }
+
+  pub makes_kept : (o a b : GuestRecorder) (c : C) (E : C → Type 0) → KeepsMade a b → MakesChosen chooses o c a E → MakesChosen chooses o c b E
+  makes_kept o a b c E keeps p = record {
+    frames = p.frames;
+    made_are = ap (λ (l : List Record). frames_in l) keeps.made_is ∙ p.made_are;
+    last = p.last;
+    chosen = subst (λ (g : GuestValue). AreChosen chooses (state_of o.guest) c p.frames (state_of g) p.last) (sym keeps.guest) p.chosen;
+    ran = subst (λ (g : GuestValue). Counts o.guest.ran (total p.frames) g.ran) (sym keeps.guest) p.ran;
+    ends = p.ends;
+  }
+
+  pub makes_both : (o a b : GuestRecorder) (c c' : C) (E : C → Type 0) → MakesChosen chooses o c a (λ last. c' ≡ last) → MakesChosen chooses a c' b E → MakesChosen chooses o c b E
+  makes_both o a b c c' E p q = record {
+    frames = p.frames ++ q.frames;
+    made_are = q.made_are ∙ ap (λ (l : List Frame). l ++ q.frames) p.made_are ∙ append_assoc (frames_in (made o)) p.frames q.frames;
+    last = q.last;
+    chosen = chosen_on chooses p.frames q.frames (state_of o.guest) (state_of a.guest) (state_of b.guest) c c' q.last
+        (subst (λ (x : C). AreChosen chooses (state_of o.guest) c p.frames (state_of a.guest) x) (sym p.ends) p.chosen) q.chosen;
+    ran = counts_both o.guest.ran a.guest.ran b.guest.ran p.frames q.frames p.ran q.ran;
+    ends = q.ends;
+  }
+
+  pub makes_any : (o a : GuestRecorder) (c : C) (E : C → Type 0) → MakesChosen chooses o c a E → MakesChosen chooses o c a (λ _. Unit {0})
+  makes_any o a c E p = record { frames = p.frames; made_are = p.made_are; last = p.last; chosen = p.chosen; ran = p.ran; ends = tt }
+
+  -- one frame
+  pub makes_one : {O : Type 0} (gives : Gives O) (a b : GuestRecorder) (choice : Choice) (outcome : Parts) (before after : O) (c c' : C) → HasStepped gives a choice outcome b before after
+      → Picks chooses (state_of a.guest) c (Some choice) c' → MakesChosen chooses a c b (λ last. c' ≡ last)
+  makes_one gives a b choice outcome before after c c' h picks =
+      let f = h.makes.frame in
+      let r = frame_record a.seat.guest (length (made a)) f in
+      let more = part_records h.between h.keeps.parts in
+      let made_is : made b ≡ (made a ++ r ∷ []) ++ more = h.keeps.made_is ∙ ap (λ (l : List Record). l ++ more) h.makes.made_is in
+      let none : frames_in more ≡ [] = no_frames h.between.seat.guest (length (made h.between)) h.keeps.parts in
+      let step : FrameStep (state_of a.guest) f (state_of b.guest) = subst (λ (s : State). FrameStep (state_of a.guest) f s) (sym h.keeps.guest.0) h.makes.slice.slice.frame in
+      record {
+        frames = f ∷ [];
+        made_are = ap (λ (l : List Record). frames_in l) made_is ∙ frames_append (made a ++ r ∷ []) more ∙ ap (λ (l : List Frame). frames_in (made a ++ r ∷ []) ++ l) none
+            ∙ append-nil (frames_in (made a ++ r ∷ [])) ∙ frames_append (made a) (r ∷ []);
+        last = c';
+        chosen = (state_of b.guest, c', record { step = step; choice = choice; picks = picks; fits = h.makes.slice.slice.fits }, (refl, refl));
+        ran = counts_one a.guest.ran b.guest.ran f (h.keeps.guest.1 ∙ h.makes.slice.slice.ran);
+        ends = refl;
+      }
+
+  -- behind a turn that isn't the last the chooser is the one that the frames lead to
+  pub goes_round : (turn : Turn) (new : C) (s : State) (last : C) → turn ≢ turns.Over → TurnLeaves chooses turn new s last → new ≡ last
+  goes_round turns.Over new s last other h = absurd (other refl)
+  goes_round turns.Stepped new s last other h = h
+  goes_round turns.Held new s last other h = h
+  goes_round turns.Waits new s last other h = h
+
+  pub makes_round : (a b : GuestRecorder) (c c' : C) (turn : Turn) → turn ≢ turns.Over → MakesChosen chooses a c b (TurnLeaves chooses turn c' (state_of b.guest)) → MakesChosen chooses a c b (λ last. c' ≡ last)
+  makes_round a b c c' turn other p = record { frames = p.frames; made_are = p.made_are; last = p.last; chosen = p.chosen; ran = p.ran; ends = goes_round turn c' (state_of b.guest) p.last other p.ends }
+
+  pub makes_over : (a b : GuestRecorder) (c c' : C) (turn : Turn) → turn ≡ turns.Over → MakesChosen chooses a c b (TurnLeaves chooses turn c' (state_of b.guest))
+      → MakesChosen chooses a c b (IsLeftWith chooses c' (state_of b.guest))
+  makes_over a b c c' turn over p = subst (λ (t : Turn). MakesChosen chooses a c b (TurnLeaves chooses t c' (state_of b.guest))) over p
+
+pub is_over : (turn : Turn) → true ≡ sameb the_type turn turns.Over → turn ≡ turns.Over
+is_over turns.Over h = refl
+is_over turns.Stepped h = absurd (true≢false h)
+is_over turns.Held h = absurd (true≢false h)
+is_over turns.Waits h = absurd (true≢false h)
+
+pub not_over : (turn : Turn) → false ≡ sameb the_type turn turns.Over → turn ≡ turns.Over → ⊥
+not_over turn h over = true≢false (sym (h ∙ ap (λ (t : Turn). sameb the_type t turns.Over) over))
+
+-- ---- a job's frames
+
+module _ {C O S : Type 0} (chooses : Choosing C) (job : Job C O S) where
+  pub chosen_from_start : (old new : GuestRecorder) (E : C → Type 0) → IsAtStart job old → MakesChosen chooses old job.chooser new E
+      → HasChosen chooses job (made new) (λ s last. (s ≡ state_of new.guest) × E last)
+  chosen_from_start old new E start p =
+      let same : frames_in (made new) ≡ p.frames = p.made_are ∙ ap (λ (l : List Frame). l ++ p.frames) start.none in
+      record {
+        state = state_of new.guest;
+        last = p.last;
+        chosen = subst (λ (x : State × List Frame). AreChosen chooses x.0 job.chooser x.1 (state_of new.guest) p.last) (λ i. (start.state i, sym same i)) p.chosen;
+        ends = (refl, p.ends);
+      }
+
+  -- a recorder of the job's opening alone
+  pub at_start : (r : GuestRecorder) (guest : ℕ) (o : Opening) → made r ≡ opening_record guest o ∷ [] → HasRecorded r → r.guest.ran ≡ 0 → o ≡ record { elf = vec_items job.elf; name = vec_items job.name; random = job.random }
+      → IsAtStart job r
+  at_start r guest o is recorded ran o_is =
+      let e : EndsIn (items_of (opening_record guest o ∷ [])) (state_of r.guest) = subst (λ (l : List Record). EndsIn (items_of l) (state_of r.guest)) is recorded.ends in
+      record {
+        none = ap (λ (l : List Record). frames_in l) is;
+        state = e.2.1 ∙ e.1.state_is ∙ ap (λ (p : Opening). opening_state p.elf p.name p.random) o_is;
+        ran = ran;
+      }
+
+  pub none_chosen : HasChosen chooses job [] (λ _ _. Unit {0})
+  none_chosen = record { state = start_of job; last = job.chooser; chosen = (refl, refl); ends = tt }
+
+  pub front_chosen : (xs ys : List Record) (E : State → C → Type 0) → HasChosen chooses job (xs ++ ys) E → HasChosen chooses job xs (λ _ _. Unit {0})
+  front_chosen xs ys E h =
+      let r = beginnings_are_chosen chooses (frames_in xs) (frames_in ys) (start_of job) h.state job.chooser h.last
+      (subst (λ (l : List Frame). AreChosen chooses (start_of job) job.chooser l h.state h.last) (frames_append xs ys) h.chosen) in
+      record { state = r.0; last = r.1; chosen = r.2; ends = tt }
+
+  pub first_chosen : (k : ℕ) (xs : List Record) (E : State → C → Type 0) → HasChosen chooses job xs E → HasChosen chooses job (take k xs) (λ _ _. Unit {0})
+  first_chosen k xs E h = front_chosen (take k xs) (drop k xs) E (subst (λ (l : List Record). HasChosen chooses job l E) (sym (take-append-drop k xs)) h)
+
+  pub chosen_again : (b : ℕ) (xs : List Record) (E : State → C → Type 0) → HasChosen chooses job xs E → HasChosen chooses job (renumbered b xs) E
+  chosen_again b xs E h = record {
+    state = h.state;
+    last = h.last;
+    chosen = subst (λ (l : List Item). AreChosen chooses (start_of job) job.chooser (frames_of l) h.state h.last) (sym (same_items b xs)) h.chosen;
+    ends = h.ends;
+  }
+    where
+      same_items : (b : ℕ) (rs : List Record) → items_of (renumbered b rs) ≡ items_of rs
+      same_items b [] = refl
+      same_items b (r ∷ rs) = ap (λ l. r.item ∷ l) (same_items b rs)

@@ -1,0 +1,59 @@
+-- Which choices lie behind a job's frames.
+use Rattle.std.specs.Prelude.{◌≡◌, ◌⊎◌, ◌+◌, ◌<◌, ◌^◌, List, [], ◌++◌, None, vec_items}
+use Rattle.rrv_model.specs.declared.record.Frame.{Frame}
+use Rattle.rrv_model.specs.declared.record.Record.{Record}
+use Rattle.rrv_model.specs.Opening.{opening_state}
+use Rattle.rrv_model.specs.Recording.{frames_of, items_of}
+use Rattle.rrv_model.specs.State.{State}
+use Rattle.rrv_model.specs.StateAt.{total}
+use Rattle.guest_calls.specs.Guest.{state_of}
+use Rattle.serial_sched.specs.Chosen.{Choosing, AreChosen, Picks}
+use Rattle.recorder.specs.Recorders.{GuestRecorder, made}
+use Rattle.session.specs.declared.job.Job.{Job}
+use Rattle.session.specs.declared.rounds.Turn.{Turn}
+use Rattle.session.specs.declared.rounds.Turn.TheVariants as turns
+
+-- the frames among the records
+abbrev pub frames_in : List Record → List Frame
+frames_in records = frames_of (items_of records)
+
+-- where a job's guest starts
+abbrev pub start_of : {C O S : Type 0} → Job C O S → State
+start_of job = opening_state (vec_items job.elf) (vec_items job.name) job.random
+
+-- it is the same chooser, but where it was asked once more in this state, and had no choice left
+abbrev pub IsLeftWith : {C : Type 0} → Choosing C → (new : C) → State → (last : C) → Type 0
+IsLeftWith chooses new s last = (new ≡ last) ⊎ Picks chooses s last None new
+
+-- The frames of these records are the slices of what the job's chooser chose, from the guest's start on. So is what this
+-- says of the state and the chooser that they lead to.
+pub record HasChosen {C O S : Type 0} (chooses : Choosing C) (job : Job C O S) (records : List Record)
+    (Ends : State → C → Type 0) : Type 0 where
+  pub state : State
+  pub last : C
+  pub chosen : AreChosen chooses (start_of job) job.chooser (frames_in records) state last
+  pub ends : Ends state last
+
+-- the frames that a recorder made are the slices of what the chooser chose, whose steps its guest counts as far as it can;
+-- this is so of the chooser that they lead to
+pub record MakesChosen {C : Type 0} (chooses : Choosing C) (old : GuestRecorder) (chooser : C) (new : GuestRecorder)
+    (Ends : C → Type 0) : Type 0 where
+  pub frames : List Frame
+  pub made_are : frames_in (made new) ≡ frames_in (made old) ++ frames
+  pub last : C
+  pub chosen : AreChosen chooses (state_of old.guest) chooser frames (state_of new.guest) last
+  pub ran : old.guest.ran + total frames < 2 ^ 64 → new.guest.ran ≡ old.guest.ran + total frames
+  pub ends : Ends last
+
+-- what a turn leaves of the chooser that its frames lead to
+abbrev pub TurnLeaves : {C : Type 0} → Choosing C → Turn → (new : C) → State → (last : C) → Type 0
+TurnLeaves chooses turns.Over new s last = IsLeftWith chooses new s last
+TurnLeaves chooses turns.Stepped new s last = new ≡ last
+TurnLeaves chooses turns.Held new s last = new ≡ last
+TurnLeaves chooses turns.Waits new s last = new ≡ last
+
+-- no frame was made, and the guest is where the job's starts
+pub record IsAtStart {C O S : Type 0} (job : Job C O S) (r : GuestRecorder) : Type 0 where
+  pub none : frames_in (made r) ≡ []
+  pub state : state_of r.guest ≡ start_of job
+  pub ran : r.guest.ran ≡ 0
