@@ -8,3 +8,4 @@ pub mod Cores
 pub mod MisfitLists
 pub mod ChoiceLists
 pub mod TurnTexts
+pub mod Lengths

@@ -1,6 +1,7 @@
 -- Texts that are printed one behind another.
-use Rattle.std.proofs.Common.{◌≡◌, ℕ, zero, suc, ◌+◌, List, [], ◌∷◌, ◌++◌, length, Option, Some, None, arith, refl, ap, sym, subst, ◌∙◌}
-use Rattle.std.specs.Prelude.{OnOk, Result, Ok, Err, codes, flat_map, slice_get, take}
+use Rattle.std.proofs.Common.{◌≡◌, cond, ℕ, zero, suc, ◌+◌, List, [], ◌∷◌, ◌++◌, length, Option, Some, None, arith, refl, ap, sym, subst, ◌∙◌}
+use Rattle.std.specs.Prelude.{Bool, true, false, OnOk, Result, Ok, Err, codes, flat_map, slice_get, take}
+use Rattle.std.specs.FinMap.{len}
 use Rattle.std.specs.Io.KnownBytes.{Appends}
 use Rattle.std.proofs.lemmas.Grind.{flat_map-append}
 use Rattle.std.proofs.lemmas.List.{append-nil, append_assoc}
@@ -10,11 +11,14 @@ use Rattle.rrv_model.specs.declared.record.Frame.{Frame}
 use Rattle.rrv_model.specs.declared.record.Opening.{Opening}
 use Rattle.rrv_model.specs.State.{State}
 use Rattle.rrv_model.specs.StateAt.{StateAt, total}
+use Rattle.guest_calls.specs.Guest.{GuestValue, state_of}
+use Rattle.end_text.specs.Ends.{end_lines}
 use Rattle.reverse_step.specs.Changes.{IsLastChange}
 use Rattle.session.specs.declared.report.GuestReport.{GuestReport}
 use Rattle.trace_text.specs.Lines.{report_line, verify_line}
 use Rattle.trace_text.specs.States.{state_lines}
-use Rattle.commands.specs.Printed.{IsFoundText, IsStateText, name_at, ranges_lines, report_lines, with_newline}
+use Rattle.commands.specs.Printed.{IsFoundText, IsStateText, name_at, ranges_lines, with_newline}
+use Rattle.commands.specs.Reports.{guest_told, guests_told, has_left}
 
 -- nothing was printed
 pub appends_none : (known : Option (List ℕ)) → Appends known known []
@@ -81,24 +85,53 @@ unchanged_printed (Err e) o frames ranges address from a b change printed = tt
 
 -- ---- reports
 
-reports_behind : (place : ℕ) (reports : List GuestReport) (report : GuestReport)
-    → report_lines place (reports ++ report ∷ []) ≡ report_lines place reports ++ with_newline (report_line (name_at (place + length reports)) report.end report.records)
-reports_behind place [] report =
-    let here : place + 0 ≡ place = omega arith in
-    append-nil _ ∙ ap (λ n. with_newline (report_line (name_at n) report.end report.records)) (sym here)
-reports_behind place (first ∷ rest) report =
-    let there : place + 1 + length rest ≡ place + length (first ∷ rest) = omega arith in
-    let line = with_newline (report_line (name_at place) first.end first.records) in
-    ap (λ l. line ++ l) (reports_behind (place + 1) rest report)
-    ∙ ap (λ n. line ++ (report_lines (place + 1) rest ++ with_newline (report_line (name_at n) report.end report.records))) there
-    ∙ sym (append_assoc line _ _)
+guests_behind : (place i : ℕ) (reports : List GuestReport) (guests : List GuestValue) (lasts : List ℕ) (report : GuestReport) (guest : GuestValue) (last : ℕ)
+    → slice_get reports i ≡ Some report → slice_get guests i ≡ Some guest → slice_get lasts i ≡ Some last
+    → guests_told place (take (suc i) reports) (take (suc i) guests) (take (suc i) lasts) ≡ guests_told place (take i reports) (take i guests) (take i lasts) ++ guest_told (place + i) report guest last
+guests_behind place i [] guests lasts report guest last a b c = absurd cc
+guests_behind place i (x ∷ xs) [] lasts report guest last a b c = absurd cc
+guests_behind place i (x ∷ xs) (y ∷ ys) [] report guest last a b c = absurd cc
+guests_behind place zero (x ∷ xs) (y ∷ ys) (z ∷ zs) report guest last a b c =
+    let here : place ≡ place + 0 = omega arith in
+    let first : x ≡ report = cc in
+    let second : y ≡ guest = cc in
+    let third : z ≡ last = cc in
+    append-nil (guest_told place x y z) ∙ (λ i. guest_told (here i) (first i) (second i) (third i))
+guests_behind place (suc i) (x ∷ xs) (y ∷ ys) (z ∷ zs) report guest last a b c =
+    let there : place + 1 + i ≡ place + suc i = omega arith in
+    let own = guest_told place x y z in
+    ap (λ l. own ++ l) (guests_behind (place + 1) i xs ys zs report guest last a b c)
+    ∙ ap (λ n. own ++ (guests_told (place + 1) (take i xs) (take i ys) (take i zs) ++ guest_told n report guest last)) there
+    ∙ sym (append_assoc own _ _)
 
-pub reports_on : (reports : List GuestReport) (i : ℕ) (report : GuestReport) (name : List ℕ) (end : Option GuestEnd) (count : ℕ) (a b c : Option (List ℕ))
-    → slice_get reports i ≡ Some report → length (take i reports) ≡ i → name ≡ name_at i → end ≡ report.end → count ≡ report.records
-    → Appends a b (report_lines 0 (take i reports)) → Appends b c (with_newline (report_line name end count))
-    → Appends a c (report_lines 0 (take (i + 1) reports))
-reports_on reports i report name end count a b c is len named ended counted before now =
-    let place : 0 + length (take i reports) ≡ i = omega (arith, len) in
-    let line = ap (λ n. report_line n report.end report.records) (ap name_at place ∙ sym named) ∙ ap (λ e. report_line name e report.records) (sym ended) ∙ ap (report_line name end) (sym counted) in
-    appends_on a b c _ _ _ before now
-    (ap (report_lines 0) (take_next reports i report is) ∙ reports_behind 0 (take i reports) report ∙ ap (λ t. report_lines 0 (take i reports) ++ with_newline t) line)
+-- one more
+pub guests_on : (i : ℕ) (reports : List GuestReport) (guests : List GuestValue) (lasts : List ℕ) (report : GuestReport) (guest : GuestValue) (last : ℕ) (a b c : Option (List ℕ))
+    → slice_get reports i ≡ Some report → slice_get guests i ≡ Some guest → slice_get lasts i ≡ Some last
+    → Appends a b (guests_told 0 (take i reports) (take i guests) (take i lasts)) → Appends b c (guest_told i report guest last)
+    → Appends a c (guests_told 0 (take (i + 1) reports) (take (i + 1) guests) (take (i + 1) lasts))
+guests_on i reports guests lasts report guest last a b c x y z before now =
+    let one : suc i ≡ i + 1 = omega arith in
+    let here : 0 + i ≡ i = omega arith in
+    subst (λ k. Appends a c (guests_told 0 (take k reports) (take k guests) (take k lasts))) one
+    (appends_on a b c _ _ _ before now
+    (guests_behind 0 i reports guests lasts report guest last x y z ∙ ap (λ n. guests_told 0 (take i reports) (take i guests) (take i lasts) ++ guest_told n report guest last) here))
+
+-- one guest's, where its last thread exited, and where it did not
+pub report_alone : (left : Bool) (place : ℕ) (report : GuestReport) (guest : GuestValue) (last : ℕ) (name : List ℕ) (end : Option GuestEnd) (count : ℕ) (a b : Option (List ℕ))
+    → true ≡ left → left ≡ has_left (state_of guest).ended (len (state_of guest).threads) → name ≡ name_at place → end ≡ report.end → count ≡ report.records
+    → Appends a b (with_newline (report_line name end count)) → Appends a b (guest_told place report guest last)
+report_alone left place report guest last name end count a b is left_is named ended counted printed =
+    let line : with_newline (report_line (name_at place) report.end report.records) ≡ with_newline (report_line name end count) = λ i. with_newline (report_line (sym named i) (sym ended i) (sym counted i)) in
+    subst (λ l. Appends a b l) (sym (ap (λ (t : Bool). with_newline (report_line (name_at place) report.end report.records) ++ cond t [] (end_lines guest.ran last (state_of guest))) (sym (is ∙ left_is)) ∙ append-nil _ ∙ line)) printed
+
+pub report_long : {T E : Type 0} (result : Result T E) (left : Bool) (place : ℕ) (report : GuestReport) (guest shown : GuestValue) (last tid ran : ℕ) (name : List ℕ) (end : Option GuestEnd) (count : ℕ) (a b c : Option (List ℕ))
+    → false ≡ left → left ≡ has_left (state_of guest).ended (len (state_of guest).threads) → name ≡ name_at place → end ≡ report.end → count ≡ report.records
+    → shown ≡ guest → tid ≡ last → ran ≡ guest.ran → Appends a b (with_newline (report_line name end count)) → OnOk result (Appends b c (end_lines ran tid (state_of shown)))
+    → OnOk result (Appends a c (guest_told place report guest last))
+report_long (Ok x) left place report guest shown last tid ran name end count a b c is left_is named ended counted shows tids rans printed then =
+    let line : with_newline (report_line (name_at place) report.end report.records) ≡ with_newline (report_line name end count) = λ i. with_newline (report_line (sym named i) (sym ended i) (sym counted i)) in
+    let lines : end_lines guest.ran last (state_of guest) ≡ end_lines ran tid (state_of shown) = λ i. end_lines (sym rans i) (sym tids i) (state_of (sym shows i)) in
+    appends_on a b c _ _ _ printed then
+    (ap (λ (t : Bool). with_newline (report_line (name_at place) report.end report.records) ++ cond t [] (end_lines guest.ran last (state_of guest))) (sym (is ∙ left_is))
+    ∙ (λ i. line i ++ lines i))
+report_long (Err e) left place report guest shown last tid ran name end count a b c is left_is named ended counted shows tids rans printed then = tt

@@ -64,7 +64,7 @@ record IsOneReport {C O S : Type 0} (choosers : Choosers C) (sinks : Sinks S) (n
   reported : IsReported choosers sinks number committed job new report
 
 module _ {C O S : Type 0} (choosers : Choosers C) (sinks : Sinks S) where
-  has_kept : (log log' : LogValue MemDisk) (committed : List Record) (jobs jobs' : List (Job C O S)) → Keeps memory_state log [] → HasRun sinks ghosts committed log log' jobs jobs'
+  has_kept : (log log' : LogValue MemDisk) (committed : List Record) (jobs jobs' : List (Job C O S)) → Keeps memory_state log [] → HasRun choosers sinks ghosts committed log log' jobs jobs'
       → log'.is_broken ≡ false → HasKept log' committed
   has_kept log log' committed jobs jobs' kept run whole =
       let g = run.gained [] [] (record { is_honest = tt; keeps = kept; recovered = none_recovered; above = omega arith }) in
@@ -86,16 +86,16 @@ module _ {C O S : Type 0} (choosers : Choosers C) (sinks : Sinks S) where
       (subst (λ (n : ℕ). AreReported choosers sinks committed n (one.job ∷ []) jobs' reports) zero_is
       (subst (λ (l : List (Job C O S)). AreReported choosers sinks committed number l jobs' reports) one.only h))
 
-  begun_at_zero : (committed : List Record) (job : Job C O S) (jobs' : List (Job C O S)) → AreRecorded sinks committed 0 (job ∷ []) jobs' → IsRecordingOrNone (opening_for 0 job) 0 (of_guest 0 committed)
+  begun_at_zero : (committed : List Record) (job : Job C O S) (jobs' : List (Job C O S)) → AreRecorded choosers sinks committed 0 (job ∷ []) jobs' → IsRecordingOrNone (opening_for 0 job) 0 (of_guest 0 committed)
   begun_at_zero committed job [] h = absurd h
   begun_at_zero committed job (new ∷ jobs') h = h.0.records
 
-  recorded_at_zero : (first : Record) (number : ℕ) (committed : List Record) (jobs jobs' : List (Job C O S)) → number ≡ 0 → IsOneJob first jobs → AreRecorded sinks committed number jobs jobs'
+  recorded_at_zero : (first : Record) (number : ℕ) (committed : List Record) (jobs jobs' : List (Job C O S)) → number ≡ 0 → IsOneJob first jobs → AreRecorded choosers sinks committed number jobs jobs'
       → IsRecordingOrNone first 0 (of_guest 0 committed)
   recorded_at_zero first number committed jobs jobs' zero_is one h =
       subst (λ (r : Record). IsRecordingOrNone r 0 (of_guest 0 committed)) one.opening_is
-      (begun_at_zero committed one.job jobs' (subst (λ (n : ℕ). AreRecorded sinks committed n (one.job ∷ []) jobs') zero_is
-      (subst (λ (l : List (Job C O S)). AreRecorded sinks committed number l jobs') one.only h)))
+      (begun_at_zero committed one.job jobs' (subst (λ (n : ℕ). AreRecorded choosers sinks committed n (one.job ∷ []) jobs') zero_is
+      (subst (λ (l : List (Job C O S)). AreRecorded choosers sinks committed number l jobs') one.only h)))
 
   -- there is a report
   pub some_report : (first : Record) (number : ℕ) (committed : List Record) (jobs jobs' : List (Job C O S)) (reports : List GuestReport) → number ≡ 0 → IsOneJob first jobs
@@ -109,7 +109,7 @@ module _ {C O S : Type 0} (choosers : Choosers C) (sinks : Sinks S) where
       (h.new, subst (IsReported choosers sinks 0 committed job h.new) (same_Some h.report report (ap (λ (l : List GuestReport). slice_get l 0) (sym h.only) ∙ is)) h.reported)
 
   pub stored : (first : Record) (log log' : LogValue MemDisk) (disk : MemDisk) (committed : List Record) (jobs jobs' : List (Job C O S)) (reports : List GuestReport) (report : GuestReport)
-      → log.next_guest ≡ 0 → Keeps memory_state log [] → IsOneJob first jobs → HasRun sinks ghosts committed log log' jobs jobs' → log'.is_broken ≡ false
+      → log.next_guest ≡ 0 → Keeps memory_state log [] → IsOneJob first jobs → HasRun choosers sinks ghosts committed log log' jobs jobs' → log'.is_broken ≡ false
       → AreReported choosers sinks committed log.next_guest jobs jobs' reports → slice_get reports 0 ≡ Some report → IsSome report.end → disk ≡ log'.disk → IsStored first disk report
   stored first log log' disk committed jobs jobs' reports report zero_is kept one run whole told is some same =
       let k = has_kept log log' committed jobs jobs' kept run whole in
@@ -127,7 +127,7 @@ module _ {C O S : Type 0} (choosers : Choosers C) (sinks : Sinks S) where
 
   -- a guest that did not end has as many records as it may have
   pub not_ended : (first : Record) (log log' : LogValue MemDisk) (committed : List Record) (jobs jobs' : List (Job C O S)) (reports : List GuestReport) (report : GuestReport)
-      → ((chooser : C) → choosers.is_done chooser → ⊥) → log.next_guest ≡ 0 → Keeps memory_state log [] → IsOneJob first jobs → HasRun sinks ghosts committed log log' jobs jobs' → log'.is_broken ≡ false
+      → ((chooser : C) → choosers.is_done chooser → ⊥) → log.next_guest ≡ 0 → Keeps memory_state log [] → IsOneJob first jobs → HasRun choosers sinks ghosts committed log log' jobs jobs' → log'.is_broken ≡ false
       → AreReported choosers sinks committed log.next_guest jobs jobs' reports → slice_get reports 0 ≡ Some report → report.end ≡ None → IsTooLong first
   not_ended first log log' committed jobs jobs' reports report never zero_is kept one run whole told is none =
       let k = has_kept log log' committed jobs jobs' kept run whole in
@@ -155,7 +155,7 @@ module _ {C O S : Type 0} (choosers : Choosers C) (sinks : Sinks S) where
   none_bad job bad (suc guest) starts is none = none-some bad is
 
   pub session_refused : (e : SessionFault) (first : Record) (log log' : LogValue MemDisk) (committed : List Record) (jobs jobs' : Vec (Job C O S) Global) → log.next_guest ≡ 0 → Keeps memory_state log []
-      → IsOneJob first (vec_items jobs) → HasRun sinks ghosts committed log log' (vec_items jobs) (vec_items jobs') → RefusesSession log log' jobs jobs' e → RefusesTrial (session_told e) first
+      → IsOneJob first (vec_items jobs) → HasRun choosers sinks ghosts committed log log' (vec_items jobs) (vec_items jobs') → RefusesSession log log' jobs jobs' e → RefusesTrial (session_told e) first
   session_refused faults.DeviceFailed first log log' committed jobs jobs' zero_is kept one run h = tt
   session_refused faults.Memory first log log' committed jobs jobs' zero_is kept one run h = tt
   session_refused faults.StoreFull first log log' committed jobs jobs' zero_is kept one run h =

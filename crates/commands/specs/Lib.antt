@@ -8,3 +8,4 @@ pub mod Jobs
 pub mod Cores
 pub mod Misfits
 pub mod Turns
+pub mod Reports

@@ -15,8 +15,7 @@ use Rattle.rrv_model.specs.Recording.{frames_of, items_of}
 use Rattle.rrv_model.specs.Recovered.{of_guest}
 use Rattle.rrv_model.specs.State.{State}
 use Rattle.rrv_model.specs.StateAt.{StateAt, total}
-use Rattle.session.specs.declared.report.GuestReport.{GuestReport}
-use Rattle.trace_text.specs.Lines.{list_line, record_line, report_line}
+use Rattle.trace_text.specs.Lines.{list_line, record_line}
 use Rattle.trace_text.specs.MemoryText.{memory_lines}
 use Rattle.trace_text.specs.States.{state_lines}
 
@@ -87,9 +86,3 @@ pub record IsStateText (o : Opening) (frames : List Frame) (ranges : List Memory
 abbrev pub IsFoundText : Opening → List Frame → List MemoryRange → Option ℕ → List ℕ → Type 0
 IsFoundText o frames ranges None text = text ≡ with_newline (codes "unchanged")
 IsFoundText o frames ranges (Some place) text = IsStateText o frames ranges place text
-
--- the lines that report how guests ended, from the one at this place of the line on
-abbrev pub report_lines : ℕ → List GuestReport → List ℕ
-report_lines place [] = []
-report_lines place (report ∷ reports) =
-    with_newline (report_line (name_at place) report.end report.records) ++ report_lines (place + 1) reports

@@ -14,6 +14,7 @@ mod questions;
 mod record;
 mod refusal;
 mod replaying;
+mod reports;
 mod running;
 mod silence;
 mod states;

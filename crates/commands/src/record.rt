@@ -1,21 +1,20 @@
 //! The recording of programs.
 
-ghost use Rattle.std.specs.Prelude.{◌≡◌, IfErr, OnOk, false};
-ghost use Rattle.std.specs.Io.KnownBytes.{Appends};
+ghost use Rattle.std.specs.Prelude.{◌≡◌, false, length};
 ghost use Rattle.serial_sched.specs.Slices.{IsQuantum};
-ghost use Rattle.commands.specs.Printed.{report_lines};
-ghost use Rattle.commands.specs.Stores.{RefusesPrint};
 
 use crate::choosing::choices_in_files;
 use crate::files::{images_in, input_in};
-use crate::jobs::{Shared, jobs_of, name_of};
+use crate::jobs::{Shared, jobs_of};
 use crate::misfits::{GuestMisfit, misfits_of, print_misfits};
-use crate::printing::{finish, in_blocks, print_line};
+use crate::printing::{finish, in_blocks};
 use crate::refusal::Refusal;
+use crate::reports::{lasts_of, print_reports};
 use crate::store::open_log;
 use crate::terminals::Terminals;
 use command_line::{Recording, seed};
 use elf_load::Image;
+use guest_calls::Guest;
 use host::Streams;
 use progress::{Clearing, RecordProgress};
 use session::{GuestReport, record_all};
@@ -29,7 +28,6 @@ use std::thread::Threads;
 use std::time::{Clock, Instant};
 use trace_disk::FileDisk;
 use trace_log::Log;
-use trace_text::ReportLine;
 
 /// The seed that a line gives, or zeros.
 fn seed_of(text: Option<&str>) -> Result<[u8; 16], Refusal> {
@@ -83,7 +81,13 @@ pub(crate) fn record<
 #[derive(Drop)]
 struct Recorded {
     reports: Vec<GuestReport>,
+    /// Each guest, as it is then.
+    guests: Vec<Guest>,
+    /// The tids of the threads that ran last, 0 where none did.
+    lasts: Vec<u32>,
     misfits: Vec<GuestMisfit>,
+    ghost guests_are: { length guests.items ≡ length reports.items },
+    ghost lasts_are: { length lasts.items ≡ length reports.items },
 }
 
 /// Records programs to a log, each as a guest. What they put out goes to the two streams. How far it is goes to the errors', where
@@ -108,33 +112,27 @@ fn record_images<
     let jobs = jobs_of(rt.alloc(), shared, &streams, images)?;
     let gate = RecordProgress::new(rt, &streams, line, is_on);
     let (_log, jobs, result) = record_all(rt, rt.alloc(), log, jobs, &gate);
-    let reports = result?.guests;
+    let report = result?;
+    let lasts = lasts_of(rt.alloc(), &jobs)?;
     let misfits = misfits_of(rt.alloc(), &jobs)?;
-    Ok(Recorded { reports, misfits })
-}
-
-/// Prints how each guest ended, in the order of the line.
-fn print_reports<W: Write>(
-    alloc: Global,
-    reports: &[GuestReport],
-    out: &mut W,
-) -> Result<(), Refusal>
-    ensures printed { OnOk result (Appends (W.contents out.old) (W.contents out.new) (report_lines 0 reports.now)) }
-    ensures refused { IfErr result RefusesPrint }
-{
-    for place in 0..reports.len() {
-        let report = &reports[place];
-        let name = name_of(alloc, place)?;
-        let line = ReportLine::new(name.as_slice(), report.end, u64::from(report.records));
-        print_line(out, &line)?;
-    }
-    Ok(())
+    Ok(Recorded {
+        reports: report.guests,
+        guests: report.states,
+        lasts,
+        misfits,
+    })
 }
 
 /// Prints both in blocks.
 fn tell<E: Write>(alloc: Global, recorded: &Recorded, err: &mut E) -> Result<(), Refusal> {
     let mut err = in_blocks(alloc, err)?;
-    print_reports(alloc, &recorded.reports, &mut err)?;
+    print_reports(
+        alloc,
+        &recorded.reports,
+        &recorded.guests,
+        &recorded.lasts,
+        &mut err,
+    )?;
     print_misfits(&recorded.misfits, &mut err)?;
     finish(&mut err)
 }

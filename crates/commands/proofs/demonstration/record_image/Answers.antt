@@ -9,7 +9,7 @@ use Rattle.recorder.specs.Recorded.{opening_of}
 use Rattle.recorder.specs.contracts.mem_sink.MemSinkSink.TheImpl as sink
 use Rattle.serial_sched.specs.contracts.chooser.RoundRobinChooser.TheImpl as chooser
 use Rattle.session.proofs.Openings.{get_is}
-use Rattle.session.specs.Sessions.{AreReported, RefusesSession}
+use Rattle.session.specs.Sessions.{AreLeft, AreReported, RefusesSession}
 use Rattle.commands.proofs.Tried.{not_ended, session_refused, some_report, stored}
 use Rattle.commands.proofs.demonstration.record_image.Goals as goal
 
@@ -31,7 +31,7 @@ returns-then-is_none-clause-refused g c =
     let first = opening_of 0 c.args.image c.args.name.now c.args.random in
     let r = c.record_all-log.ensures in
     let zero = ap (λ (l : LogValue MemDisk). l.next_guest) c.in-Ok.ensures.log in
-    let told = (subst (λ a. IfOk a (λ s. AreReported chooser.ghosts sink.ghosts r.recorded.0 c.in-Ok.log.next_guest c.in-Ok-jobs_of.jobs.items c.record_all-log.result.1.items s.guests.items)) c.in_ok-report.was r.recorded.2) in
+    let told = (subst (λ a. IfOk a (λ s. AreReported chooser.ghosts sink.ghosts r.recorded.0 c.in-Ok.log.next_guest c.in-Ok-jobs_of.jobs.items c.record_all-log.result.1.items s.guests.items × AreLeft r.recorded.0 c.in-Ok.log.next_guest c.record_all-log.result.1.items s.states.items)) c.in_ok-report.was r.recorded.2).0 in
     let one = some_report chooser.ghosts sink.ghosts first c.in-Ok.log.next_guest r.recorded.0 c.in-Ok-jobs_of.jobs.items c.record_all-log.result.1.items c.in_ok-report.report.guests.items zero c.in-Ok-jobs_of.ensures.job told in
     not_ended chooser.ghosts sink.ghosts first c.in-Ok.log c.record_all-log.result.0 r.recorded.0 c.in-Ok-jobs_of.jobs.items c.record_all-log.result.1.items c.in_ok-report.report.guests.items c.index.result.now
     (λ _ done. done) zero (c.in-Ok.ensures.kept tt) c.in-Ok-jobs_of.ensures.job r.recorded.1
@@ -44,7 +44,7 @@ returns-clause-stored g c =
     let first = opening_of 0 c.args.image c.args.name.now c.args.random in
     let r = c.record_all-log.ensures in
     let zero = ap (λ (l : LogValue MemDisk). l.next_guest) c.in-Ok.ensures.log in
-    let told = (subst (λ a. IfOk a (λ s. AreReported chooser.ghosts sink.ghosts r.recorded.0 c.in-Ok.log.next_guest c.in-Ok-jobs_of.jobs.items c.record_all-log.result.1.items s.guests.items)) c.in_ok-report.was r.recorded.2) in
+    let told = (subst (λ a. IfOk a (λ s. AreReported chooser.ghosts sink.ghosts r.recorded.0 c.in-Ok.log.next_guest c.in-Ok-jobs_of.jobs.items c.record_all-log.result.1.items s.guests.items × AreLeft r.recorded.0 c.in-Ok.log.next_guest c.record_all-log.result.1.items s.states.items)) c.in_ok-report.was r.recorded.2).0 in
     let one = some_report chooser.ghosts sink.ghosts first c.in-Ok.log.next_guest r.recorded.0 c.in-Ok-jobs_of.jobs.items c.record_all-log.result.1.items c.in_ok-report.report.guests.items zero c.in-Ok-jobs_of.ensures.job told in
     stored chooser.ghosts sink.ghosts first c.in-Ok.log c.record_all-log.result.0 c.close.result r.recorded.0 c.in-Ok-jobs_of.jobs.items c.record_all-log.result.1.items c.in_ok-report.report.guests.items c.index.result.now
     zero (c.in-Ok.ensures.kept tt) c.in-Ok-jobs_of.ensures.job r.recorded.1
