@@ -17,6 +17,7 @@ use elf_load::Image;
 use guest_calls::Guest;
 use host::Streams;
 use progress::{Clearing, RecordProgress};
+use rrv_model::record::Choice;
 use session::{GuestReport, record_all};
 use std::alloc::Global;
 use std::fs::File;
@@ -54,9 +55,72 @@ pub(crate) fn record<
     let start = Instant::now(rt).map_err(|_| Refusal::NoClock)?;
     let seed = seed_of(recording.seed)?;
     let log = open_log(rt, recording.store)?;
-    let input = input_in(rt, recording.input)?;
-    let choices = choices_in_files(rt, &recording.choices)?;
-    let images = images_in(rt, &recording.files)?;
+    let inputs = inputs_of(rt, recording)?;
+    let recorded = record_shown(rt, recording, start, seed, log, inputs, terminals, out, err)?;
+    tell(rt.alloc(), &recorded, err)
+}
+
+/// What the guests of a recording are made of, as the files of its line have it.
+struct Inputs {
+    input: Vec<u8>,
+    choices: Vec<Vec<Choice>>,
+    images: Vec<Image>,
+}
+
+// Written out: where one goes, a proof has one call, and not one for each of its parts.
+impl Drop for Inputs {
+    fn drop(self) {
+        let Inputs {
+            input: _,
+            choices: _,
+            images: _,
+        } = self;
+    }
+}
+
+impl Inputs {
+    fn into_parts(self) -> (Vec<u8>, Vec<Vec<Choice>>, Vec<Image>) {
+        let Inputs {
+            input,
+            choices,
+            images,
+        } = self;
+        (input, choices, images)
+    }
+}
+
+/// Reads the files of a line, in its order: the input, then the choices, then the programs.
+fn inputs_of<R: Files<File = File> + AllocGlobal + Input>(
+    rt: &R,
+    recording: &Recording<'_>,
+) -> Result<Inputs, Refusal> {
+    Ok(Inputs {
+        input: input_in(rt, recording.input)?,
+        choices: choices_in_files(rt, &recording.choices)?,
+        images: images_in(rt, &recording.files)?,
+    })
+}
+
+/// Records programs to a log, and shows how far it is where standard error is a terminal or the line asks for it.
+fn record_shown<
+    R: AllocGlobal + Threads + Wait + Sync + Clock,
+    O: Write + Drop + Send,
+    E: Write + Drop + Send,
+>(
+    rt: &R,
+    recording: &Recording<'_>,
+    start: Instant,
+    seed: [u8; 16],
+    log: Log<FileDisk>,
+    inputs: Inputs,
+    terminals: Terminals,
+    out: &mut O,
+    err: &mut E,
+) -> Result<Recorded, Refusal>
+    requires quantum { IsQuantum recording.now.quantum }
+    requires whole { log.is_broken ≡ false }
+{
+    let (input, choices, images) = inputs.into_parts();
     let shared = Shared {
         rt,
         start,
@@ -73,8 +137,7 @@ pub(crate) fn record<
     let errors = Clearing::new(&mut *err, &line, true);
     let result = record_images(rt, log, &shared, images, output, errors, &line, is_on);
     Clearing::new(&mut *err, &line, true).clear();
-    let recorded = result?;
-    tell(rt.alloc(), &recorded, err)
+    result
 }
 
 /// How each guest of a recording ended, and which choices didn't fit, in the order of the line.
