@@ -6,3 +6,5 @@ pub mod Scheduled
 pub mod Again
 pub mod OwnRun
 mod Examples
+pub mod Sliced
+pub mod Asked

@@ -3,3 +3,4 @@ pub mod Schedule
 pub mod Scheduled
 pub mod Recorded
 pub mod Again
+pub mod Sliced

@@ -1,10 +1,11 @@
 -- Frames that a schedule chose.
-use Rattle.std.specs.Prelude.{◌≡◌, ℕ, List, None}
+use Rattle.std.specs.Prelude.{◌≡◌, ◌⊎◌, ℕ, true, List, None, Option}
+use Rattle.rrv_model.specs.declared.record.Choice.{Choice}
 use Rattle.rrv_model.specs.declared.record.Frame.{Frame}
 use Rattle.rrv_model.specs.State.{State}
-use Rattle.serial_sched.specs.Chosen.{AreChosen, Choosing}
+use Rattle.serial_sched.specs.Chosen.{AreChosen, Choosing, Picks}
 use Rattle.serial_sched.specs.LastThread.{last_from}
-use Rattle.choices.specs.Schedule.{Plan, Chooses}
+use Rattle.choices.specs.Schedule.{Plan, Chooses, plan}
 
 -- what a schedule chooses, and what it becomes, as `Schedule` says it of its `chooses`
 abbrev pub by_schedule : Choosing Plan
@@ -21,3 +22,10 @@ LastChosenRanLast =
 -- and stays so, where the schedule then chooses nothing
 abbrev pub NothingKeepsLast : Type 0
 NothingKeepsLast = (runnable : List ℕ) (old new : Plan) → Chooses runnable old None new → new.last ≡ old.last
+
+-- a schedule that is done behind the frames that it chose was asked once more there, and chose nothing
+abbrev pub DoneIsAsked : Type 0
+DoneIsAsked =
+    (s : State) (list : List Choice) (turns : Option ℕ) (frames : List Frame) (s' : State) (last new : Plan) →
+    AreChosen by_schedule s (plan list turns) frames s' last → (new ≡ last) ⊎ Picks by_schedule s' last None new →
+    new.done ≡ true → Picks by_schedule s' last None new

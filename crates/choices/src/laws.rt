@@ -4,7 +4,8 @@ ghost use Rattle.choices.specs.Again.{FramesRunAgain, RecordingsFollow, RunAgain
 ghost use Rattle.choices.specs.ChoiceText.{BadTextsSayNothing};
 ghost use Rattle.choices.specs.Recorded.{ChoicesTellSlices, FramesAreOfGuests, FramesFitChoices, RecordingsSayChoices, TextSaysChoices};
 ghost use Rattle.choices.specs.Schedule.{EmptyListIsTurns, OneTurn, SchedulesAreLists};
-ghost use Rattle.choices.specs.Scheduled.{LastChosenRanLast, NothingKeepsLast};
+ghost use Rattle.choices.specs.Scheduled.{DoneIsAsked, LastChosenRanLast, NothingKeepsLast};
+ghost use Rattle.choices.specs.Sliced.{FramesAreLists};
 
 /// A text with a first bad line says no choices.
 pub fn bad_texts_say_nothing()
@@ -45,6 +46,17 @@ pub fn choices_tell_slices()
 pub fn last_chosen_ran_last()
     ensures ran { LastChosenRanLast }
     ensures nothing { NothingKeepsLast }
+{}
+
+/// A schedule that is done behind the frames that it chose was asked once more there, and chose nothing.
+pub fn done_is_asked()
+    ensures { DoneIsAsked }
+{}
+
+/// The frames that a schedule chose are the slices of its list, up to the first choice that doesn't fit, and then those of
+/// turns.
+pub fn frames_are_lists()
+    ensures { FramesAreLists }
 {}
 
 /// Recorded again by its printed choices, a guest can run the same frames, and no others up to the first of which a
