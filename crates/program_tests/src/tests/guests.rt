@@ -191,11 +191,14 @@ fn slices_are_as_long_as_asked(rt: HostRuntime) -> Result<(), Fail> {
 
 #[test]
 fn a_guest_that_faults_is_done(rt: HostRuntime) -> Result<(), Fail> {
-    // EBREAK.
+    // EBREAK, at the entry 0x10054.
     play_recorded(
         &rt,
         &[0x0010_0073],
-        (b"", b"g0: end faulted 2, records 2\n"),
+        (
+            b"",
+            b"g0: end faulted 2, records 2\nfault breakpoint at 1 thread 1 pc 00010054 word 00100073\n",
+        ),
         &[
             done(
                 "dump s 0",
