@@ -49,12 +49,18 @@ ended f received known sent committed seen r parts count told same_told same_hal
     ap (renumbered b) h.sent.1 ∙ map-append (numbered b) (of_guest g received) (of_guest g h.sent.0)
     ∙ ap (λ (l : List Record). l ++ renumbered b (of_guest g h.sent.0)) received_is ∙ append_assoc done (of_guest (b + g) f.waiting) (renumbered b (of_guest g h.sent.0)) in
     let size : length r.sent ≡ length done + length later = sym (length-map r.sent (numbered b)) ∙ ap length all ∙ length-append done later in
+    let got = done ++ of_guest (b + g) f.waiting in
+    let rest = renumbered b (of_guest g h.sent.0) in
+    let n = length (of_guest (b + g) (f.committed ++ f.waiting)) in
+    let got_is : of_guest (b + g) (f.committed ++ f.waiting) ≡ got = of_guest-append (b + g) f.committed f.waiting in
+    let whole : renumbered b r.sent ≡ got ++ rest = all ∙ sym (append_assoc done (of_guest (b + g) f.waiting) rest) in
     let saw : r.seen ≤ slice_index f.told r.guest = subst (λ (l : List ℕ). r.seen ≤ slice_index l r.guest) same_told h.seen in
     record {
       sent_is = sent_is;
       committed_is = count;
       seen_is = seen_is;
       beginning = sym (take-map-sym b committed r.sent ∙ ap (take committed) all ∙ take_at done later committed (sym count));
+      received = got_is ∙ sym (take-map-sym b n r.sent ∙ ap (take n) whole ∙ take_at got rest n (sym (ap length got_is)));
       committed_of_sent = omega arith;
       seen_of_committed = omega arith;
       total = subst (λ (l : List ℕ). slice_index l r.guest ≢ 0 → (r.has_left ≡ true) × (slice_index l r.guest ≡ length r.sent + 1)) same_totals h.total;

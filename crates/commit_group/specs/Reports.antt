@@ -22,13 +22,15 @@ pub record IsTakenIn (received : List Record) (t : FlusherView) (sent seen : ℕ
   pub joined : HasJoined received t r
 
 -- What is reported of one seat: the counts that it and the flusher held. The committed records are the first of those
--- sent, and what was seen is committed.
+-- sent, also with those behind them that wait, and what was seen is committed.
 pub record HasEnded (f : FlusherValue) (sent committed seen : ℕ) (r : RecorderValue) : Type 0 where
   pub sent_is : sent ≡ length r.sent
   pub committed_is : committed ≡ committed_of f r.guest
   pub seen_is : seen ≡ r.seen
   pub beginning : of_guest (base f.first_guest + r.guest) f.committed
       ≡ renumbered (base f.first_guest) (take committed r.sent)
+  pub received : let all = of_guest (base f.first_guest + r.guest) (f.committed ++ f.waiting) in
+      all ≡ renumbered (base f.first_guest) (take (length all) r.sent)
   pub committed_of_sent : committed ≤ sent
   pub seen_of_committed : seen ≤ committed
   pub total : slice_index f.totals r.guest ≢ 0

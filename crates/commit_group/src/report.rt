@@ -1,6 +1,6 @@
 //! How a group ends.
 
-ghost use Rattle.std.specs.Prelude.{◌≡◌, ◌≢◌, ℕ, ◌+◌, ◌<◌, ◌≤◌, length, slice_index, slice_get, Some, List};
+ghost use Rattle.std.specs.Prelude.{◌≡◌, ◌≢◌, ℕ, ◌+◌, ◌++◌, ◌<◌, ◌≤◌, length, slice_index, slice_get, Some, List};
 ghost use Rattle.std.specs.List.{AllByRecursion};
 ghost use Rattle.crossbeam_queue.specs.Passes.{view};
 ghost use Rattle.commit_group.specs.Numbers.{base, IsPlaced};
@@ -57,7 +57,8 @@ pub fn end(recorders: Vec<RecorderSeat>, flusher: FlusherSeat) -> Report
     requires of_group { AllOf flusher.group recorders.items }
     ensures each { (k : ℕ) (r : RecorderValue) → slice_get recorders.items k ≡ Some r
         → HasEnded flusher (slice_index result.sent k) (slice_index result.committed k) (slice_index result.seen k) r }
-    ensures placed { AllByRecursion (IsPlaced (base flusher.first_guest) flusher.group.guests) flusher.committed }
+    ensures placed { AllByRecursion (IsPlaced (base flusher.first_guest) flusher.group.guests)
+        (flusher.committed ++ flusher.waiting) }
     ensures zeros { (k : ℕ) → flusher.group.guests ≤ k → (slice_index result.sent k ≡ 0)
         × (slice_index result.committed k ≡ 0) × (slice_index result.seen k ≡ 0) }
 {

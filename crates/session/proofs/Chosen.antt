@@ -1,5 +1,5 @@
 -- Frames that a chooser chose.
-use Rattle.std.proofs.Common.{true, false, true≢false, ◌≡◌, ◌∙◌, inl, inr, ℕ, ◌+◌, ◌<◌, ◌^◌, arith, min, List, [], ◌∷◌, ◌++◌, length, map, take, drop, refl, sym, ap, subst, append_assoc}
+use Rattle.std.proofs.Common.{true, false, true≢false, ◌≡◌, ◌∙◌, inr, ℕ, ◌+◌, ◌<◌, ◌^◌, arith, List, [], ◌∷◌, ◌++◌, length, map, take, drop, refl, sym, ap, subst, append_assoc}
 use denote.Enum.Bare.{sameb}
 use Rattle.std.proofs.lemmas.List.{append-nil, take-append-drop}
 use Rattle.std.proofs.lemmas.List.Sums.{sum_by-append}

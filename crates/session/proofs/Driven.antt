@@ -1,9 +1,10 @@
 -- Calls of a recorder drive it.
-use Rattle.std.proofs.Common.{◌≡◌, ◌↔◌, ℕ, ◌-◌, List, [], ◌∷◌, ◌++◌, length, take, refl, sym, ap, ◌∙◌, subst, arith, append_assoc}
-use Rattle.std.specs.Prelude.{Result, Err}
+use Rattle.std.proofs.Common.{◌≡◌, ◌≢◌, ◌↔◌, ℕ, ◌-◌, List, [], ◌∷◌, ◌++◌, length, take, refl, sym, ap, ◌∙◌, subst, arith, append_assoc}
+use Rattle.std.specs.Prelude.{Result, Ok, Err, IfErr}
 use Rattle.std.proofs.lemmas.List.{append-nil}
 use Rattle.rrv_model.specs.declared.record.Choice.{Choice}
 use Rattle.rrv_model.specs.declared.record.Record.{Record}
+use Rattle.rrv_model.specs.Failures.{HasFailed}
 use Rattle.rrv_model.specs.Recording.{frame_record}
 use Rattle.rrv_model.specs.State.{State}
 use Rattle.guest_calls.specs.Guest.{state_of}
@@ -16,11 +17,13 @@ use Rattle.rrv_model.specs.Recording.{items_of}
 use Rattle.recorder.specs.Owed.{joined}
 use Rattle.recorder.specs.Recorded.{IsFirst}
 use Rattle.recorder.specs.declared.checkpoints.Parts.{Parts}
-use Rattle.recorder.specs.RecorderCalls.{HasStepped, IsUnmoved, KeepsMade, PutsMore, SendsSome, part_records}
+use Rattle.recorder.specs.RecorderCalls.{HasStepped, IsUnmoved, KeepsMade, PutsMore, RefusesRelease, RefusesSettle, RefusesStep, SendsSome, part_records}
 use Rattle.recorder.specs.Recorders.{GuestRecorder, HasPut, HasRecorded, made}
 use Rattle.recorder.proofs.Made.{keeps_sent, put_stays}
-use Rattle.session.specs.Drives.{Drives, GoesOn, IsDriven}
-use Rattle.session.specs.Works.{IsRecordedFrom, Sinks}
+use Rattle.session.specs.declared.rounds.WorkFault.{WorkFault}
+use Rattle.session.specs.declared.rounds.WorkFault.TheVariants as work_faults
+use Rattle.session.specs.Drives.{CallTellsSink, Drives, GoesOn, IsDriven, WorkTellsSink, fault_told, work_told}
+use Rattle.session.specs.Works.{FaultTellsSink, IsRecordedFrom, Sinks}
 
 -- ---- one call behind the other
 
@@ -123,3 +126,73 @@ drives_still sinks a b s h = record { put = []; takes = λ t. sym (append-nil (s
 
 pub halted_is : (fault : RecorderFault) → (r : Result (Unit {0}) RecorderFault) → r ≡ Err fault → r ≡ Err faults.Halted → fault ≡ faults.Halted
 halted_is fault r is e = cc
+
+-- ---- what a call tells of its sink
+
+pub call_tells_released : (e : RecorderFault) (old new : ℕ) → RefusesRelease e old new → CallTellsSink (Err e) old new
+call_tells_released (faults.SinkFailed taken) old new h = h
+call_tells_released faults.Halted old new h = absurd h
+call_tells_released faults.Full old new h = absurd h
+call_tells_released faults.Memory old new h = absurd h
+call_tells_released (faults.Refused fault) old new h = absurd h
+call_tells_released faults.TooManyRecords old new h = absurd h
+call_tells_released faults.BadOpening old new h = absurd h
+
+-- behind a release that put all out, where a halt alone is told
+pub call_tells_sent : (Knows : Type 0) (r : Result (Unit {0}) RecorderFault) (old new : ℕ) → IfErr r (λ e. (e ≡ faults.Halted) × Knows) → new ≡ old → CallTellsSink r old new
+call_tells_sent Knows (Ok u) old new halted same = same
+call_tells_sent Knows (Err e) old new halted same = subst (λ x. CallTellsSink (Err x) old new) (sym halted.0) same
+
+pub call_tells_settled : (r : GuestRecorder) (e : RecorderFault) (old new : ℕ) → RefusesSettle r e old new → CallTellsSink (Err e) old new
+call_tells_settled r faults.Halted old new h = h.1
+call_tells_settled r (faults.SinkFailed taken) old new h = h
+call_tells_settled r faults.Full old new h = absurd h
+call_tells_settled r faults.Memory old new h = absurd h
+call_tells_settled r (faults.Refused fault) old new h = absurd h
+call_tells_settled r faults.TooManyRecords old new h = absurd h
+call_tells_settled r faults.BadOpening old new h = absurd h
+
+told_again : (e : RecorderFault) (first old new : ℕ) → CallTellsSink (Err e) old new → old ≡ first → WorkTellsSink (Err (work_told e)) first new
+told_again faults.Halted first old new h same = h ∙ same
+told_again (faults.SinkFailed taken) first old new h same = subst (λ (n : ℕ). HasFailed n new) same h
+told_again faults.Full first old new h same = h ∙ same
+told_again faults.Memory first old new h same = h ∙ same
+told_again (faults.Refused fault) first old new h same = h ∙ same
+told_again faults.TooManyRecords first old new h same = h ∙ same
+told_again faults.BadOpening first old new h same = h ∙ same
+
+-- a worker tells it so, where nothing was refused before
+pub work_tells : (e : RecorderFault) (fault : WorkFault) (first old new : ℕ) → CallTellsSink (Err e) old new → old ≡ first → fault ≡ work_told e → WorkTellsSink (Err fault) first new
+work_tells e fault first old new h same is = subst (λ (f : WorkFault). WorkTellsSink (Err f) first new) (sym is) (told_again e first old new h same)
+
+-- a fault that isn't the sink's
+pub work_steady : (fault : WorkFault) (first new : ℕ) → fault ≢ work_faults.SinkFailed → new ≡ first → WorkTellsSink (Err fault) first new
+work_steady work_faults.Halted first new other same = same
+work_steady work_faults.SinkFailed first new other same = absurd (other refl)
+work_steady work_faults.Held first new other same = same
+work_steady work_faults.Memory first new other same = same
+
+-- and so does what is told of the worker
+pub fault_tells : (guest : ℕ) (fault : WorkFault) (old new : ℕ) → WorkTellsSink (Err fault) old new → FaultTellsSink (fault_told guest fault) old new
+fault_tells guest work_faults.Halted old new h = h
+fault_tells guest work_faults.SinkFailed old new h = h
+fault_tells guest work_faults.Held old new h = h
+fault_tells guest work_faults.Memory old new h = h
+
+-- ---- a step that is refused
+
+-- is refused for want of memory, as a worker tells it
+pub step_tells : (r : GuestRecorder) (choice : Choice) (e : RecorderFault) → RefusesStep r choice e → work_told e ≡ work_faults.Memory
+step_tells r choice faults.Halted h = absurd h
+step_tells r choice (faults.SinkFailed taken) h = absurd h
+step_tells r choice faults.Full h = refl
+step_tells r choice faults.Memory h = refl
+step_tells r choice (faults.Refused fault) h = refl
+step_tells r choice faults.TooManyRecords h = refl
+step_tells r choice faults.BadOpening h = absurd h
+
+pub memory_is_no_sink : work_faults.Memory ≡ work_faults.SinkFailed → ⊥
+memory_is_no_sink e = cc
+
+pub held_is_no_sink : work_faults.Held ≡ work_faults.SinkFailed → ⊥
+held_is_no_sink e = cc

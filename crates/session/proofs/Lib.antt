@@ -10,3 +10,5 @@ pub mod Sessions
 pub mod Openings
 pub mod Refusals
 pub mod Chosen
+pub mod Told
+pub mod Opens

@@ -1,6 +1,6 @@
 -- What is committed of each guest of a session.
-use Rattle.std.proofs.Common.{◌≡◌, inl, inr, ℕ, zero, suc, ◌+◌, ◌<◌, ◌≤◌, ◌^◌, List, [], ◌∷◌, ◌++◌, length, take, drop, refl, sym, ap, ◌∙◌, subst, arith, true, false}
-use Rattle.std.proofs.lemmas.List.{length-map, take-append-drop}
+use Rattle.std.proofs.Common.{◌≡◌, inl, inr, ℕ, zero, suc, ◌+◌, ◌≤◌, List, [], ◌∷◌, ◌++◌, append_assoc, length, length-append, take, drop, refl, sym, ap, ◌∙◌, subst, arith, true, false}
+use Rattle.std.proofs.lemmas.List.{length-map, take-append-drop, take-map, take_at}
 use Rattle.std.specs.Prelude.{◌⊎◌, Option, Some, None, slice_get}
 use Rattle.std.specs.List.{AllByRecursion}
 use Rattle.rrv_model.specs.declared.record.Item.{Item}
@@ -11,6 +11,7 @@ use Rattle.rrv_model.specs.Recovered.{of_guest}
 use Rattle.rrv_model.specs.StateAt.{total}
 use Rattle.guest_calls.specs.Guest.{GuestValue, state_of}
 use Rattle.rrv_model.proofs.RecordingLaws.{beginnings_are_recordings}
+use Rattle.rrv_model.proofs.RecoveredLaws.{of_guest-append}
 use Rattle.commit_core.specs.Runs.{IsOutput, ItemsPut}
 use Rattle.commit_group.specs.Numbers.{base, numbered, renumbered}
 use Rattle.commit_group.specs.Seats.{FlusherValue, RecorderValue, committed_of}
@@ -62,7 +63,7 @@ output_again b rs put h = (h.0, subst (λ (l : List Item). ItemsPut l h.0) (sym 
 behind_again : (b : ℕ) (rs : List Record) (guest : GuestValue) → IsBehind rs guest → IsBehind (renumbered b rs) guest
 behind_again b rs guest h = record {
   ends = subst (λ (l : List Item). EndsIn l (state_of guest)) (sym (items_again b rs)) h.ends;
-  ran = subst (λ (l : List Item). total (frames_of l) < 2 ^ 64 → guest.ran ≡ total (frames_of l)) (sym (items_again b rs)) h.ran;
+  ran = subst (λ (l : List Item). guest.ran ≡ total (frames_of l)) (sym (items_again b rs)) h.ran;
 }
 
 -- ---- the first of some records
@@ -74,6 +75,12 @@ take_nothing (suc n) = refl
 take_all : (xs : List Record) → take (length xs) xs ≡ xs
 take_all [] = refl
 take_all (x ∷ xs) = ap (λ l. x ∷ l) (take_all xs)
+
+take_take : (m n : ℕ) (xs : List Record) → m ≤ n → take m (take n xs) ≡ take m xs
+take_take zero n xs l = refl
+take_take (suc m) zero xs l = absurd (omega arith)
+take_take (suc m) (suc n) [] l = refl
+take_take (suc m) (suc n) (x ∷ xs) l = ap (λ (k : List Record). x ∷ k) (take_take m n xs (omega arith))
 
 take_less : (m n : ℕ) (xs : List Record) → m ≤ n → (more : List Record) × (take n xs ≡ take m xs ++ more)
 take_less zero n xs l = (take n xs, refl)
@@ -146,6 +153,14 @@ module _ {C O S : Type 0} where
 
 -- ---- a seat at its end
 
+-- of these records those of the guest at this place are the first ones that it sent, all that it saw durable among them,
+-- under its number in the store
+pub record AreFirstSent (records : List Record) (first place : ℕ) (r : RecorderValue) : Type 0 where
+  pub place_is : r.guest ≡ place
+  pub count : ℕ
+  pub own : of_guest (first + r.guest) records ≡ renumbered first (take count r.sent)
+  pub seen : r.seen ≤ count
+
 -- what is committed of the guest at this place, under its number in the store
 pub record IsEnded (f : FlusherValue) (first place : ℕ) (r : RecorderValue) : Type 0 where
   pub place_is : r.guest ≡ place
@@ -175,6 +190,56 @@ ended_at f first place sent committed seen r h place_is in_group numbers = recor
   halt = h.halted;
 }
 
+pub first_sent : (f : FlusherValue) (first place : ℕ) (r : RecorderValue) → IsEnded f first place r → AreFirstSent f.committed first place r
+first_sent f first place r e = record { place_is = e.place_is; count = e.count; own = e.own; seen = e.seen }
+
+-- the first so many of what waits, behind what is committed
+module _ (f : FlusherValue) (first place sent committed seen n : ℕ) (r : RecorderValue) (h : HasEnded f sent committed seen r) (place_is : r.guest ≡ place) where
+  abbrev own : List Record → List Record
+  own records = of_guest (base f.first_guest + r.guest) records
+
+  abbrev front : List Record
+  front = f.committed ++ take n f.waiting
+
+  parts : own (f.committed ++ f.waiting) ≡ own front ++ own (drop n f.waiting)
+  parts =
+      let whole : front ++ drop n f.waiting ≡ f.committed ++ f.waiting =
+      append_assoc f.committed (take n f.waiting) (drop n f.waiting) ∙ ap (λ (l : List Record). f.committed ++ l) (take-append-drop n f.waiting) in
+      ap (λ (l : List Record). own l) (sym whole) ∙ of_guest-append (base f.first_guest + r.guest) front (drop n f.waiting)
+
+  few_are : own front ≡ renumbered (base f.first_guest) (take (length (own front)) r.sent)
+  few_are =
+      let all = length (own (f.committed ++ f.waiting)) in
+      let few = length (own front) in
+      let size : all ≡ few + length (own (drop n f.waiting)) = ap length parts ∙ length-append (own front) (own (drop n f.waiting)) in
+      let first_are : take few (own (f.committed ++ f.waiting)) ≡ own front = ap (λ (l : List Record). take few l) parts ∙ take_at (own front) (own (drop n f.waiting)) few refl in
+      sym first_are ∙ ap (λ (l : List Record). take few l) h.received ∙ take-map (numbered (base f.first_guest)) few (take all r.sent)
+      ∙ ap (λ (l : List Record). renumbered (base f.first_guest) l) (take_take few all r.sent (omega arith))
+
+  seen_in : r.seen ≤ length (own front)
+  seen_in =
+      let more : length (own front) ≡ length (own f.committed) + length (own (take n f.waiting)) =
+      ap length (of_guest-append (base f.first_guest + r.guest) f.committed (take n f.waiting)) ∙ length-append (own f.committed) (own (take n f.waiting)) in
+      let a = h.seen_of_committed in
+      let c = h.committed_is in
+      let e = h.seen_is in
+      omega arith
+
+  pub first_with : (f.first_guest ≡ Some first) ⊎ ((f.committed ≡ []) × (take n f.waiting ≡ [])) → AreFirstSent front first place r
+  first_with numbers = elim numbers [
+    | inl some ↦ record {
+      place_is = place_is;
+      count = length (own front);
+      own = subst (λ (o : Option ℕ). of_guest (base o + r.guest) front ≡ renumbered (base o) (take (length (own front)) r.sent)) some few_are;
+      seen = seen_in;
+    }
+    | inr none ↦
+        let nothing : front ≡ [] = (λ i. none.0 i ++ none.1 i) in
+        let unseen : length (own front) ≡ 0 = ap (λ (l : List Record). length (own l)) nothing in
+        let s = seen_in in
+        record { place_is = place_is; count = 0; own = ap (λ (l : List Record). of_guest (first + r.guest) l) nothing; seen = omega arith }
+  ]
+
 -- all that it sent is committed, where all is that was sent
 all_own : (f : FlusherValue) (first place : ℕ) (r : RecorderValue) → IsEnded f first place r → AllCommitted f → of_guest (first + r.guest) f.committed ≡ renumbered first r.sent
 all_own f first place r e all = e.own ∙ ap (λ l. renumbered first l) (ap (λ n. take n r.sent) (e.all all) ∙ take_all r.sent)
@@ -188,15 +253,15 @@ none_met (Some fault) rest e = cc
 true_is_not_false : true ≡ false → ⊥
 true_is_not_false e = cc
 
-module _ {C O S : Type 0} (choosers : Choosers C) (sinks : Sinks S) (f : FlusherValue) (first : ℕ) where
-  abbrev EndsFrom : ℕ → List (Worked C O S) → Type 0
-  EndsFrom n done = (k : ℕ) (r : RecorderValue) → slice_get (seats_worked done) k ≡ Some r → IsEnded f first (n + k) r
+module _ {C O S : Type 0} (choosers : Choosers C) (sinks : Sinks S) (records : List Record) (first : ℕ) where
+  abbrev FirstFrom : ℕ → List (Worked C O S) → Type 0
+  FirstFrom n done = (k : ℕ) (r : RecorderValue) → slice_get (seats_worked done) k ≡ Some r → AreFirstSent records first (n + k) r
 
-  ends_next : (n : ℕ) (d : Worked C O S) (done : List (Worked C O S)) → EndsFrom n (d ∷ done) → EndsFrom (suc n) done
-  ends_next n d done each k r at = subst (λ (p : ℕ). IsEnded f first p r) (omega arith) (each (suc k) r at)
+  first_next : (n : ℕ) (d : Worked C O S) (done : List (Worked C O S)) → FirstFrom n (d ∷ done) → FirstFrom (suc n) done
+  first_next n d done each k r at = subst (λ (p : ℕ). AreFirstSent records first p r) (omega arith) (each (suc k) r at)
 
-  recorded_one : (old : Task C O S) (new : Worked C O S) (place : ℕ) → HasWorked choosers sinks old new → IsEnded f first place new.seat
-      → HasRecorded choosers sinks (first + new.seat.guest) f.committed old.job new.job
+  recorded_one : (old : Task C O S) (new : Worked C O S) (place : ℕ) → HasWorked choosers sinks old new → AreFirstSent records first place new.seat
+      → HasRecorded choosers sinks (first + new.seat.guest) records old.job new.job
   recorded_one old new place w e = record {
     job = w.job;
     records = subst (λ l. IsRecordingOrNone (opening_for (first + new.seat.guest) old.job) (first + new.seat.guest) l) (sym e.own)
@@ -208,17 +273,24 @@ module _ {C O S : Type 0} (choosers : Choosers C) (sinks : Sinks S) (f : Flusher
     output = subst (λ l. IsOutput w.put l) (sym e.own) (put_again first new.seat.guest new.seat.seen e.count (opening_for new.seat.guest new.job) new.seat.sent w.put w.sent e.seen w.output);
   }
 
-  pub all_recorded : (n : ℕ) (tasks : List (Task C O S)) (done : List (Worked C O S)) → ArePairs (HasWorked choosers sinks) tasks done → EndsFrom n done
-      → AreRecorded choosers sinks f.committed (first + n) (jobs_of tasks) (jobs_worked done)
+  pub all_recorded : (n : ℕ) (tasks : List (Task C O S)) (done : List (Worked C O S)) → ArePairs (HasWorked choosers sinks) tasks done → FirstFrom n done
+      → AreRecorded choosers sinks records (first + n) (jobs_of tasks) (jobs_worked done)
   all_recorded n [] [] pairs each = tt
   all_recorded n [] (d ∷ done) pairs each = elim pairs [ ]
   all_recorded n (t ∷ tasks) [] pairs each = elim pairs [ ]
   all_recorded n (t ∷ tasks) (d ∷ done) pairs each =
       let e = each 0 d.seat refl in
       let place = e.place_is in (
-        subst (λ (m : ℕ). HasRecorded choosers sinks m f.committed t.job d.job) (omega arith) (recorded_one t d (n + 0) pairs.0 e),
-        subst (λ (m : ℕ). AreRecorded choosers sinks f.committed m (jobs_of tasks) (jobs_worked done)) (omega arith) (all_recorded (suc n) tasks done pairs.1 (ends_next n d done each)),
+        subst (λ (m : ℕ). HasRecorded choosers sinks m records t.job d.job) (omega arith) (recorded_one t d (n + 0) pairs.0 e),
+        subst (λ (m : ℕ). AreRecorded choosers sinks records m (jobs_of tasks) (jobs_worked done)) (omega arith) (all_recorded (suc n) tasks done pairs.1 (first_next n d done each)),
       )
+
+module _ {C O S : Type 0} (choosers : Choosers C) (sinks : Sinks S) (f : FlusherValue) (first : ℕ) where
+  abbrev EndsFrom : ℕ → List (Worked C O S) → Type 0
+  EndsFrom n done = (k : ℕ) (r : RecorderValue) → slice_get (seats_worked done) k ≡ Some r → IsEnded f first (n + k) r
+
+  ends_next : (n : ℕ) (d : Worked C O S) (done : List (Worked C O S)) → EndsFrom n (d ∷ done) → EndsFrom (suc n) done
+  ends_next n d done each k r at = subst (λ (p : ℕ). IsEnded f first p r) (omega arith) (each (suc k) r at)
 
   -- a worker without a fault has finished, where the flusher has not halted
   has_finished : (old : Task C O S) (new : Worked C O S) (place : ℕ) (w : HasWorked choosers sinks old new) → IsEnded f first place new.seat → new.fault ≡ None → f.halted ≡ false

@@ -26,15 +26,15 @@ use Rattle.session.proofs.Tasks.{all_of}
 
 -- ---- lists of faults
 
-none_in : (fault : SessionFault) → Contains [] fault → ⊥
+pub none_in : (fault : SessionFault) → Contains [] fault → ⊥
 none_in fault c = omega (arith, c.1)
 
-only_one : (a fault : SessionFault) → Contains (a ∷ []) fault → a ≡ fault
+pub only_one : (a fault : SessionFault) → Contains (a ∷ []) fault → a ≡ fault
 only_one a fault (zero, low, is) = is
 only_one a fault (suc k, low, is) = absurd (omega (arith, low))
 
 -- no fault comes before a failed call of the disk
-first_of_all : (fault : SessionFault) → IsNoLater fault faults.DeviceFailed → fault ≡ faults.DeviceFailed
+pub first_of_all : (fault : SessionFault) → IsNoLater fault faults.DeviceFailed → fault ≡ faults.DeviceFailed
 first_of_all faults.DeviceFailed h = refl
 first_of_all (faults.SinkFailed g) h = elim h [ inl l ↦ absurd (omega (arith, l)) | inr e ↦ absurd (omega (arith, e.0)) ]
 first_of_all (faults.Held g) h = elim h [ inl l ↦ absurd (omega (arith, l)) | inr e ↦ absurd (omega (arith, e.0)) ]

@@ -1,20 +1,22 @@
 -- A session, from what its threads gave to what it gives.
-use Rattle.std.proofs.Common.{◌≡◌, inl, inr, ℕ, zero, suc, ◌+◌, ◌≤◌, List, [], ◌∷◌, ◌++◌, length, refl, sym, ap, ◌∙◌, subst, arith, false}
-use Rattle.std.proofs.lemmas.List.{append-nil}
+use Rattle.std.proofs.Common.{◌≡◌, inl, inr, ℕ, zero, suc, ◌+◌, ◌≤◌, List, [], ◌∷◌, ◌++◌, append_assoc, drop, length, take, refl, sym, ap, ◌∙◌, subst, arith, false}
+use Rattle.std.proofs.lemmas.List.{append-nil, take-append-drop}
 use Rattle.std.specs.Prelude.{◌⊎◌, Option, Some, Result, Ok, Err, OnOk, slice_get}
 use Rattle.rrv_model.specs.declared.record.Record.{Record}
-use Rattle.rrv_model.specs.CrashModel.{LeavesOnly}
+use Rattle.rrv_model.specs.CrashModel.{Leaves}
 use Rattle.rrv_model.specs.Recovered.{next_guest, IsRecovered}
 use Rattle.rrv_model.proofs.CrashLaws.{started}
+use Rattle.rrv_model.proofs.Lists.{AllByRecursion-front}
 use Rattle.guest_calls.specs.Guest.{GuestValue}
-use Rattle.trace_log.specs.Kept.{LogValue}
+use Rattle.trace_log.specs.Kept.{Keeps, LogValue}
 use Rattle.commit_group.specs.declared.fault.FlushFault.{FlushFault}
+use Rattle.commit_group.specs.Flushes.{first_number}
 use Rattle.commit_group.specs.Seats.{FlusherValue, GroupId, RecorderValue, new_flusher_seat}
 use Rattle.commit_group.specs.Turns.{AllCommitted}
 use Rattle.session.specs.declared.fault.SessionFault.{SessionFault}
 use Rattle.session.specs.declared.job.Job.{Job}
 use Rattle.session.specs.Faults.{flusher_met}
-use Rattle.session.specs.Gains.{Device, HasFlushed, HasGained, HoldsFirst, StandsIn}
+use Rattle.session.specs.Gains.{Device, HasFlushed, HasGained, HoldsUpTo, StandsIn}
 use Rattle.session.specs.Sessions.{AreRecorded, HasRun, IsLeft}
 use Rattle.session.specs.Works.{Sinks}
 use Rattle.std.specs.Prelude.{MatchOption}
@@ -31,7 +33,7 @@ use Rattle.session.specs.Tasks.{faults_met, jobs_of, jobs_worked, seats_of, seat
 use Rattle.session.specs.Works.{Choosers, HasWorked}
 use Rattle.session.proofs.Chosen.{none_chosen}
 use Rattle.session.proofs.Gained.{leaves_kept}
-use Rattle.session.proofs.Recorded.{IsEnded, all_left, all_recorded, all_reported, ended_at}
+use Rattle.session.proofs.Recorded.{AreFirstSent, IsEnded, all_left, all_recorded, all_reported, ended_at, first_sent, first_with}
 use Rattle.session.proofs.Pairs.{pairs_length}
 use Rattle.session.proofs.Tasks.{all_of, jobs_length, worked_length}
 
@@ -46,30 +48,35 @@ module _ {D : Type 0} (device : Device D) where
     raised = subst (λ (l : List Record). next_guest l ≤ log.next_guest) (sym (append-nil earlier)) left.above;
   }
 
-  pub session_gained : (group : GroupId) (f g : FlusherValue) (log log' : LogValue D) (flushed : Result Unit FlushFault) → f ≡ new_flusher_seat group → HasFlushed device f g log log' flushed
-      → (bodies : List (List ℕ)) (earlier : List Record) → IsLeft device log bodies earlier → HasGained device g.committed log log' bodies earlier
+  pub session_gained : (group : GroupId) (f g : FlusherValue) (log log' : LogValue D) (flushed : Result Unit FlushFault) → f ≡ new_flusher_seat group → (h : HasFlushed device f g log log' flushed)
+      → (bodies : List (List ℕ)) (earlier : List Record) → IsLeft device log bodies earlier → HasGained device g.committed (take h.count g.waiting) log log' bodies earlier
   session_gained group f g log log' flushed new h bodies earlier left =
       h.gained bodies earlier (subst (λ (x : FlusherValue). StandsIn device x log bodies earlier) (sym new) (stands_new group log bodies earlier left))
 
-  pub first_is : (group : GroupId) (f g : FlusherValue) (log log' : LogValue D) (flushed : Result Unit FlushFault) → f ≡ new_flusher_seat group → HasFlushed device f g log log' flushed
-      → (g.first_guest ≡ Some log.next_guest) ⊎ (g.committed ≡ [])
+  pub first_is : (group : GroupId) (f g : FlusherValue) (log log' : LogValue D) (flushed : Result Unit FlushFault) → f ≡ new_flusher_seat group → (h : HasFlushed device f g log log' flushed)
+      → (g.first_guest ≡ Some log.next_guest) ⊎ ((g.committed ≡ []) × (take h.count g.waiting ≡ []))
   first_is group f g log log' flushed new h = elim h.numbers [
-    | inl some ↦ inl (some ∙ ap (λ (x : FlusherValue). Some (Rattle.commit_group.specs.Flushes.first_number x.first_guest log.next_guest)) new)
-    | inr none ↦ inr (none ∙ ap (λ (x : FlusherValue). x.committed) new)
+    | inl some ↦ inl (some ∙ ap (λ (x : FlusherValue). Some (first_number x.first_guest log.next_guest)) new)
+    | inr none ↦ inr (none.0 ∙ ap (λ (x : FlusherValue). x.committed) new, none.1)
   ]
 
   -- nothing happened
-  none_gained : (log : LogValue D) (bodies : List (List ℕ)) (earlier : List Record) → IsLeft device log bodies earlier → HasGained device [] log log bodies earlier
-  none_gained log bodies earlier left = record {
-    more = [];
-    hand = [];
-    one = omega arith;
-    recovered = subst (λ (b : List (List ℕ)). IsRecovered b (earlier ++ [])) (sym (append-nil bodies)) (subst (λ (l : List Record). IsRecovered bodies l) (sym (append-nil earlier)) left.recovered);
-    any_moment = started (device.state log.disk) (HoldsFirst bodies []) (leaves_kept device log bodies [] left.keeps);
-    now = subst (λ (b : List (List ℕ)). Rattle.rrv_model.specs.CrashModel.Leaves (HoldsFirst b []) (device.state log.disk).pending) (sym (append-nil bodies)) (leaves_kept device log bodies [] left.keeps);
-    keeps = λ whole. (refl, subst (λ (b : List (List ℕ)). Rattle.trace_log.specs.Kept.Keeps device.state log b) (sym (append-nil bodies)) left.keeps);
-    raised = subst (λ (l : List Record). next_guest l ≤ log.next_guest) (sym (append-nil earlier)) left.above;
-  }
+  none_gained : (log : LogValue D) (bodies : List (List ℕ)) (earlier : List Record) → IsLeft device log bodies earlier → HasGained device [] [] log log bodies earlier
+  none_gained log bodies earlier left =
+      let all : List (List ℕ) × List Record = (bodies ++ [], earlier ++ []) in
+      let path : (bodies, earlier) ≡ all = λ i. (sym (append-nil bodies) i, sym (append-nil earlier) i) in
+      let recovered = subst (λ (x : List (List ℕ) × List Record). IsRecovered x.0 x.1) path left.recovered in
+      record {
+        more = [];
+        hand = [];
+        in_hand = inl (refl, refl);
+        recovered = recovered;
+        would_be = recovered;
+        any_moment = started (device.state log.disk) (HoldsUpTo bodies []) (leaves_kept device log bodies [] left.keeps);
+        now = subst (λ (b : List (List ℕ)). Leaves (HoldsUpTo b []) (device.state log.disk).pending) (sym (append-nil bodies)) (leaves_kept device log bodies [] left.keeps);
+        keeps = λ whole. (refl, subst (λ (b : List (List ℕ)). Keeps device.state log b) (sym (append-nil bodies)) left.keeps);
+        raised = subst (λ (l : List Record). next_guest l ≤ log.next_guest) (sym (append-nil earlier)) left.above;
+      }
 
   module _ {C O S : Type 0} (choosers : Choosers C) (sinks : Sinks S) where
     none_recorded : (number : ℕ) (jobs : List (Job C O S)) → AreRecorded choosers sinks [] number jobs jobs
@@ -87,7 +94,13 @@ module _ {D : Type 0} (device : Device D) where
     )
 
     pub nothing_ran : (log : LogValue D) (jobs : List (Job C O S)) → HasRun choosers sinks device [] log log jobs jobs
-    nothing_ran log jobs = record { gained = none_gained log; only = tt; recorded = none_recorded log.next_guest jobs }
+    nothing_ran log jobs = record {
+      batch = [];
+      gained = none_gained log;
+      only = tt;
+      recorded = none_recorded log.next_guest jobs;
+      in_hand = none_recorded log.next_guest jobs;
+    }
 
 -- where there is no fault the flusher met none
 pub flusher_met_none : (flushed : Result Unit FlushFault) (rest : List SessionFault) (P : Type 0) → flusher_met flushed ++ rest ≡ [] → OnOk flushed P → P × (rest ≡ [])
@@ -107,7 +120,7 @@ pub record AreJoined {C O S D : Type 0} (choosers : Choosers C) (sinks : Sinks S
   pub works : ArePairs (HasWorked choosers sinks) tasks done
   pub flusher : HasFlushed device old f log log' flushed
   pub count : length (seats_worked done) ≡ f.group.guests
-  pub placed : AllByRecursion (IsPlaced (base f.first_guest) f.group.guests) f.committed
+  pub placed : AllByRecursion (IsPlaced (base f.first_guest) f.group.guests) (f.committed ++ f.waiting)
   pub each : (k : ℕ) (r : RecorderValue) → slice_get (seats_worked done) k ≡ Some r → (sent : ℕ) × (committed : ℕ) × (seen : ℕ) × HasEnded f sent committed seen r
 
 module _ {C O S D : Type 0} (choosers : Choosers C) (sinks : Sinks S) (device : Device D) (group : GroupId) (old f : FlusherValue) (log log' : LogValue D)
@@ -118,25 +131,52 @@ module _ {C O S D : Type 0} (choosers : Choosers C) (sinks : Sinks S) (device : 
       let low = get_low (seats_worked done) k r at in
       let count = j.count in
       let e = j.each k r at in
-      ended_at f log.next_guest (0 + k) e.0 e.1 e.2 r e.3 (place ∙ omega arith) (omega arith) (first_is device group old f log log' flushed j.new j.flusher)
+      let first : (f.first_guest ≡ Some log.next_guest) ⊎ (f.committed ≡ []) = elim (first_is device group old f log log' flushed j.new j.flusher) [ inl some ↦ inl some | inr none ↦ inr none.0 ] in
+      ended_at f log.next_guest (0 + k) e.0 e.1 e.2 r e.3 (place ∙ omega arith) (omega arith) first
 
-  -- what is committed is of the session's guests alone
-  only_these : (count : ℕ) → AreJoined choosers sinks device group old f log log' flushed tasks done → length tasks ≡ count → AllByRecursion (IsPlaced log.next_guest count) f.committed
+  -- the first ones of what waits
+  abbrev hand_of : AreJoined choosers sinks device group old f log log' flushed tasks done → List Record
+  hand_of j = take j.flusher.count f.waiting
+
+  first_in_hand : (j : AreJoined choosers sinks device group old f log log' flushed tasks done) → (k : ℕ) (r : RecorderValue) → slice_get (seats_worked done) k ≡ Some r
+      → AreFirstSent (f.committed ++ hand_of j) log.next_guest (0 + k) r
+  first_in_hand j k r at =
+      let place = (all_of choosers sinks group tasks done j.seats j.works k r at).1 in
+      let e = j.each k r at in
+      first_with f log.next_guest (0 + k) e.0 e.1 e.2 j.flusher.count r e.3 (place ∙ omega arith) (first_is device group old f log log' flushed j.new j.flusher)
+
+  -- what is committed, and what is in hand, is of the session's guests alone
+  only_these : (count : ℕ) (j : AreJoined choosers sinks device group old f log log' flushed tasks done) → length tasks ≡ count
+      → AllByRecursion (IsPlaced log.next_guest count) (f.committed ++ hand_of j)
   only_these count j given =
+      let n = j.flusher.count in
+      let all = f.committed ++ take n f.waiting in
+      let whole : all ++ drop n f.waiting ≡ f.committed ++ f.waiting =
+      append_assoc f.committed (take n f.waiting) (drop n f.waiting) ∙ ap (λ (l : List Record). f.committed ++ l) (take-append-drop n f.waiting) in
+      let P = IsPlaced (base f.first_guest) f.group.guests in
+      let placed = AllByRecursion-front P all (drop n f.waiting) (subst (λ (l : List Record). AllByRecursion P l) (sym whole) j.placed) in
       let guests : f.group.guests ≡ count = sym j.count ∙ worked_length done ∙ sym (pairs_length (HasWorked choosers sinks) tasks done j.works) ∙ given in
       elim (first_is device group old f log log' flushed j.new j.flusher) [
-        | inl first ↦ subst (λ (n : ℕ). AllByRecursion (IsPlaced log.next_guest n) f.committed) guests (subst (λ (o : Option ℕ). AllByRecursion (IsPlaced (base o) f.group.guests) f.committed) first j.placed)
-        | inr none ↦ subst (λ (l : List Record). AllByRecursion (IsPlaced log.next_guest count) l) (sym none) tt
+        | inl first ↦ subst (λ (x : Option ℕ × ℕ). AllByRecursion (IsPlaced (base x.0) x.1) all) (λ i. (first i, guests i)) placed
+        | inr none ↦ subst (λ (l : List Record). AllByRecursion (IsPlaced log.next_guest count) l) (sym (λ i. none.0 i ++ none.1 i)) tt
       ]
 
   pub has_run : (jobs jobs' : List (Job C O S)) → AreJoined choosers sinks device group old f log log' flushed tasks done → jobs_of tasks ≡ jobs → jobs' ≡ jobs_worked done
       → HasRun choosers sinks device f.committed log log' jobs jobs'
   has_run jobs jobs' j given back = record {
+    batch = hand_of j;
     gained = session_gained device group old f log log' flushed j.new j.flusher;
     only = only_these (length jobs) j (sym (jobs_length tasks) ∙ ap length given);
-    recorded = subst (λ l. AreRecorded choosers sinks f.committed log.next_guest l jobs') given (subst (λ l. AreRecorded choosers sinks f.committed log.next_guest (jobs_of tasks) l) (sym back)
-        (subst (λ (n : ℕ). AreRecorded choosers sinks f.committed n (jobs_of tasks) (jobs_worked done)) (omega arith) (all_recorded choosers sinks f log.next_guest 0 tasks done j.works (ends j))));
+    recorded = of_jobs f.committed (λ k r at. first_sent f log.next_guest (0 + k) r (ends j k r at));
+    in_hand = of_jobs (f.committed ++ hand_of j) (first_in_hand j);
   }
+    where
+      of_jobs : (records : List Record) → ((k : ℕ) (r : RecorderValue) → slice_get (seats_worked done) k ≡ Some r → AreFirstSent records log.next_guest (0 + k) r)
+          → AreRecorded choosers sinks records log.next_guest jobs jobs'
+      of_jobs records each =
+          let all = all_recorded choosers sinks records log.next_guest 0 tasks done j.works each in
+          let here = subst (λ (n : ℕ). AreRecorded choosers sinks records n (jobs_of tasks) (jobs_worked done)) (omega arith) all in
+          subst (λ (x : List (Job C O S) × List (Job C O S)). AreRecorded choosers sinks records log.next_guest x.0 x.1) (λ i. (given i, sym back i)) here
 
   pub has_reported : (jobs jobs' : List (Job C O S)) (first : ℕ) (reports : List GuestReport) → AreJoined choosers sinks device group old f log log' flushed tasks done → jobs_of tasks ≡ jobs → jobs' ≡ jobs_worked done
       → first ≡ log.next_guest → reports ≡ reports_of first done → flusher_met flushed ++ faults_met done ≡ [] → log.next_guest + length done ≤ 4294967295

@@ -1,14 +1,18 @@
 -- What a worker gives back.
-use Rattle.std.proofs.Common.{◌≡◌, ◌⊎◌, inl, inr, ℕ, ◌+◌, ◌-◌, ◌≤◌, List, [], ◌∷◌, ◌++◌, length, length-append, take, None, Option, Some, true, true≢false, refl, sym, ap, ◌∙◌, subst, arith}
+use Rattle.std.proofs.Common.{◌≡◌, ◌⊎◌, inl, inr, ℕ, suc, ◌+◌, ◌*◌, ◌^◌, ◌-◌, ◌<◌, ◌≤◌, List, [], ◌∷◌, ◌++◌, length, length-append, take, None, Option, Some, true, true≢false, refl, sym, ap, ◌∙◌, subst, arith}
 use Rattle.std.proofs.lemmas.List.{append-nil, take-append-le, take_all}
+use Rattle.std.proofs.lemmas.List.Sums.{sum_by-cons}
 use Rattle.std.specs.Prelude.{IsSome}
+use Rattle.std.specs.List.{AllByRecursion}
+use Rattle.rrv_model.specs.declared.record.End.{End}
+use Rattle.rrv_model.specs.declared.record.End.TheVariants as ends
 use Rattle.rrv_model.specs.declared.record.Frame.{Frame}
 use Rattle.rrv_model.specs.declared.record.Item.{Item}
 use Rattle.rrv_model.specs.declared.record.Item.TheVariants as items
 use Rattle.rrv_model.specs.declared.record.Part.{Part}
 use Rattle.rrv_model.specs.declared.record.Record.{Record}
-use Rattle.rrv_model.specs.RecordText.{HasText}
-use Rattle.rrv_model.specs.Recording.{EndsIn, IsRecording, ItemsFollow, Starts, base_after, frames_of, items_of, row_after}
+use Rattle.rrv_model.specs.RecordText.{HasFrameText, HasItemText, HasText}
+use Rattle.rrv_model.specs.Recording.{EndsIn, IsNumbered, IsRecording, ItemsFollow, Starts, base_after, frames_of, items_of, row_after}
 use Rattle.rrv_model.specs.State.{State}
 use Rattle.rrv_model.specs.StateAt.{StateAtFrom, total}
 use Rattle.rrv_model.proofs.Lists.{AllByRecursion-front}
@@ -32,7 +36,7 @@ use Rattle.session.proofs.Works.{no_fault, none_put}
 use Rattle.session.proofs.Chosen.{chosen_from_start, front_chosen, none_chosen}
 use Rattle.session.specs.Chosen.{HasChosen, IsAtStart, IsLeftWith, MakesChosen, frames_in}
 use Rattle.session.specs.Drives.{Drives, HasHalted, IsDone, IsDriven, IsOver, LeavesWith}
-use Rattle.session.specs.Works.{AreMet, Choosers, HasChosenAll, HasFinished, IsBehind, HasStopped, HasWorked, IsBegun, IsRecordedFrom, IsSameJob, Sinks, opening_for}
+use Rattle.session.specs.Works.{AreMet, Choosers, FaultTellsSink, HasChosenAll, HasFinished, IsBehind, HasStopped, HasWorked, IsBegun, IsRecordedFrom, IsSameJob, Sinks, opening_for}
 
 none_left : (o : Owed) (k : ℕ) → k ≤ o.released → left_of o k ≡ []
 none_left o k low =
@@ -95,6 +99,37 @@ is_no_none o some none = true≢false (sym (subst IsSome none some))
 same_opening : {C O S : Type 0} (guest guest' : ℕ) (job job' : Job C O S) → guest' ≡ guest → IsSameJob job job' → opening_for guest job ≡ opening_for guest' job'
 same_opening guest guest' job job' e same = λ i. opening_of (sym e i) (sym same.elf i) (sym same.name i) (sym same.random i)
 
+-- ---- the steps of a recording
+
+few_counts : (end : End) (tid count : ℕ) → HasFrameText end tid count → count ≤ 1048576
+few_counts ends.Preempt tid count h = (let c = h.count_high in omega arith)
+few_counts (ends.Call r) tid count h = (let c = h.0.count_high in omega arith)
+few_counts (ends.Fault kind) tid count h = (let c = h.count_high in omega arith)
+few_counts ends.Stuck tid count h = (let c = h.1 in omega arith)
+
+more_counts : (item : Item) (rest : List Item) (n : ℕ) → HasItemText item → total (frames_of rest) ≤ n * 1048576 → total (frames_of (item ∷ rest)) ≤ suc n * 1048576
+more_counts (items.Opening o) rest n h low = omega arith
+more_counts (items.Frame f) rest n h low =
+    let few = few_counts f.end f.tid f.count h in
+    let sum = sum_by-cons (λ (x : Frame). x.count) f (frames_of rest) in
+    omega (arith, few, low, sum)
+more_counts (items.Part p) rest n h low = omega arith
+
+low_counts : (records : List Record) → AllByRecursion HasText records → total (frames_in records) ≤ length records * 1048576
+low_counts [] h = omega arith
+low_counts (r ∷ records) h = more_counts r.item (items_of records) (length records) h.0.item (low_counts records h.1)
+
+few_records : (place index : ℕ) (r : Record) (records : List Record) → IsNumbered place index (r ∷ records) → AllByRecursion HasText (r ∷ records) → index + length records ≤ 4294967294
+few_records place index r [] numbered h = (let here = numbered.1 in let low = h.0.index in omega arith)
+few_records place index r (x ∷ records) numbered h = (let rest = few_records place (index + 1) x records numbered.2 h.1 in omega arith)
+
+low_total : (place : ℕ) (records : List Record) → IsNumbered place 0 records → AllByRecursion HasText records → total (frames_in records) < 2 ^ 64
+low_total place [] numbered h = omega arith
+low_total place (r ∷ records) numbered h =
+    let few = few_records place 0 r records numbered h in
+    let low = low_counts (r ∷ records) h in
+    omega arith
+
 -- the guest comes back behind all that was made of it
 left_behind : {C O S : Type 0} (choosers : Choosers C) (job : Job C O S) (old new : GuestRecorder) (opening : Record) (Ends : C → Type 0) → IsRecordedFrom opening new.seat.guest (made new) (state_of new.guest) → IsAtStart job old
     → MakesChosen choosers.chooses old job.chooser new Ends → IsBehind (made new) new.guest
@@ -102,9 +137,10 @@ left_behind choosers job old new opening Ends recorded start makes =
     let all : frames_in (made new) ≡ makes.frames = makes.made_are ∙ ap (λ (l : List Frame). l ++ makes.frames) start.none in
     let count : total (frames_in (made new)) ≡ total makes.frames = ap (λ (l : List Frame). total l) all in
     let none = start.ran in
+    let low = low_total new.seat.guest (made new) recorded.recorded.numbered recorded.recorded.has_text in
     record {
       ends = recorded.recorded.ends;
-      ran = λ low. makes.ran (omega arith) ∙ omega arith;
+      ran = makes.ran (omega arith) ∙ omega arith;
     }
 
 -- to the guest's end
@@ -172,10 +208,10 @@ module _ {C O S : Type 0} (choosers : Choosers C) (sinks : Sinks S) (old new : G
         );
       }
 
-  pub has_worked : (guest : Option GuestValue) (end : Option GuestEnd) (fault : Option SessionFault) → AreMet new.seat.guest fault
+  pub has_worked : (guest : Option GuestValue) (end : Option GuestEnd) (fault : Option SessionFault) → AreMet new.seat.guest fault → FaultTellsSink fault (sinks.faults job.sink) (sinks.faults job'.sink)
       → (fault ≡ None → HasStopped drives.put (record { seat = seat; job = job'; guest = guest; end = end; fault = fault }) ⊎ HasFinished choosers job drives.put (record { seat = seat; job = job'; guest = guest; end = end; fault = fault }))
       → HasWorked choosers sinks (record { seat = old.seat; job = job }) (record { seat = seat; job = job'; guest = guest; end = end; fault = fault })
-  has_worked guest end fault met done = record {
+  has_worked guest end fault met sink done = record {
     group = drives.goes.group;
     guest = drives.goes.guest;
     left = refl;
@@ -185,6 +221,7 @@ module _ {C O S : Type 0} (choosers : Choosers C) (sinks : Sinks S) (old new : G
     put = drives.put;
     takes = drives.takes;
     output = output;
+    sink = sink;
     faults = met;
     finished = done;
   }
@@ -194,18 +231,18 @@ abbrev pub left_with : {C O S : Type 0} → GuestRecorder → Job C O S → Opti
 left_with r job fault = record { seat = record r.seat { has_left = true }; job = job; guest = Some r.guest; end = (state_of r.guest).ended; fault = fault }
 
 pub worked : {C O S : Type 0} (choosers : Choosers C) (sinks : Sinks S) (guest : ℕ) (seat : RecorderValue) (old new : GuestRecorder) (job job' : Job C O S) (fault : Option SessionFault) (worked : Worked C O S)
-    → guest ≡ seat.guest → old.seat ≡ seat → IsDriven (opening_for seat.guest job) old [] → Drives sinks old new job.sink job'.sink → IsSameJob job job' → AreMet guest fault
+    → guest ≡ seat.guest → old.seat ≡ seat → IsDriven (opening_for seat.guest job) old [] → Drives sinks old new job.sink job'.sink → IsSameJob job job' → AreMet guest fault → FaultTellsSink fault (sinks.faults job.sink) (sinks.faults job'.sink)
     → IsAtStart job old → MakesChosen choosers.chooses old job.chooser new (λ _. Unit {0})
     → (fault ≡ None → HasHalted new ⊎ IsDone choosers new job'.chooser)
     → (fault ≡ None → HasHalted new ⊎ MakesChosen choosers.chooses old job.chooser new (IsLeftWith choosers.chooses job'.chooser (state_of new.guest))) → LeavesWith new job' fault worked
     → HasWorked choosers sinks (record { seat = seat; job = job }) worked
-worked {C = C} {O = O} {S = S} choosers sinks guest seat old new job job' fault out place same_seat begun drives same met start makes done left leaves =
+worked {C = C} {O = O} {S = S} choosers sinks guest seat old new job job' fault out place same_seat begun drives same met sink start makes done left leaves =
     let begun' : IsDriven (opening_for old.seat.guest job) old [] = subst (λ (q : RecorderValue). IsDriven (opening_for q.guest job) old []) (sym same_seat) begun in
     let met' : AreMet new.seat.guest fault = subst (λ n. AreMet n fault) (place ∙ ap (λ (q : RecorderValue). q.guest) (sym same_seat) ∙ sym drives.goes.guest) met in
     let end = (state_of new.guest).ended in
     let low = leaves.seen in
     subst (λ (x : RecorderValue × Worked C O S). HasWorked choosers sinks (record { seat = x.0; job = job }) x.1) (λ i. (same_seat i, sym leaves.is i))
-    (has_worked choosers sinks old new job job' begun' drives same low start makes (Some new.guest) end fault met' (λ none. finish (done none) (left none)))
+    (has_worked choosers sinks old new job job' begun' drives same low start makes (Some new.guest) end fault met' sink (λ none. finish (done none) (left none)))
   where
     begun_here : IsDriven (opening_for old.seat.guest job) old []
     begun_here = subst (λ (q : RecorderValue). IsDriven (opening_for q.guest job) old []) (sym same_seat) begun
@@ -230,6 +267,7 @@ worked_none choosers sinks task seat is none =
       put = [];
       takes = λ t. sym (append-nil (sinks.taken task.job.sink));
       output = none_put seat.seen seat.sent sent;
+      sink = refl;
       faults = inr (inr refl);
       finished = λ e. absurd (no_fault e);
     }

@@ -1,6 +1,7 @@
 -- How a worker drives its guest's recorder.
-use Rattle.std.specs.Prelude.{◌≡◌, ◌⊎◌, ◌↔◌, ℕ, ◌+◌, ◌≤◌, true, Option, None, Some, List, [], ◌++◌, length, IsSome}
+use Rattle.std.specs.Prelude.{◌≡◌, ◌⊎◌, ◌↔◌, ℕ, ◌+◌, ◌≤◌, true, Option, None, Some, List, [], ◌++◌, length, IsSome, Result, Ok, Err}
 use Rattle.rrv_model.specs.declared.record.Record.{Record}
+use Rattle.rrv_model.specs.Failures.{HasFailed}
 use Rattle.guest_calls.specs.Guest.{state_of}
 use Rattle.recorder.specs.declared.fault.RecorderFault.{RecorderFault}
 use Rattle.recorder.specs.declared.fault.RecorderFault.TheVariants as faults
@@ -70,6 +71,25 @@ fault_told guest work_faults.Halted = None
 fault_told guest work_faults.SinkFailed = Some (session_faults.SinkFailed guest)
 fault_told guest work_faults.Held = Some (session_faults.Held guest)
 fault_told guest work_faults.Memory = Some session_faults.Memory
+
+-- how often a sink had refused before and after a worker's call: a refusal that is told is one, and there is no other
+abbrev pub WorkTellsSink : Result Unit WorkFault → ℕ → ℕ → Type 0
+WorkTellsSink (Ok done) old new = new ≡ old
+WorkTellsSink (Err work_faults.Halted) old new = new ≡ old
+WorkTellsSink (Err work_faults.SinkFailed) old new = HasFailed old new
+WorkTellsSink (Err work_faults.Held) old new = new ≡ old
+WorkTellsSink (Err work_faults.Memory) old new = new ≡ old
+
+-- the same of a recorder's call
+abbrev pub CallTellsSink : Result Unit RecorderFault → ℕ → ℕ → Type 0
+CallTellsSink (Ok done) old new = new ≡ old
+CallTellsSink (Err (faults.SinkFailed taken)) old new = HasFailed old new
+CallTellsSink (Err faults.Halted) old new = new ≡ old
+CallTellsSink (Err faults.Full) old new = new ≡ old
+CallTellsSink (Err faults.Memory) old new = new ≡ old
+CallTellsSink (Err (faults.Refused fault)) old new = new ≡ old
+CallTellsSink (Err faults.TooManyRecords) old new = new ≡ old
+CallTellsSink (Err faults.BadOpening) old new = new ≡ old
 
 -- ---- the end of a worker
 

@@ -1,8 +1,9 @@
 -- What a session gives.
-use Rattle.std.specs.Prelude.{◌≡◌, ◌⊎◌, ℕ, ◌+◌, ◌<◌, ◌≤◌, true, false, List, [], ◌∷◌, length, Vec, vec_items}
+use Rattle.std.specs.Prelude.{◌≡◌, ◌⊎◌, ℕ, ◌+◌, ◌<◌, ◌≤◌, true, false, List, [], ◌∷◌, ◌++◌, length, slice_get, Some, Result, Ok, Err, IfErr, IsErrAnd, Vec, vec_items}
 use Rattle.std.specs.List.{AllByRecursion}
 use Rattle.std.specs.declared.alloc.Global.{Global}
 use Rattle.rrv_model.specs.declared.record.Record.{Record}
+use Rattle.rrv_model.specs.Failures.{HasFailed}
 use Rattle.rrv_model.specs.Recording.{IsNumbered, IsRecording}
 use Rattle.rrv_model.specs.Recovered.{next_guest, of_guest, IsRecovered}
 use Rattle.guest_calls.specs.Guest.{GuestValue}
@@ -15,6 +16,7 @@ use Rattle.session.specs.declared.fault.SessionFault.TheVariants as faults
 use Rattle.session.specs.declared.job.Job.{Job}
 use Rattle.session.specs.declared.report.GuestReport.{GuestReport}
 use Rattle.session.specs.declared.task.Worked.{Worked}
+use Rattle.session.specs.Faults.{IsNoLater}
 use Rattle.session.specs.Gains.{Device, HasGained, IsFull}
 use Rattle.session.specs.Chosen.{HasChosen}
 use Rattle.session.specs.Openings.{IsFirstBad}
@@ -80,13 +82,16 @@ pub record IsLeft {D : Type 0} (device : Device D) (log : LogValue D) (bodies : 
   pub recovered : IsRecovered bodies earlier
   pub above : next_guest earlier ≤ log.next_guest
 
--- These records were committed, whatever bodies the log kept before: of each job what was recorded so far, and no others.
+-- These records were committed, whatever bodies the log kept before: of each job what was recorded so far, and no others. So
+-- are these with the batch in hand, in a body that a call of the disk failed to commit.
 pub record HasRun {C O S D : Type 0} (choosers : Choosers C) (sinks : Sinks S) (device : Device D)
     (committed : List Record) (log log' : LogValue D) (jobs jobs' : List (Job C O S)) : Type 0 where
+  pub batch : List Record
   pub gained : (bodies : List (List ℕ)) (earlier : List Record)
-      → IsLeft device log bodies earlier → HasGained device committed log log' bodies earlier
-  pub only : AllByRecursion (IsPlaced log.next_guest (length jobs)) committed
+      → IsLeft device log bodies earlier → HasGained device committed batch log log' bodies earlier
+  pub only : AllByRecursion (IsPlaced log.next_guest (length jobs)) (committed ++ batch)
   pub recorded : AreRecorded choosers sinks committed log.next_guest jobs jobs'
+  pub in_hand : AreRecorded choosers sinks (committed ++ batch) log.next_guest jobs jobs'
 
 -- ---- faults
 
@@ -112,6 +117,36 @@ RefusesSession log log' jobs jobs' faults.TooManyGuests =
 RefusesSession log log' jobs jobs' faults.StoreFull = (log'.is_broken ≡ false) × IsFull log'
 RefusesSession log log' jobs jobs' (faults.BadOpening guest) =
     IsFirstBad (vec_items jobs) guest × AreUntouched log log' jobs jobs'
+
+-- How many calls of the disk had failed before and after: one that is reported failed, and no other.
+abbrev pub TellsDevice : {T : Type 0} → Result T SessionFault → ℕ → ℕ → Type 0
+TellsDevice (Ok report) old new = new ≡ old
+TellsDevice (Err faults.DeviceFailed) old new = HasFailed old new
+TellsDevice (Err (faults.SinkFailed guest)) old new = new ≡ old
+TellsDevice (Err (faults.Held guest)) old new = new ≡ old
+TellsDevice (Err faults.Memory) old new = new ≡ old
+TellsDevice (Err faults.TooManyGuests) old new = new ≡ old
+TellsDevice (Err faults.StoreFull) old new = new ≡ old
+TellsDevice (Err (faults.BadOpening guest)) old new = new ≡ old
+
+-- The sink of the job at this place refused nothing, or it refused once and that is reported, or a fault before that; and
+-- where that is reported it refused.
+pub record TellsSink {T : Type 0} (result : Result T SessionFault) (guest old new : ℕ) : Type 0 where
+  pub rises : (new ≡ old)
+      ⊎ (HasFailed old new × IsErrAnd result (λ fault. IsNoLater fault (faults.SinkFailed guest)))
+  pub failed : IfErr result (λ fault. fault ≡ faults.SinkFailed guest → HasFailed old new)
+
+-- so of the sink of each job, by its place
+abbrev pub TellsSinks : {C O S T : Type 0} → Sinks S → Result T SessionFault → (jobs jobs' : List (Job C O S)) → Type 0
+TellsSinks {C = C} {O = O} {S = S} sinks result jobs jobs' =
+    (guest : ℕ) (old new : Job C O S) → slice_get jobs guest ≡ Some old → slice_get jobs' guest ≡ Some new
+    → TellsSink result guest (sinks.faults old.sink) (sinks.faults new.sink)
+
+-- The first job that starts no guest is reported, unless there are too many guests, or there was no memory to look at it.
+-- Nothing was recorded.
+abbrev pub TellsBadJob : {T : Type 0} → Result T SessionFault → ℕ → Type 0
+TellsBadJob result guest = IsErrAnd result (λ fault. (fault ≡ faults.BadOpening guest)
+    ⊎ ((fault ≡ faults.Memory) ⊎ (fault ≡ faults.TooManyGuests)))
 
 -- ---- reports
 

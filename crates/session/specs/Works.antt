@@ -1,9 +1,10 @@
 -- What a worker is given, and what it gives back.
-use Rattle.std.specs.Prelude.{◌≡◌, ◌⊎◌, ℕ, ◌<◌, ◌^◌, true, false, List, [], ◌++◌, length, take, vec_items, Option, Some, None}
+use Rattle.std.specs.Prelude.{◌≡◌, ◌⊎◌, ℕ, true, false, List, [], ◌++◌, length, take, vec_items, Option, Some, None}
 use Rattle.rrv_model.specs.declared.record.Record.{Record}
 use Rattle.rrv_model.specs.declared.machine.GuestEnd.{GuestEnd}
 use Rattle.rrv_model.specs.declared.sink.Sink as sinks
 use Rattle.rrv_model.specs.Elf.{refusal}
+use Rattle.rrv_model.specs.Failures.{HasFailed}
 use Rattle.rrv_model.specs.Opening.{IsName}
 use Rattle.rrv_model.specs.Output.{Chunk, spread}
 use Rattle.rrv_model.specs.Recording.{EndsIn, items_of}
@@ -80,6 +81,17 @@ pub record IsFresh {C O S : Type 0} (task : Task C O S) : Type 0 where
 abbrev pub IsMet : ℕ → SessionFault → Type 0
 IsMet guest fault = (fault ≡ faults.SinkFailed guest) ⊎ ((fault ≡ faults.Held guest) ⊎ (fault ≡ faults.Memory))
 
+-- How often a sink had refused before and after a worker's work: a refusal that it met is one, and there is no other.
+abbrev pub FaultTellsSink : Option SessionFault → ℕ → ℕ → Type 0
+FaultTellsSink None old new = new ≡ old
+FaultTellsSink (Some (faults.SinkFailed guest)) old new = HasFailed old new
+FaultTellsSink (Some faults.DeviceFailed) old new = new ≡ old
+FaultTellsSink (Some (faults.Held guest)) old new = new ≡ old
+FaultTellsSink (Some faults.Memory) old new = new ≡ old
+FaultTellsSink (Some faults.TooManyGuests) old new = new ≡ old
+FaultTellsSink (Some faults.StoreFull) old new = new ≡ old
+FaultTellsSink (Some (faults.BadOpening guest)) old new = new ≡ old
+
 abbrev pub AreMet : ℕ → Option SessionFault → Type 0
 AreMet guest None = Unit {0}
 AreMet guest (Some fault) = IsMet guest fault
@@ -90,10 +102,10 @@ abbrev pub HasChosenAll : {C O S : Type 0} → Choosers C → (old new : Job C O
 HasChosenAll choosers old new records end =
     HasChosen choosers.chooses old records (λ s last. (end ≡ s.ended) × IsLeftWith choosers.chooses new.chooser s last)
 
--- the guest is in the state behind these records, and ran the steps of their frames, as far as it counts them
+-- the guest is in the state behind these records, and ran the steps of their frames
 pub record IsBehind (records : List Record) (guest : GuestValue) : Type 0 where
   pub ends : EndsIn (items_of records) (state_of guest)
-  pub ran : total (frames_in records) < 2 ^ 64 → guest.ran ≡ total (frames_in records)
+  pub ran : guest.ran ≡ total (frames_in records)
 
 -- all is sent, and seen to be durable, and the guest is recorded to its end, and comes back as it is then
 pub record HasFinished {C O S : Type 0} (choosers : Choosers C) (old : Job C O S) (put : List (ℕ × ℕ)) (new : Worked C O S)
@@ -125,5 +137,6 @@ pub record HasWorked {C O S : Type 0} (choosers : Choosers C) (sinks : Sinks S)
   pub put : List (ℕ × ℕ)
   pub takes : Takes sinks old.job.sink new.job.sink put
   pub output : IsOutput put (take new.seat.seen new.seat.sent)
+  pub sink : FaultTellsSink new.fault (sinks.faults old.job.sink) (sinks.faults new.job.sink)
   pub faults : AreMet new.seat.guest new.fault
   pub finished : new.fault ≡ None → HasStopped put new ⊎ HasFinished choosers old.job put new

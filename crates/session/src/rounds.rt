@@ -1,12 +1,12 @@
 //! The rounds of a worker: it sends and releases what it can, and makes a frame where the gate lets it.
 
-ghost use Rattle.std.specs.Prelude.{◌≡◌, ◌≢◌, ◌↔◌, ◌<◌, [], true, Err, IfErr, IfOk, IsTrue, None, OnErr, OnOk};
+ghost use Rattle.std.specs.Prelude.{◌≡◌, ◌≢◌, ◌↔◌, ◌<◌, [], length, true, Err, IfErr, IfOk, IsTrue, None, OnErr, OnOk};
 ghost use Rattle.guest_calls.specs.Guest.{state_of};
 ghost use Rattle.serial_sched.specs.Chosen.{Picks};
 ghost use Rattle.recorder.specs.RecorderCalls.{KeepsMade};
-ghost use Rattle.recorder.specs.Recorders.{IsSettled};
+ghost use Rattle.recorder.specs.Recorders.{IsSettled, made};
 ghost use Rattle.session.specs.Chosen.{IsLeftWith, MakesChosen, TurnLeaves};
-ghost use Rattle.session.specs.Drives.{Drives, GoesOn, HasHalted, HasSent, IsOver, next_held, work_told};
+ghost use Rattle.session.specs.Drives.{CallTellsSink, Drives, GoesOn, HasHalted, HasSent, IsOver, WorkTellsSink, next_held, work_told};
 ghost use Rattle.session.specs.declared.rounds.WorkFault.TheVariants as work_faults;
 
 use crate::gate::Gate;
@@ -113,7 +113,9 @@ fn take_turn<C: Chooser, O: Outside, G: Gate>(
 ) -> Result<Turn, WorkFault>
     ensures goes { GoesOn recorder.old recorder.new [] }
     ensures over { IfOk result (λ turn. turn ≡ Turn.Over → IsOver C.Chooser recorder.new chooser.new) }
-    ensures no_halt { IfErr result (λ e. e ≢ WorkFault.Halted) }
+    ensures waits { IfOk result (λ turn. turn ≡ Turn.Waits
+        → length recorder.new.seat.sent ≢ length (made recorder.new)) }
+    ensures memory { IfErr result (λ e. e ≡ WorkFault.Memory) }
     ensures chosen { OnErr result (MakesChosen C.chooses recorder.old chooser.old recorder.new (λ _. Unit {0})) }
     ensures turn { IfOk result (λ turn. MakesChosen C.chooses recorder.old chooser.old recorder.new
         (TurnLeaves C.chooses turn chooser.new (state_of recorder.new.guest))) }
@@ -142,7 +144,7 @@ fn send<G: Gate, R: Wait>(
 ) -> Result<(), RecorderFault>
     ensures goes { GoesOn recorder.old recorder.new [] }
     ensures keeps { KeepsMade recorder.old recorder.new }
-    ensures halted { IfErr result (λ _. recorder.new.seat.knows_halt ≡ true) }
+    ensures halted { IfErr result (λ e. (e ≡ RecorderFault.Halted) × (recorder.new.seat.knows_halt ≡ true)) }
 {
     let before = recorder.sent();
     let result = recorder.send(rt);
@@ -160,6 +162,7 @@ fn send_and_release<S: Sink, G: Gate, R: Wait>(
     ensures drives { Drives S.Sink recorder.old recorder.new sink.old sink.new }
     ensures keeps { KeepsMade recorder.old recorder.new }
     ensures halted { result ≡ Err RecorderFault.Halted → HasHalted recorder.new }
+    ensures sink { CallTellsSink result (S.faults sink.old) (S.faults sink.new) }
 {
     let sent = send(rt, recorder, place);
     recorder.release(rt, sink)?;
@@ -203,6 +206,7 @@ fn make_frames<C: Chooser, O: Outside, S: Sink, G: Gate, R: Wait>(
     ensures left { OnOk result (MakesChosen C.chooses recorder.old chooser.old recorder.new
         (IsLeftWith C.chooses chooser.new (state_of recorder.new.guest))) }
     ensures halted { result ≡ Err WorkFault.Halted → HasHalted recorder.new }
+    ensures sink { WorkTellsSink result (S.faults sink.old) (S.faults sink.new) }
 {
     let mut held = 0;
     for _ in rt.forever() {
@@ -233,6 +237,7 @@ pub(crate) fn drive<C: Chooser, O: Outside, S: Sink, G: Gate, R: Wait>(
         (IsLeftWith C.chooses chooser.new (state_of recorder.new.guest))) }
     ensures settled { OnOk result (IsSettled recorder.new) }
     ensures halted { result ≡ Err WorkFault.Halted → HasHalted recorder.new }
+    ensures sink { WorkTellsSink result (S.faults sink.old) (S.faults sink.new) }
 {
     make_frames(rt, alloc, recorder, chooser, outside, sink, place)?;
     place.pace.hurry();

@@ -1,10 +1,10 @@
 //! A session, from its jobs to its report.
 
-ghost use Rattle.std.specs.Prelude.{◌≡◌, ◌<◌, ◌≤◌, ◌+◌, List, [], false, length, IfErr, IfOk, OnErr, OnOk, Err};
+ghost use Rattle.std.specs.Prelude.{◌≡◌, ◌<◌, ◌≤◌, ◌+◌, ℕ, List, [], false, length, IfErr, IfOk, OnErr, OnOk, Err};
 ghost use Rattle.rrv_model.specs.declared.record.Record.{Record};
 ghost use Rattle.std.specs.List.{AllByRecursion};
-ghost use Rattle.session.specs.Openings.{StartsGuest};
-ghost use Rattle.session.specs.Sessions.{AreLeft, AreReported, AreTooMany, AreUntouched, HasRun, RefusesSession};
+ghost use Rattle.session.specs.Openings.{IsFirstBad, StartsGuest};
+ghost use Rattle.session.specs.Sessions.{AreLeft, AreReported, AreTooMany, AreUntouched, HasRun, RefusesSession, TellsBadJob, TellsDevice, TellsSinks};
 
 use crate::fault::SessionFault;
 use crate::gate::Gate;
@@ -54,6 +54,8 @@ fn record_some<
         jobs.items result.1.items r.guests.items × AreLeft committed log.next_guest result.1.items r.states.items) }
     ensures whole { OnOk result.2 (result.0.is_broken ≡ false) }
     ensures refused { IfErr result.2 (RefusesSession log result.0 jobs result.1) }
+    ensures disk { TellsDevice result.2 (D.faults log.disk) (D.faults result.0.disk) }
+    ensures sinks { TellsSinks S.Sink result.2 jobs.items result.1.items }
 {
     let first = log.next_guest();
     let Ok(room) = make_room(alloc, jobs.len()) else {
@@ -121,6 +123,10 @@ pub fn record_all<
     ensures refused { IfErr result.2 (RefusesSession log result.0 jobs result.1) }
     ensures many { AreTooMany log jobs.items → result.2 ≡ Err SessionFault.TooManyGuests }
     ensures none { jobs.items ≡ [] → AreUntouched log result.0 jobs result.1 × OnErr result.2 ⊥ }
+    ensures disk { TellsDevice result.2 (D.faults log.disk) (D.faults result.0.disk) }
+    ensures sinks { TellsSinks S.Sink result.2 jobs.items result.1.items }
+    ensures bad { (guest : ℕ) → IsFirstBad jobs.items guest
+        → AreUntouched log result.0 jobs result.1 × TellsBadJob result.2 guest }
 {
     let count = jobs.len();
     if count > MAX_GUESTS as usize || log.next_guest() > u32::MAX - count as u32 {

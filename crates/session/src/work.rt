@@ -5,7 +5,7 @@ ghost use Rattle.guest_calls.specs.Guest.{state_of};
 ghost use Rattle.recorder.specs.RecorderCalls.{KeepsMade};
 ghost use Rattle.session.specs.Chosen.{IsAtStart, IsLeftWith, MakesChosen};
 ghost use Rattle.session.specs.Drives.{Drives, GoesOn, HasHalted, HasSent, IsDone, IsDriven, LeavesWith, fault_told};
-ghost use Rattle.session.specs.Works.{AreMet, HasWorked, IsFresh, IsSameJob, opening_for};
+ghost use Rattle.session.specs.Works.{AreMet, FaultTellsSink, HasWorked, IsFresh, IsSameJob, opening_for};
 
 use crate::copying::copy_opening;
 use crate::fault::SessionFault;
@@ -33,6 +33,7 @@ fn open<C: Chooser + Drop, O: Outside + Drop, S: Sink + Drop>(
     ensures seat { IfOk result (λ r. r.seat ≡ seat) }
     ensures driven { IfOk result (λ r. IsDriven (opening_for seat.guest job.now) r []) }
     ensures start { IfOk result (IsAtStart job.now) }
+    ensures every { IfOk result (λ r. r.every ≡ job.now.every) }
     ensures back { IfErr result (λ e. e ≡ seat) }
 {
     let Ok(opening) = copy_opening(alloc, &job.elf, &job.name, &job.random) else {
@@ -97,6 +98,7 @@ fn record<C: Chooser + Drop, O: Outside + Drop, S: Sink + Drop, G: Gate, R: Wait
     ensures left { result ≡ None → HasHalted recorder.new ⊎ MakesChosen C.chooses recorder.old job.old.chooser
         recorder.new (IsLeftWith C.chooses job.new.chooser (state_of recorder.new.guest)) }
     ensures rest { HasSent recorder.new }
+    ensures sink { FaultTellsSink result (S.faults job.old.sink) (S.faults job.new.sink) }
 {
     let driven = drive(
         rt,

@@ -8,7 +8,7 @@ use crate::{Disk, DiskFailed};
 use std::fs::{File, OpenOptions};
 use std::marker::Model;
 use std::os::fd::AsRawFd;
-use std::os::unix::fs::FileExt;
+use std::os::unix::fs::{FileExt, MetadataExt};
 use std::path::Path;
 use std::rt::Files;
 use std::{fs, io};
@@ -33,7 +33,8 @@ impl From<io::Error> for CannotOpen {
 /// Its length and its failures are promised. That its file is a disk as `Disk` has it is a premise: no file is `honest`.
 ///
 /// A lock keeps the file from each other `FileDisk`, in any program, until this one is let go. A program that doesn't ask for
-/// locks is not kept off: where the file has another length than the calls gave it, no call changes it, and a sync fails.
+/// locks is not kept off: if the file has another length than the calls gave it, or it was removed or another was put in its place, no
+/// call changes it, and a sync fails.
 ///
 /// After a sync that failed each device call fails, since the host may have dropped what was written, and tells it once at most.
 #[derive(Drop)]
@@ -103,7 +104,7 @@ impl FileDisk {
         })
     }
 
-    // Whether the file may be changed: no sync has failed, and it has the length that the calls gave it.
+    // Whether the file may be changed: no sync has failed, it has the length that the calls gave it, and a name leads to it still.
     fn is_whole(&self) -> bool
         ensures { IsTrue result → self.now.is_broken ≡ false }
     {
@@ -111,7 +112,7 @@ impl FileDisk {
             return false;
         }
         match self.file.metadata() {
-            Ok(metadata) => metadata.len() == self.len,
+            Ok(metadata) => metadata.len() == self.len && metadata.nlink() > 0,
             Err(_) => false,
         }
     }

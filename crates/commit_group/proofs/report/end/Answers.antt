@@ -1,13 +1,12 @@
-use Rattle.std.proofs.Common.{◌≡◌, ◌<◌, ◌≤◌, ℕ, length, arith, refl, sym, ap, ◌∙◌, subst}
+use Rattle.std.proofs.Common.{◌≡◌, ◌++◌, ◌<◌, ◌≤◌, ℕ, length, arith, refl, sym, ap, ◌∙◌, subst}
 use Rattle.std.specs.Prelude.{slice_index}
 use Rattle.std.proofs.lemmas.Option.{slice_get_within}
 use Rattle.std.specs.List.{AllByRecursion}
 use Rattle.crossbeam_queue.specs.Passes.{view}
-use Rattle.rrv_model.proofs.Lists.{AllByRecursion-front}
 use Rattle.commit_group.specs.Numbers.{base, IsPlaced}
 use Rattle.commit_group.specs.Queue.{received_of}
 use Rattle.commit_group.specs.Reports.{HasEnded}
-use Rattle.commit_group.specs.Seats.{FlusherValue, finished}
+use Rattle.commit_group.specs.Seats.{FlusherValue}
 use Rattle.commit_group.specs.Words.{flusher_of}
 use Rattle.commit_group.proofs.Ends.{ended, counts_past}
 use Rattle.commit_group.proofs.Received.{own}
@@ -42,6 +41,5 @@ returns-clause-zeros c k le =
 pub returns-clause-placed : goal.returns-clause-placed
 returns-clause-placed c =
     let f = c.flusher.inside in
-    let own = (own _ f.pass f.seat f.waiting.items f.counts f.first_guest f.halted c.flusher.invariant).each in
-    subst (λ (x : FlusherValue). AllByRecursion (IsPlaced (base x.first_guest) x.group.guests) x.committed) c.flusher.view_is
-    (AllByRecursion-front (IsPlaced (base f.first_guest) f.group.value.guests) (finished f.first_guest f.pass f.waiting.items) f.waiting.items own)
+    subst (λ (x : FlusherValue). AllByRecursion (IsPlaced (base x.first_guest) x.group.guests) (x.committed ++ x.waiting)) c.flusher.view_is
+    (own _ f.pass f.seat f.waiting.items f.counts f.first_guest f.halted c.flusher.invariant).each

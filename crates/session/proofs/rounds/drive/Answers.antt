@@ -1,9 +1,10 @@
-use Rattle.std.proofs.Common.{sym, subst}
+use Rattle.std.proofs.Common.{sym, ◌∙◌, subst}
+use Rattle.std.proofs.lemmas.Result.{err_from_is_err_and}
 use Rattle.guest_calls.specs.Guest.{GuestValue, state_of}
 use Rattle.recorder.specs.RecorderCalls.{KeepsMade}
 use Rattle.session.specs.Chosen.{IsLeftWith, MakesChosen}
 use Rattle.session.proofs.Chosen.{makes_kept}
-use Rattle.session.proofs.Driven.{drives_both, drives_more}
+use Rattle.session.proofs.Driven.{call_tells_settled, drives_both, drives_more, work_tells}
 use Rattle.session.proofs.rounds.drive.Goals as goal
 
 pub returns-in_err-settle-clause-drives : goal.returns-in_err-settle-clause-drives
@@ -27,3 +28,11 @@ returns-clause-left g c =
     let kept : KeepsMade c.make_frames.new.recorder c.settle.new.self = c.settle.ensures.keeps in
     subst (λ (v : GuestValue). MakesChosen g.C.Chooser.chooses c.args.recorder.now c.args.chooser.now c.settle.new.self (IsLeftWith g.C.Chooser.chooses c.make_frames.new.chooser (state_of v))) (sym kept.guest)
     (makes_kept g.C.Chooser.chooses _ _ _ _ _ kept c.in_ok-make_frames.ensures.left)
+
+pub returns-in_err-settle-clause-sink : goal.returns-in_err-settle-clause-sink
+returns-in_err-settle-clause-sink g c =
+    let p = err_from_is_err_and c.from_residual-in_err-settle.result c.from_residual-in_err-settle.ensures.1 in
+    rw p.1 (work_tells _ _ _ _ _ (call_tells_settled c.settle.new.self _ _ _ c.in_err-settle.ensures.refused) c.in_ok-make_frames.ensures.sink p.2)
+
+pub returns-clause-sink : goal.returns-clause-sink
+returns-clause-sink g c = c.in_ok-settle.ensures.steady ∙ c.in_ok-make_frames.ensures.sink

@@ -1,6 +1,7 @@
 use Rattle.std.proofs.Common.{sym, ◌∙◌}
+use Rattle.std.proofs.lemmas.Result.{err_from_is_err_and}
 use Rattle.session.proofs.Chosen.{is_over, makes_any, makes_both, makes_kept, makes_over, makes_round, not_over}
-use Rattle.session.proofs.Driven.{drives_both, drives_still}
+use Rattle.session.proofs.Driven.{drives_both, drives_still, held_is_no_sink, memory_is_no_sink, work_steady, work_tells}
 use Rattle.session.proofs.rounds.make_frames.Goals as goal
 
 pub returns-in_err-send_and_release-clause-drives : goal.returns-in_err-send_and_release-clause-drives
@@ -24,6 +25,7 @@ loop-preserved g c = record {
   drives = drives_both g.S.Sink _ _ _ _ _ _ (drives_both g.S.Sink _ _ _ _ _ _ c.loop.invariant.drives c.send_and_release.ensures.drives) (drives_still g.S.Sink _ _ _ c.take_turn.ensures.goes);
   chosen = makes_both g.C.Chooser.chooses _ _ _ _ _ _ (makes_kept g.C.Chooser.chooses _ _ _ _ _ c.send_and_release.ensures.keeps c.loop.invariant.chosen) (makes_round g.C.Chooser.chooses _ _ _ _ _ (λ over. not_over _ (sym c.if-eq.false ∙ c.eq.ensures) over) c.in_ok-turn.ensures.turn);
   few = c.in_ok-held.ensures.few;
+  steady = c.in_ok-send_and_release.ensures.sink ∙ c.loop.invariant.steady;
 }
 
 pub returns-in_err-send_and_release-clause-chosen : goal.returns-in_err-send_and_release-clause-chosen
@@ -40,3 +42,23 @@ returns-then-eq-clause-chosen g c = makes_any g.C.Chooser.chooses _ _ _ _ (makes
 
 pub returns-in_err-held-clause-chosen : goal.returns-in_err-held-clause-chosen
 returns-in_err-held-clause-chosen g c = makes_any g.C.Chooser.chooses _ _ _ _ (makes_both g.C.Chooser.chooses _ _ _ _ _ _ (makes_kept g.C.Chooser.chooses _ _ _ _ _ c.send_and_release.ensures.keeps c.loop.invariant.chosen) c.in_ok-turn.ensures.turn)
+
+pub returns-in_err-send_and_release-clause-sink : goal.returns-in_err-send_and_release-clause-sink
+returns-in_err-send_and_release-clause-sink g c =
+    let p = err_from_is_err_and c.from_residual.result c.from_residual.ensures.1 in
+    rw p.1 (work_tells _ _ _ _ _ c.in_err-send_and_release.ensures.sink c.loop.invariant.steady p.2)
+
+pub returns-in_err-turn-clause-sink : goal.returns-in_err-turn-clause-sink
+returns-in_err-turn-clause-sink g c =
+    let p = err_from_is_err_and c.from_residual-in_err-turn.result c.from_residual-in_err-turn.ensures.1 in
+    let is = p.2 ∙ c.in_err-turn.ensures.memory in
+    rw p.1 (work_steady _ _ _ (λ e. memory_is_no_sink (sym is ∙ e)) (c.in_ok-send_and_release.ensures.sink ∙ c.loop.invariant.steady))
+
+pub returns-in_err-held-clause-sink : goal.returns-in_err-held-clause-sink
+returns-in_err-held-clause-sink g c =
+    let p = err_from_is_err_and c.from_residual-in_err-held.result c.from_residual-in_err-held.ensures.1 in
+    let is = p.2 ∙ c.in_err-held.ensures.refused.0 in
+    rw p.1 (work_steady _ _ _ (λ e. held_is_no_sink (sym is ∙ e)) (c.in_ok-send_and_release.ensures.sink ∙ c.loop.invariant.steady))
+
+pub returns-then-eq-clause-sink : goal.returns-then-eq-clause-sink
+returns-then-eq-clause-sink g c = c.in_ok-send_and_release.ensures.sink ∙ c.loop.invariant.steady

@@ -3,7 +3,7 @@ use Rattle.std.proofs.lemmas.Result.{err_from_is_err_and}
 use Rattle.recorder.specs.declared.fault.RecorderFault.TheVariants as faults
 use Rattle.recorder.specs.RecorderCalls.{RefusesRelease}
 use Rattle.recorder.proofs.Made.{keeps_both, keeps_released}
-use Rattle.session.proofs.Driven.{drives_both, drives_more, drives_still, halted_is}
+use Rattle.session.proofs.Driven.{call_tells_released, call_tells_sent, drives_both, drives_more, drives_still, halted_is}
 use Rattle.session.proofs.rounds.send_and_release.Goals as goal
 
 pub returns-in_err-release-clause-drives : goal.returns-in_err-release-clause-drives
@@ -32,3 +32,11 @@ pub returns-clause-keeps : goal.returns-clause-keeps
 returns-clause-keeps g c =
     let r = c.release.ensures in
     keeps_both _ _ _ c.send-sent.ensures.keeps (keeps_released _ _ _ r.looks r.same r.checkpoints)
+
+pub returns-in_err-release-clause-sink : goal.returns-in_err-release-clause-sink
+returns-in_err-release-clause-sink g c =
+    let p = err_from_is_err_and c.from_residual.result c.from_residual.ensures.1 in
+    rw (p.1, p.2) (call_tells_released _ _ _ c.in_err-release.ensures.refused)
+
+pub returns-clause-sink : goal.returns-clause-sink
+returns-clause-sink g c = call_tells_sent _ _ _ _ c.send-sent.ensures.halted c.in_ok-release.ensures.counted

@@ -1,8 +1,9 @@
-use Rattle.std.proofs.Common.{subst, Option}
+use Rattle.std.proofs.Common.{subst, ◌∙◌, Option}
+use Rattle.std.proofs.lemmas.Result.{err_from_is_err_and}
 use Rattle.rrv_model.specs.declared.record.Choice.{Choice}
 use Rattle.guest_calls.specs.Guest.{GuestValue, state_of}
 use Rattle.serial_sched.specs.Chosen.{Picks}
-use Rattle.session.proofs.Driven.{goes_stepped, goes_unmoved}
+use Rattle.session.proofs.Driven.{goes_stepped, goes_unmoved, step_tells}
 use Rattle.session.proofs.Chosen.{makes_one}
 use Rattle.session.proofs.rounds.take_turn.Goals as goal
 
@@ -15,3 +16,8 @@ returns-clause-goes g c = goes_stepped g.O.Outside.gives _ _ _ _ _ _ c.in_ok-ste
 pub returns-clause-turn : goal.returns-clause-turn
 returns-clause-turn g c = makes_one g.C.Chooser.chooses g.O.Outside.gives _ _ _ _ _ _ _ _ c.in_ok-step.ensures.stepped
     (subst (λ (x : GuestValue × Option Choice). Picks g.C.Chooser.chooses (state_of x.0) c.args.chooser.now x.1 c.choose.new.chooser) (λ i. (c.guest.ensures i, c.in-Some.is i)) c.in_ok-choice.ensures.picks)
+
+pub returns-in_err-step-clause-memory : goal.returns-in_err-step-clause-memory
+returns-in_err-step-clause-memory g c =
+    let p = err_from_is_err_and c.from_residual-in_err-step.result c.from_residual-in_err-step.ensures.1 in
+    rw p.1 (p.2 ∙ step_tells _ _ _ c.in_err-step.ensures.refused)

@@ -1,4 +1,8 @@
-use Rattle.std.proofs.Common.{rules, [], subst}
+use Rattle.std.proofs.Common.{rules, arith, ◌≡◌, [], refl, subst}
+use Rattle.std.specs.Prelude.{slice_get, Some}
+use Rattle.session.specs.declared.fault.SessionFault.TheVariants as faults
+use Rattle.session.specs.declared.report.SessionReport.{SessionReport}
+use Rattle.session.proofs.Told.{bad_told, job_is_no_device, job_is_no_sink, none_is_bad, none_there, other_than_sink, sinks_rest, steady_told}
 use Rattle.session.proofs.Pairs.{none_left}
 use Rattle.session.specs.Openings.{RefusesJobs}
 use Rattle.session.proofs.Refusals.{job_tells}
@@ -23,3 +27,25 @@ returns-in-Err-clause-recorded g c = ([], nothing_ran g.D.Disk g.C.Chooser g.S.S
 
 pub returns-in-Err-clause-refused : goal.returns-in-Err-clause-refused
 returns-in-Err-clause-refused g c = job_tells c.args.log c.args.jobs c.in-Err.fault c.requires.whole (subst (λ l. RefusesJobs l c.in-Err.fault) c.deref.ensures.value c.in-Err.ensures.refused)
+
+pub returns-then-count-clause-sinks : goal.returns-then-count-clause-sinks
+returns-then-count-clause-sinks g c = sinks_rest g.S.Sink _ c.args.jobs.items (other_than_sink faults.TooManyGuests (λ e. omega (arith, e)))
+
+pub returns-then-count-eq0-clause-sinks : goal.returns-then-count-eq0-clause-sinks
+returns-then-count-eq0-clause-sinks g c = sinks_rest g.S.Sink _ c.args.jobs.items tt
+
+pub returns-in-Err-clause-sinks : goal.returns-in-Err-clause-sinks
+returns-in-Err-clause-sinks g c = sinks_rest g.S.Sink _ c.args.jobs.items (job_is_no_sink _ _ c.in-Err.ensures.refused)
+
+pub returns-in-Err-clause-disk : goal.returns-in-Err-clause-disk
+returns-in-Err-clause-disk g c = steady_told SessionReport c.in-Err.fault _ _ (job_is_no_device _ _ c.in-Err.ensures.refused) refl
+
+pub returns-then-count-eq0-clause-bad : goal.returns-then-count-eq0-clause-bad
+returns-then-count-eq0-clause-bad g c guest bad = absurd (none_there guest bad.job (subst (λ l. slice_get l guest ≡ Some bad.job) (none_left c.args.jobs.items (search rules)) bad.is_there))
+
+pub returns-in-Err-clause-bad : goal.returns-in-Err-clause-bad
+returns-in-Err-clause-bad g c guest bad =
+    ((refl, refl), bad_told SessionReport c.args.jobs.items guest c.in-Err.fault (subst (λ l. RefusesJobs l c.in-Err.fault) c.deref.ensures.value c.in-Err.ensures.refused) bad)
+
+pub returns-clause-bad : goal.returns-clause-bad
+returns-clause-bad g c guest bad = absurd (none_is_bad c.args.jobs.items guest (search rules) bad)

@@ -2,6 +2,7 @@ use Rattle.std.proofs.Common.{rules, arith, ◌≡◌, [], ◌++◌, length, sym
 use Rattle.std.specs.Prelude.{slice_get, Option, Some}
 use Rattle.commit_group.specs.Seats.{AllNew, AllOf, GroupId}
 use Rattle.session.specs.declared.fault.SessionFault.{SessionFault}
+use Rattle.session.specs.declared.report.SessionReport.{SessionReport}
 use Rattle.session.specs.Faults.{IsLowest, flusher_met}
 use Rattle.std.specs.List.{AllByRecursion}
 use Rattle.session.specs.Openings.{StartsGuest}
@@ -10,6 +11,8 @@ use Rattle.session.specs.Works.{HasWorked}
 use Rattle.session.proofs.Pairs.{pairs_length}
 use Rattle.session.proofs.Recorded.{all_numbered}
 use Rattle.session.proofs.Refusals.{lowest_tells}
+use Rattle.session.specs.declared.fault.SessionFault.TheVariants as faults
+use Rattle.session.proofs.Told.{device_told, none_meets, other_than_sink, sinks_err, sinks_ok, sinks_rest, steady_where_none}
 use Rattle.session.proofs.Sessions.{AreJoined, flusher_met_none, has_left, has_reported, has_run, nothing_ran}
 use Rattle.session.proofs.Tasks.{all_fresh, all_of, jobs_length, seats_length, worked_length}
 use Rattle.session.proofs.session.record_some.Goals as goal
@@ -158,3 +161,36 @@ returns-clause-whole g c =
     let rest = faults_met c.deref.result.now in
     let none = subst (λ (o : Option SessionFault). IsLowest (flusher_met c.run-done.result.3 ++ rest) o) c.in_default-lowest.is c.lowest_fault-lowest.ensures in
     (flusher_met_none c.run-done.result.3 rest _ none c.run-done.ensures.flushed.whole).0
+
+pub returns-in_default-clause-sinks : goal.returns-in_default-clause-sinks
+returns-in_default-clause-sinks g c = sinks_rest g.S.Sink _ c.args.jobs.items (other_than_sink faults.Memory (λ e. omega (arith, e)))
+
+pub returns-in-Some-clause-disk : goal.returns-in-Some-clause-disk
+returns-in-Some-clause-disk g c =
+    let met = flusher_met c.run-done.result.3 in
+    let lowest = subst (λ l. IsLowest (met ++ faults_met l) (Some c.in-Some.fault)) c.deref.ensures.value (subst (λ (o : Option SessionFault). IsLowest (met ++ faults_met c.deref.result.now) o) c.in-Some.is c.lowest_fault-lowest.ensures) in
+    device_told c.run-done.result.3 (faults_met c.run-done.result.0.items) _ _ c.run-done.ensures.flushed.disk (none_meets g.C.Chooser g.S.Sink c.give.new.tasks.items c.run-done.result.0.items c.run-done.ensures.works) SessionReport c.in-Some.fault lowest
+
+pub returns-clause-disk : goal.returns-clause-disk
+returns-clause-disk g c =
+    let rest = faults_met c.deref.result.now in
+    let none = subst (λ (o : Option SessionFault). IsLowest (flusher_met c.run-done.result.3 ++ rest) o) c.in_default-lowest.is c.lowest_fault-lowest.ensures in
+    steady_where_none c.run-done.result.3 rest _ _ c.run-done.ensures.flushed.disk none
+
+pub returns-in-Some-clause-sinks : goal.returns-in-Some-clause-sinks
+returns-in-Some-clause-sinks g c =
+    let met = flusher_met c.run-done.result.3 in
+    let group = c.in-Ok.room.flusher.group in
+    let lowest = subst (λ l. IsLowest (met ++ faults_met l) (Some c.in-Some.fault)) c.deref.ensures.value (subst (λ (o : Option SessionFault). IsLowest (met ++ faults_met c.deref.result.now) o) c.in-Some.is c.lowest_fault-lowest.ensures) in
+    sinks_err g.C.Chooser g.S.Sink group c.give.new.tasks.items c.run-done.result.0.items (subst (λ l. AllNew group l) (sym c.give.ensures.seats) c.in-Ok.ensures.seats) c.run-done.ensures.works
+    c.run-done.result.3 c.args.jobs.items c.take_back.new.jobs.items c.give.ensures.jobs c.take_back.ensures.jobs c.in-Some.fault lowest _
+
+pub returns-clause-sinks : goal.returns-clause-sinks
+returns-clause-sinks g c =
+    let Z = c.run-done.result.0.items in
+    let met = flusher_met c.run-done.result.3 in
+    let group = c.in-Ok.room.flusher.group in
+    let none : met ++ faults_met Z ≡ [] = ap (λ l. met ++ faults_met l) (sym c.deref.ensures.value)
+    ∙ subst (λ (o : Option SessionFault). IsLowest (met ++ faults_met c.deref.result.now) o) c.in_default-lowest.is c.lowest_fault-lowest.ensures in
+    sinks_ok g.C.Chooser g.S.Sink group c.give.new.tasks.items Z (subst (λ l. AllNew group l) (sym c.give.ensures.seats) c.in-Ok.ensures.seats) c.run-done.ensures.works
+    c.run-done.result.3 c.args.jobs.items c.take_back.new.jobs.items c.give.ensures.jobs c.take_back.ensures.jobs none _ _
