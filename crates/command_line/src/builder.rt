@@ -1,4 +1,7 @@
 //! Commands and their arguments, as the parser of words knows them.
+//!
+//! A command that is built on goes on as a `Result`: so two functions alone have ways out on which commands are dropped, and
+//! each such drop is long to prove.
 
 ghost use Rattle.std.specs.Prelude.{◌≡◌, ◌≤◌, IfOk, false};
 ghost use Rattle.clap.specs.Words.{App, Rule, new_app, rule_of, with_rule, with_subcommand};
@@ -77,26 +80,29 @@ pub(crate) fn several<'a>(alloc: Global, name: &'a str, most: usize, help: &'a s
         .help(help)
 }
 
-/// A command with one argument more.
+/// A command with one argument more, where it could be made.
 pub(crate) fn with_argument<'a>(
-    command: Command<'a>,
+    command: Result<Command<'a>, AllocError>,
     argument: Arg<'a>,
 ) -> Result<Command<'a>, AllocError>
     requires { argument.global ≡ false }
-    ensures { (app : App) (rule : Rule) → IsCommand app command.entry → rule_of argument.entry ≡ rule
+    ensures { (app : App) (rule : Rule) → IfOk command.entry (IsCommand app) → rule_of argument.entry ≡ rule
         → IfOk result (IsCommand (with_rule app rule)) }
 {
+    let command = command?;
     command.arg(argument)
 }
 
-/// A command with one command more below it.
+/// A command with one command more below it, where both could be made.
 pub(crate) fn with_command<'a>(
-    command: Command<'a>,
-    below: Command<'a>,
+    command: Result<Command<'a>, AllocError>,
+    below: Result<Command<'a>, AllocError>,
 ) -> Result<Command<'a>, AllocError>
-    ensures { (app other : App) → IsCommand app command.entry → IsCommand other below.entry
+    ensures { (app other : App) → IfOk command.entry (IsCommand app) → IfOk below.entry (IsCommand other)
         → IfOk result (IsCommand (with_subcommand app other.top)) }
 {
+    let below = below?;
+    let command = command?;
     command.subcommand(below)
 }
 
@@ -116,7 +122,7 @@ pub(crate) fn of_store<'a>(
     ensures { IfOk result (IsCommand (of_store name.now)) }
 {
     let store = needed(alloc, "STORE", "the file of the store");
-    with_argument(named(alloc, name, about), store)
+    with_argument(Ok(named(alloc, name, about)), store)
 }
 
 /// A command of a guest of a store.
@@ -128,7 +134,7 @@ pub(crate) fn of_guest<'a>(
     ensures { IfOk result (IsCommand (of_guest name.now)) }
 {
     let guest = needed(alloc, "GUEST", "the guest's number in the store");
-    with_argument(of_store(alloc, name, about)?, guest)
+    with_argument(of_store(alloc, name, about), guest)
 }
 
 /// A command of a guest of a store, from a place.
@@ -144,15 +150,15 @@ pub(crate) fn of_guest_from<'a>(
         "FROM",
         "the place to go back from, in instructions, or end",
     );
-    with_argument(of_guest(alloc, name, about)?, from)
+    with_argument(of_guest(alloc, name, about), from)
 }
 
 /// A command with the flag that shows how far it is.
 pub(crate) fn with_progress<'a>(
     alloc: Global,
-    command: Command<'a>,
+    command: Result<Command<'a>, AllocError>,
 ) -> Result<Command<'a>, AllocError>
-    ensures { (app : App) → IsCommand app command.entry → IfOk result (IsCommand (with_progress app)) }
+    ensures { (app : App) → IfOk command.entry (IsCommand app) → IfOk result (IsCommand (with_progress app)) }
 {
     let progress = flag(alloc, "progress", "show how far it is, on standard error");
     with_argument(command, progress)
@@ -161,9 +167,9 @@ pub(crate) fn with_progress<'a>(
 /// A command that prints a state, with the memory that is named.
 pub(crate) fn with_memory<'a>(
     alloc: Global,
-    command: Command<'a>,
+    command: Result<Command<'a>, AllocError>,
 ) -> Result<Command<'a>, AllocError>
-    ensures { (app : App) → IsCommand app command.entry → IfOk result (IsCommand (with_memory app)) }
+    ensures { (app : App) → IfOk command.entry (IsCommand app) → IfOk result (IsCommand (with_memory app)) }
 {
     let memory = repeated(
         alloc,
@@ -171,5 +177,5 @@ pub(crate) fn with_memory<'a>(
         "ADDR:LEN",
         "print LEN bytes of memory from ADDR on, up to 65536",
     );
-    with_progress(alloc, with_argument(command, memory)?)
+    with_progress(alloc, with_argument(command, memory))
 }

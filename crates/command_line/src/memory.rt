@@ -9,7 +9,7 @@ ghost use Rattle.command_line.specs.declared.request.MemoryRange.{MemoryRange};
 
 use crate::numbers::{address_in, number_in};
 use crate::request::{MemoryRange, Place};
-use crate::unread::Unread;
+use crate::unread::{Unread, Wanted};
 use crate::values::texts;
 use clap::ArgMatches;
 use std::alloc::Global;
@@ -38,7 +38,13 @@ fn ranges_in<'a>(alloc: Global, texts: &[&'a str]) -> Result<Vec<MemoryRange>, U
     for text in texts {
         match range_in(text) {
             Some(range) => ranges.push(range)?,
-            None => return Err(Unread::BadMemory { text }),
+            None => {
+                return Err(Unread::Bad {
+                    name: "memory",
+                    text,
+                    wanted: Wanted::Range,
+                });
+            }
         }
     }
     Ok(ranges)

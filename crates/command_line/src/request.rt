@@ -3,7 +3,7 @@
 use std::alloc::Global;
 
 /// What a line asks for.
-#[derive(Debug, Drop, PartialEq)]
+#[derive(Drop)]
 pub enum Request<'a> {
     /// No word: the program records a small guest of its own.
     Demonstration,
@@ -113,7 +113,7 @@ pub struct GuestOf<'a> {
 }
 
 /// What is to be recorded, and how.
-#[derive(Debug, Drop, PartialEq)]
+#[derive(Drop)]
 pub struct Recording<'a> {
     pub store: &'a str,
     /// The files of the programs, 1 to 16 of them.

@@ -3,49 +3,28 @@
 ghost use Rattle.std.specs.Prelude.{◌≡◌};
 
 use std::alloc::{AllocError, AllocFailed};
+use std::fmt;
+use std::fmt::{Display, Formatter};
 use thiserror::Error;
 
 /// Why the values of a command are not read.
-#[derive(Clone, Copy, Debug, PartialEq, Eq, Error)]
+#[derive(Clone, Copy, Debug, Error)]
 pub(crate) enum Unread<'a> {
     /// The argument has no value.
     #[error("no value for '{name}'")]
     Missing {
         name: &'a str,
     },
-    /// The argument has this text, which is no number within its bounds.
-    #[error("invalid value '{text}' for '{name}': not a number from {least} to {most}")]
-    BadNumber {
+    /// The argument has this text, which is not what is wanted.
+    #[error("invalid value '{text}' for '{name}': not {wanted}")]
+    Bad {
         name: &'a str,
         text: &'a str,
-        least: u64,
-        most: u64,
-    },
-    /// The argument has this text, which is no address.
-    #[error("invalid value '{text}' for '{name}': not 1 to 8 hexadecimal digits")]
-    BadAddress {
-        name: &'a str,
-        text: &'a str,
-    },
-    /// The argument has this text, which is no place.
-    #[error("invalid value '{text}' for '{name}': not a place: a number of instructions, or end")]
-    BadPlace {
-        name: &'a str,
-        text: &'a str,
-    },
-    /// `--memory` has this text, which names no bytes.
-    #[error("invalid value '{text}' for 'memory': not ADDR:LEN, with 1 to 8 hexadecimal digits and a length from 1 to 65536")]
-    BadMemory {
-        text: &'a str,
+        wanted: Wanted,
     },
     /// `--memory` is given, and no place of which it is to be printed.
     #[error("--memory needs --at")]
     MemoryAlone,
-    /// `--then` has this text, which is none of the two that it can have.
-    #[error("invalid value '{text}' for 'then': not turns or none")]
-    BadThen {
-        text: &'a str,
-    },
     /// So many files of choices are given for so many programs.
     #[error("--choices is given {count} times for {programs} programs: give it once, or once for each")]
     BadChoices {
@@ -58,6 +37,35 @@ pub(crate) enum Unread<'a> {
     /// A growth was refused.
     #[error("out of memory")]
     Memory,
+}
+
+/// What the text of an argument has to be.
+#[derive(Clone, Copy, Debug)]
+pub(crate) enum Wanted {
+    /// A number within these bounds.
+    Number { least: u64, most: u64 },
+    /// An address.
+    Address,
+    /// A place.
+    Place,
+    /// The bytes of memory that are to be printed.
+    Range,
+    /// One of the two that `--then` can have.
+    Then,
+}
+
+impl Display for Wanted {
+    fn fmt<W: fmt::Write>(&self, f: &mut Formatter<W>) -> fmt::Result {
+        match *self {
+            Wanted::Number { least, most } => write!(f, "a number from {least} to {most}"),
+            Wanted::Address => f.write_str("1 to 8 hexadecimal digits"),
+            Wanted::Place => f.write_str("a place: a number of instructions, or end"),
+            Wanted::Range => f.write_str(
+                "ADDR:LEN, with 1 to 8 hexadecimal digits and a length from 1 to 65536",
+            ),
+            Wanted::Then => f.write_str("turns or none"),
+        }
+    }
 }
 
 impl From<AllocError> for Unread<'_> {

@@ -10,7 +10,7 @@ ghost use Rattle.command_line.specs.declared.request.Then.{Then};
 
 use crate::numbers::{address_in, number_in, place_in};
 use crate::request::{GuestOf, Place, Then};
-use crate::unread::Unread;
+use crate::unread::{Unread, Wanted};
 use clap::ArgMatches;
 
 /// The text of an option, where it is there.
@@ -63,11 +63,10 @@ pub(crate) fn number<'a>(
     let text = text(values, name)?;
     match number_in(text, least, most) {
         Some(number) => Ok(number),
-        None => Err(Unread::BadNumber {
+        None => Err(Unread::Bad {
             name,
             text,
-            least,
-            most,
+            wanted: Wanted::Number { least, most },
         }),
     }
 }
@@ -81,7 +80,11 @@ pub(crate) fn place<'a>(values: &ArgMatches<'a>, name: &'a str) -> Result<Place,
     let text = text(values, name)?;
     match place_in(text) {
         Some(place) => Ok(place),
-        None => Err(Unread::BadPlace { name, text }),
+        None => Err(Unread::Bad {
+            name,
+            text,
+            wanted: Wanted::Place,
+        }),
     }
 }
 
@@ -109,7 +112,11 @@ pub(crate) fn address<'a>(values: &ArgMatches<'a>, name: &'a str) -> Result<u32,
     let text = text(values, name)?;
     match address_in(text) {
         Some(address) => Ok(address),
-        None => Err(Unread::BadAddress { name, text }),
+        None => Err(Unread::Bad {
+            name,
+            text,
+            wanted: Wanted::Address,
+        }),
     }
 }
 
@@ -123,7 +130,11 @@ pub(crate) fn then<'a>(values: &ArgMatches<'a>) -> Result<Then, Unread<'a>>
     match text {
         "turns" => Ok(Then::Turns),
         "none" => Ok(Then::Nothing),
-        _ => Err(Unread::BadThen { text }),
+        _ => Err(Unread::Bad {
+            name: "then",
+            text,
+            wanted: Wanted::Then,
+        }),
     }
 }
 

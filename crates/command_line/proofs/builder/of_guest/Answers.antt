@@ -4,4 +4,4 @@ use Rattle.command_line.proofs.builder.of_guest.Goals as goal
 
 pub returns : goal.returns
 returns c =
-    c.with_argument.ensures (of_store c.args.name.now) (needed (codes "GUEST")) c.in_ok-of_store.ensures c.needed-guest.ensures.rule
+    c.with_argument.ensures (of_store c.args.name.now) (needed (codes "GUEST")) c.of_store.ensures c.needed-guest.ensures.rule

@@ -4,4 +4,4 @@ use Rattle.command_line.proofs.builder.of_guest_from.Goals as goal
 
 pub returns : goal.returns
 returns c =
-    c.with_argument.ensures (of_guest c.args.name.now) (needed (codes "FROM")) c.in_ok-of_guest.ensures c.needed-from.ensures.rule
+    c.with_argument.ensures (of_guest c.args.name.now) (needed (codes "FROM")) c.of_guest.ensures c.needed-from.ensures.rule

@@ -6,4 +6,4 @@ use Rattle.command_line.proofs.builder.with_memory.Goals as goal
 pub returns : goal.returns
 returns c = λ app is.
     let memory = repeated (codes "memory") in
-    c.with_progress.ensures (with_rule app memory) (c.in_ok-with_argument.ensures app memory is c.repeated-memory.ensures.rule)
+    c.with_progress.ensures (with_rule app memory) (c.with_argument.ensures app memory is c.repeated-memory.ensures.rule)

@@ -5,6 +5,6 @@ use Rattle.command_line.proofs.commands.back.Goals as goal
 
 pub returns : goal.returns
 returns c =
-    let base = of_guest_from (codes "back") in
-    let rule = needed (codes "N") in
-    c.with_memory.ensures (with_rule base rule) (c.in_ok-with_argument.ensures base rule c.in_ok-command.ensures c.needed-count.ensures.rule)
+    let bare = of_guest_from (codes "back") in
+    let count = needed (codes "N") in
+    c.with_memory.ensures (with_rule bare count) (c.with_argument.ensures bare count c.of_guest_from-command.ensures c.needed-count.ensures.rule)

@@ -3,4 +3,4 @@ use Rattle.command_line.specs.Commands.{of_guest}
 use Rattle.command_line.proofs.commands.choices.Goals as goal
 
 pub returns : goal.returns
-returns c = c.with_progress.ensures (of_guest (codes "choices")) c.in_ok-command.ensures
+returns c = c.with_progress.ensures (of_guest (codes "choices")) c.of_guest-command.ensures

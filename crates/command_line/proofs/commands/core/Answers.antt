@@ -5,8 +5,9 @@ use Rattle.command_line.proofs.commands.core.Goals as goal
 
 pub returns : goal.returns
 returns c =
-    let place = needed (codes "AT") in
-    let before = c.in_ok-command-2.ensures (of_guest (codes "core")) place c.in_ok-command.ensures c.needed-at.ensures.rule in
-    let app = with_rule (of_guest (codes "core")) place in
+    let bare = of_guest (codes "core") in
+    let at = needed (codes "AT") in
     let file = needed (codes "FILE") in
-    c.with_progress.ensures (with_rule app file) (c.in_ok-with_argument.ensures app file before c.needed-file.ensures.rule)
+    let with_at = c.with_argument.ensures bare at c.of_guest-command.ensures c.needed-at.ensures.rule in
+    let with_file = c.with_argument-2.ensures (with_rule bare at) file with_at c.needed-file.ensures.rule in
+    c.with_progress.ensures (with_rule (with_rule bare at) file) with_file

@@ -5,6 +5,7 @@ use Rattle.command_line.proofs.commands.dump.Goals as goal
 
 pub returns : goal.returns
 returns c =
+    let bare = of_guest (codes "dump") in
     let places = flag (codes "places") in
-    let before = c.in_ok-command-2.ensures (of_guest (codes "dump")) places c.in_ok-command.ensures c.flag-places.ensures.rule in
-    c.with_argument-2.ensures (with_rule (of_guest (codes "dump")) places) (flag (codes "trace-events")) before c.flag-events.ensures.rule
+    let with_places = c.with_argument.ensures bare places c.of_guest-command.ensures c.flag-places.ensures.rule in
+    c.with_argument-2.ensures (with_rule bare places) (flag (codes "trace-events")) with_places c.flag-events.ensures.rule

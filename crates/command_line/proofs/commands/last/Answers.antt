@@ -5,6 +5,6 @@ use Rattle.command_line.proofs.commands.last.Goals as goal
 
 pub returns : goal.returns
 returns c =
-    let base = of_guest_from (codes "last") in
-    let rule = needed (codes "ADDR") in
-    c.with_memory.ensures (with_rule base rule) (c.in_ok-with_argument.ensures base rule c.in_ok-command.ensures c.needed-address.ensures.rule)
+    let bare = of_guest_from (codes "last") in
+    let address = needed (codes "ADDR") in
+    c.with_memory.ensures (with_rule bare address) (c.with_argument.ensures bare address c.of_guest_from-command.ensures c.needed-address.ensures.rule)

@@ -4,5 +4,5 @@ use Rattle.command_line.proofs.commands.record.Goals as goal
 
 pub returns : goal.returns
 returns c =
-    let before = c.in_ok-command.ensures record_choices c.in_ok-record_choices.ensures in
+    let before = c.with_progress.ensures record_choices c.record_choices.ensures in
     c.with_argument.ensures (with_progress record_choices) (several 1 16 (codes "ELF")) before c.several-files.ensures.rule

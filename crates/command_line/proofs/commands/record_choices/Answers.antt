@@ -5,6 +5,6 @@ use Rattle.command_line.proofs.commands.record_choices.Goals as goal
 
 pub returns : goal.returns
 returns c =
-    let before2 = c.in_ok-command-2.ensures record_inputs (repeated (codes "choices")) c.in_ok-command.ensures c.repeated-choices.ensures.rule in
-    let app2 = with_rule record_inputs (repeated (codes "choices")) in
-    c.with_argument-2.ensures app2 (option_or (codes "then") (codes "turns")) before2 c.option_or-then.ensures.rule
+    let choices = repeated (codes "choices") in
+    let with_choices = c.with_argument.ensures record_inputs choices c.record_inputs.ensures c.repeated-choices.ensures.rule in
+    c.with_argument-2.ensures (with_rule record_inputs choices) (option_or (codes "then") (codes "turns")) with_choices c.option_or-then.ensures.rule

@@ -5,6 +5,6 @@ use Rattle.command_line.proofs.commands.record_inputs.Goals as goal
 
 pub returns : goal.returns
 returns c =
-    let before2 = c.in_ok-command-2.ensures record_numbers (option (codes "input")) c.in_ok-command.ensures c.option-input.ensures.rule in
-    let app2 = with_rule record_numbers (option (codes "input")) in
-    c.with_argument-2.ensures app2 (option (codes "seed")) before2 c.option-seed.ensures.rule
+    let input = option (codes "input") in
+    let with_input = c.with_argument.ensures record_numbers input c.record_numbers.ensures c.option-input.ensures.rule in
+    c.with_argument-2.ensures (with_rule record_numbers input) (option (codes "seed")) with_input c.option-seed.ensures.rule

@@ -5,6 +5,6 @@ use Rattle.command_line.proofs.commands.replay.Goals as goal
 
 pub returns : goal.returns
 returns c =
-    let base = of_guest (codes "replay") in
-    let rule = option (codes "at") in
-    c.with_memory.ensures (with_rule base rule) (c.in_ok-with_argument.ensures base rule c.in_ok-command.ensures c.option-at.ensures.rule)
+    let bare = of_guest (codes "replay") in
+    let at = option (codes "at") in
+    c.with_memory.ensures (with_rule bare at) (c.with_argument.ensures bare at c.of_guest-command.ensures c.option-at.ensures.rule)

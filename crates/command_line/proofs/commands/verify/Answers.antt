@@ -5,6 +5,6 @@ use Rattle.command_line.proofs.commands.verify.Goals as goal
 
 pub returns : goal.returns
 returns c =
+    let bare = of_guest (codes "verify") in
     let long = flag (codes "long") in
-    let before = c.in_ok-with_argument.ensures (of_guest (codes "verify")) long c.in_ok-command.ensures c.flag-long.ensures.rule in
-    c.with_progress.ensures (with_rule (of_guest (codes "verify")) long) before
+    c.with_progress.ensures (with_rule bare long) (c.with_argument.ensures bare long c.of_guest-command.ensures c.flag-long.ensures.rule)
