@@ -6,7 +6,8 @@ ghost use Rattle.checkpoint.specs.Applies.{apply_told};
 use guest_calls::SetRestFault;
 use thiserror::Error;
 
-/// Why parts are not put onto a state: the first in this order.
+/// Why parts are not put onto a state: the first in this order. The guest is as before after `BadPart` alone; after the
+/// others it is fit only to be dropped.
 #[derive(Clone, Copy, Debug, PartialEq, Eq, Error)]
 pub enum ApplyFault {
     /// They describe no state, the limit on its pages aside.
