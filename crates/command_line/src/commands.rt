@@ -173,15 +173,13 @@ fn core<'a>(alloc: Global) -> Result<Command<'a>, AllocError>
 fn bare_program<'a>(alloc: Global) -> Result<Command<'a>, AllocError>
     ensures { IfOk result (IsCommand bare_program) }
 {
-    Ok(
-        Command::new(alloc, "rrv")
-            .bin_name("rrv")?
-            .version(VERSION)
-            .about("records RISC-V programs and replays them exactly")
-            .no_binary_name(true)
-            .subcommand_required(true)
-            .disable_help_subcommand(true),
-    )
+    Command::new(alloc, "rrv")
+        .version(VERSION)
+        .about("records RISC-V programs and replays them exactly")
+        .no_binary_name(true)
+        .subcommand_required(true)
+        .disable_help_subcommand(true)
+        .bin_name("rrv")
 }
 
 /// The program with its commands, which the parser reads words by.
