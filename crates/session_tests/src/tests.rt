@@ -5,11 +5,17 @@ use std::process::Abort;
 
 mod at_once;
 mod checkpoints;
+mod fail_sink;
 mod failing;
+mod four;
 mod gates;
 mod jobs;
 mod many;
+mod memory;
+mod programs;
+mod recorders;
 mod refused;
+mod stops;
 mod store;
 mod whole;
 

@@ -1,10 +1,11 @@
 //! Where checkpoints stand among the records of a guest.
 
+use super::programs::{HELLO, SPIN};
 use super::same;
-use super::store::Store;
+use super::store::{Kind, Store, kind_of};
 use recorder::MemSink;
 use replayer::verify;
-use rrv_model::record::{Choice, End, Item, Record};
+use rrv_model::record::Choice;
 use serial_sched::Listed;
 use session::{Job, OpenGate, record_all};
 use std::alloc::Global;
@@ -17,44 +18,6 @@ use test_guests::files::{EXIT_FIVE, file_of};
 use test_guests::outsides::Nothing;
 use trace_disk::{Disk, MemDisk};
 use trace_log::Log;
-
-/// A program that jumps to itself: `j .`.
-const JUMP: [u32; 1] = [0x0000_006F];
-
-/// A program that stores `hi` and a newline below the stack pointer, writes these three bytes, and exits with 0.
-const HELLO: [u32; 11] = [
-    0xFF01_0593,
-    0x000A_7537,
-    0x9685_0513,
-    0x00A5_A023,
-    0x0010_0513,
-    0x0030_0613,
-    0x0400_0893,
-    0x0000_0073,
-    0x0000_0513,
-    0x05D0_0893,
-    0x0000_0073,
-];
-
-/// What a record is: its kind, and how many instructions or pages it has.
-fn kind_of(record: &Record) -> (&'static str, usize) {
-    match &record.item {
-        Item::Opening(_) => ("opening", 0),
-        Item::Frame(frame) => match frame.end {
-            End::Preempt => ("preempt", frame.count as usize),
-            _ => ("end", frame.count as usize),
-        },
-        Item::Part(part) => {
-            let pages = part.pages.as_slice().len();
-            let kind = if part.rest.is_some() {
-                "last part"
-            } else {
-                "part"
-            };
-            (kind, pages)
-        }
-    }
-}
 
 /// The store of a program by so many choices of 64 instructions, with checkpoints so far apart.
 fn stored<R: Abort + AllocGlobal + Threads + Wait + Sync>(
@@ -91,7 +54,7 @@ fn recorded<R: Abort + AllocGlobal + Threads + Wait + Sync>(
     program: &[u32],
     choices: usize,
     every: u32,
-) -> Result<Vec<(&'static str, usize)>, Fail> {
+) -> Result<Vec<Kind>, Fail> {
     let alloc = rt.alloc();
     let disk = stored(rt, program, choices, every)?;
     let records = Store::of(alloc, disk)?.records(alloc, 0)?;
@@ -125,9 +88,9 @@ fn times_in(alloc: Global, disk: &mut MemDisk, text: &str) -> Result<u32, Fail> 
 
 #[test]
 fn a_checkpoint_follows_each_second_frame(rt: HostRuntime) -> Result<(), Fail> {
-    let kinds = recorded(&rt, &JUMP, 4, 128)?;
-    let want: &[(&str, usize)] = &[
-        ("opening", 0),
+    let kinds = recorded(&rt, &SPIN, 4, 128)?;
+    let want: &[Kind] = &[
+        ("opening", 88),
         ("preempt", 64),
         ("preempt", 64),
         ("last part", 0),
@@ -142,7 +105,7 @@ fn a_checkpoint_follows_each_second_frame(rt: HostRuntime) -> Result<(), Fail> {
 #[test]
 fn no_checkpoint_follows_the_end(rt: HostRuntime) -> Result<(), Fail> {
     let kinds = recorded(&rt, &EXIT_FIVE, 1, 1)?;
-    let want: &[(&str, usize)] = &[("opening", 0), ("end", 3)];
+    let want: &[Kind] = &[("opening", 96), ("end", 3)];
     same(&rt, &"kinds", kinds.as_slice(), want);
     Ok(())
 }
@@ -154,7 +117,7 @@ fn a_part_has_the_lines_that_changed(rt: HostRuntime) -> Result<(), Fail> {
     let rows: &[(&str, &[u32], usize, u32, &str)] = &[
         (
             "no page of 158 bytes",
-            &JUMP,
+            &SPIN,
             4,
             128,
             "00000000 03000000 05 9e000000 01 00000000",

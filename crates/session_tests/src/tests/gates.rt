@@ -32,6 +32,27 @@ impl Gate for Behind {
     }
 }
 
+/// Lets one guest never step.
+#[derive(Clone, Copy, Debug, Drop)]
+pub(super) struct Holding {
+    held: u32,
+}
+
+impl Holding {
+    /// It holds this guest.
+    pub(super) fn guest(held: u32) -> Holding {
+        Holding { held }
+    }
+}
+
+impl Gate for Holding {
+    fn may_step(&self, guest: u32) -> bool {
+        guest != self.held
+    }
+
+    fn submitted(&self, _guest: u32, _frames: u32) {}
+}
+
 /// How often a guest looks for the other before it gives up.
 const LOOKS: u32 = 1_000_000_000;
 

@@ -4,11 +4,34 @@ use recorder::MemSink;
 use recover::{Lists, open};
 use replayer::{read_guest, verify};
 use rrv_model::machine::GuestEnd;
-use rrv_model::record::Record;
+use rrv_model::record::{End, Item, Record};
 use std::alloc::Global;
 use std::sync::Wait;
 use std::test::Fail;
 use trace_disk::{Disk, MemDisk};
+
+/// What a record is: its kind, and how many bytes of a file, instructions or pages it has.
+pub(super) type Kind = (&'static str, usize);
+
+/// What a record is.
+pub(super) fn kind_of(record: &Record) -> Kind {
+    match &record.item {
+        Item::Opening(opening) => ("opening", opening.elf.as_slice().len()),
+        Item::Frame(frame) => match frame.end {
+            End::Preempt => ("preempt", frame.count as usize),
+            _ => ("end", frame.count as usize),
+        },
+        Item::Part(part) => {
+            let pages = part.pages.as_slice().len();
+            let kind = if part.rest.is_some() {
+                "last part"
+            } else {
+                "part"
+            };
+            (kind, pages)
+        }
+    }
+}
 
 /// What a store has of a guest, as it is replayed.
 #[derive(Drop)]
