@@ -1,5 +1,6 @@
 -- What the calls of a guest's recorder do.
 use Rattle.std.specs.Prelude.{◌≡◌, ◌≢◌, ℕ, ◌+◌, ◌<◌, ◌≤◌, true, IsSome, IfErr, Result, List, [], ◌∷◌, ◌++◌, length, map, Option, None}
+use Rattle.elf_load.specs.Refusals.{IsPastRefusal}
 use Rattle.rrv_model.specs.declared.limits.TheConstants.{MAX_NUMBER}
 use Rattle.rrv_model.specs.declared.record.Choice.{Choice}
 use Rattle.rrv_model.specs.declared.record.End.{End}
@@ -15,7 +16,7 @@ use Rattle.recorder.specs.declared.checkpoints.Parts.TheVariants as outcomes
 use Rattle.recorder.specs.Checkpoints.{IsDue}
 use Rattle.rrv_model.specs.declared.record.Opening.{Opening}
 use Rattle.rrv_model.specs.Failures.{HasFailed}
-use Rattle.rrv_model.specs.Opening.{Opens}
+use Rattle.rrv_model.specs.Opening.{IsName, Opens}
 use Rattle.rrv_model.specs.Output.{Chunk, FramePuts, call_in, spread}
 use Rattle.rrv_model.specs.Standing.{StandsBehind}
 use Rattle.rrv_model.specs.Recording.{frame_record, items_of}
@@ -36,10 +37,10 @@ use Rattle.recorder.specs.Recorders.{GuestRecorder, HasPut, made, records_from}
 
 -- ---- new
 
--- why there is no recorder: no guest starts so, or there was no memory
+-- why there is no recorder: no guest starts so, or there was no memory; a bad name takes none
 abbrev pub RefusesOpening : Opening → RecorderFault → Type 0
 RefusesOpening o faults.BadOpening = (s : State) → ¬ Opens o.elf o.name o.random s
-RefusesOpening o faults.Memory = Unit {0}
+RefusesOpening o faults.Memory = IsName o.name × IsPastRefusal 12 o.elf
 RefusesOpening o _ = ⊥
 
 -- ---- step
