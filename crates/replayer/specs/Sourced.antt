@@ -37,6 +37,14 @@ abbrev pub ends_withheld : {T : Type 0} → Result T VerifyFault → Bool
 ends_withheld (Ok x) = false
 ends_withheld (Err e) = is_unreadable e
 
+-- a record that is named as unreadable is one that the source has withheld
+abbrev pub NamesWithheld : {S : Type 0} → (S → ℕ → Type 0) → S → VerifyFault → Type 0
+NamesWithheld withheld_at source (faults.Unreadable index) = withheld_at source index
+NamesWithheld withheld_at source (faults.Mismatch index) = Unit {0}
+NamesWithheld withheld_at source (faults.BadCheckpoint index) = Unit {0}
+NamesWithheld withheld_at source faults.BadOpening = Unit {0}
+NamesWithheld withheld_at source faults.Memory = Unit {0}
+
 -- it is the end of just these records, which are a recording
 pub record IsEndOf (end : VerifiedEnd) (records : List Record) : Type 0 where
   pub recording : IsRecording records

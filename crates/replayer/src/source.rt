@@ -1,9 +1,9 @@
 //! Where the records of a guest come from, one at a time.
 
-ghost use Rattle.std.specs.Prelude.{◌≡◌, ◌⊎◌, ◌<◌, ◌↔◌, ◌||◌, Bool, IfErr, IfOk, List, Some, length, slice_get};
+ghost use Rattle.std.specs.Prelude.{◌≡◌, ◌⊎◌, ◌<◌, ◌↔◌, ◌||◌, ℕ, Bool, IfErr, IfOk, List, Some, ⊤, length, slice_get, true};
 ghost use Rattle.rrv_model.specs.declared.record.Record.{Record};
 ghost use Rattle.replayer.specs.declared.fault.VerifyFault.TheVariants as verify_faults;
-ghost use Rattle.replayer.specs.Sourced.{ends_withheld, withholds};
+ghost use Rattle.replayer.specs.Sourced.{NamesWithheld, ends_withheld, withholds};
 
 use crate::fault::{SourceFault, VerifyFault};
 use rrv_model::record::Record;
@@ -20,6 +20,9 @@ pub trait Source {
     /// Whether it has withheld a record: one that was asked for was not given, though there was memory.
     ghost withheld: { Self → Bool };
 
+    /// That it has withheld the record at this place. A source that doesn't keep the place says nothing.
+    ghost withheld_at: { Self → ℕ → Type 0 } = { λ _ _. ⊤ };
+
     /// How many records there are.
     fn len(&self) -> usize
         ensures { result ≡ length (records self.now) };
@@ -30,7 +33,8 @@ pub trait Source {
         ensures record { honest self.old → IfOk result (λ r. slice_get (records self.old) index ≡ Some r) }
         ensures records { records self.new ≡ records self.old }
         ensures honest { honest self.new ↔ honest self.old }
-        ensures withheld { withheld self.new ≡ (withholds result || withheld self.old) };
+        ensures withheld { withheld self.new ≡ (withholds result || withheld self.old) }
+        ensures place { withholds result ≡ true → withheld_at self.new index };
 }
 
 /// The record at a place of a source.
@@ -45,6 +49,7 @@ pub(crate) fn given<S: Source>(
     ensures records { S.records source.new ≡ S.records source.old }
     ensures honest { S.honest source.new ↔ S.honest source.old }
     ensures withheld { S.withheld source.new ≡ (ends_withheld result || S.withheld source.old) }
+    ensures names { IfErr result (NamesWithheld S.withheld_at source.new) }
 {
     match source.item(alloc, index) {
         Ok(entry) => Ok(entry),

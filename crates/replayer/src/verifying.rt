@@ -4,7 +4,7 @@ ghost use Rattle.std.specs.Prelude.{◌≡◌, ◌<◌, ◌≤◌, ◌^◌, ◌*
 ghost use Rattle.rrv_model.specs.declared.record.Record.{Record};
 ghost use Rattle.guest_calls.specs.Guest.{state_of};
 ghost use Rattle.replayer.specs.declared.fault.VerifyFault.TheVariants as faults;
-ghost use Rattle.replayer.specs.Sourced.{Followed, FollowsAll, FollowsGiven, IsEndOf, RefusesGiven, RefusesSource, ends_withheld};
+ghost use Rattle.replayer.specs.Sourced.{Followed, FollowsAll, FollowsGiven, IsEndOf, NamesWithheld, RefusesGiven, RefusesSource, ends_withheld};
 ghost use Rattle.replayer.specs.Refusals.{RefusesVerify, TakesMemory};
 ghost use Rattle.replayer.specs.Verified.{Keeps};
 
@@ -79,13 +79,14 @@ fn kept_of(first: &Record, walk: Walk, len: usize) -> Result<Verified, VerifyFau
     Ok(Verified { track, len })
 }
 
-/// Verifies the records that a source gives, one at a time. The refusals are those of the list, and `Unreadable` names a
+/// Verifies the records that a source gives, one at a time. The refusals are those of the list, and `Unreadable` names the
 /// record that the source withheld: with every record given it answers what [`verify`] does, or `Memory`. What is kept
 /// are the opening, the frames and the checkpoints.
 pub fn verify_source<S: Source>(alloc: Global, source: &mut S) -> Result<Verified, VerifyFault>
     ensures keeps { S.honest source.old → IfOk result (λ verified. Keeps verified (S.records source.old)) }
     ensures refused { S.honest source.old → IfErr result (λ e. RefusesSource e (S.records source.old)) }
     ensures withheld { S.withheld source.new ≡ (ends_withheld result || S.withheld source.old) }
+    ensures names { IfErr result (NamesWithheld S.withheld_at source.new) }
     ensures len { IfOk result (λ verified. verified.len ≡ length (S.records source.old)) }
 {
     verify_source_watched(alloc, source, &mut Unwatched)
@@ -100,6 +101,7 @@ pub fn verify_source_watched<S: Source, W: Watch>(
     ensures keeps { S.honest source.old → IfOk result (λ verified. Keeps verified (S.records source.old)) }
     ensures refused { S.honest source.old → IfErr result (λ e. RefusesSource e (S.records source.old)) }
     ensures withheld { S.withheld source.new ≡ (ends_withheld result || S.withheld source.old) }
+    ensures names { IfErr result (NamesWithheld S.withheld_at source.new) }
     ensures len { IfOk result (λ verified. verified.len ≡ length (S.records source.old)) }
 {
     let len = source.len();
@@ -121,6 +123,7 @@ pub fn verify_source_end<S: Source, W: Watch>(
     ensures ends { S.honest source.old → IfOk result (λ end. IsEndOf end (S.records source.old)) }
     ensures refused { S.honest source.old → IfErr result (λ e. RefusesSource e (S.records source.old)) }
     ensures withheld { S.withheld source.new ≡ (ends_withheld result || S.withheld source.old) }
+    ensures names { IfErr result (NamesWithheld S.withheld_at source.new) }
     ensures len { IfOk result (λ end. end.len ≡ length (S.records source.old)) }
 {
     let len = source.len();
@@ -158,6 +161,7 @@ fn follow_source<S: Source, W: Watch>(
         → IfErr result (λ e. RefusesSource e (S.records source.old)) }
     ensures records { S.records source.new ≡ S.records source.old }
     ensures withheld { S.withheld source.new ≡ (ends_withheld result || S.withheld source.old) }
+    ensures names { IfErr result (NamesWithheld S.withheld_at source.new) }
 {
     let len = source.len();
     let mut walk = open_first(alloc, first, keeps)?;
@@ -185,6 +189,7 @@ fn follow_given<S: Source>(
     ensures records { S.records source.new ≡ S.records source.old }
     ensures honest { S.honest source.new ↔ S.honest source.old }
     ensures withheld { S.withheld source.new ≡ (ends_withheld result || S.withheld source.old) }
+    ensures names { IfErr result (NamesWithheld S.withheld_at source.new) }
 {
     let entry = given(alloc, source, index)?;
     follow_record(alloc, walk, number, index, &entry)
