@@ -1,6 +1,6 @@
 //! Guests that are recorded to a disk in memory, and found there again.
 
-ghost use Rattle.std.specs.Prelude.{⊤, ◌≡◌, false};
+ghost use Rattle.std.specs.Prelude.{⊤, ◌≡◌, Some, false, is_some};
 ghost use Rattle.rrv_model.specs.declared.record.Record.{Record};
 
 use super::kit::same;
@@ -120,7 +120,8 @@ struct Given<'a> {
     records: &'a [Record],
     fails: usize,
     fault: SourceFault,
-    withheld: bool,
+    /// The place of the record that was asked for and not given, though there was memory.
+    withheld: Option<usize>,
 }
 
 impl Source for Given<'_> {
@@ -128,7 +129,9 @@ impl Source for Given<'_> {
 
     ghost records = { λ s. s.records.now };
 
-    ghost withheld = { λ s. s.withheld };
+    ghost withheld = { λ s. is_some s.withheld };
+
+    ghost withheld_at = { λ s index. s.withheld ≡ Some index };
 
     fn len(&self) -> usize {
         self.records.len()
@@ -139,11 +142,11 @@ impl Source for Given<'_> {
             return match self.fault {
                 SourceFault::Memory => Err(SourceFault::Memory),
                 SourceFault::DeviceFailed => {
-                    self.withheld = true;
+                    self.withheld = Some(index);
                     Err(SourceFault::DeviceFailed)
                 }
                 SourceFault::Damaged => {
-                    self.withheld = true;
+                    self.withheld = Some(index);
                     Err(SourceFault::Damaged)
                 }
             };
@@ -155,21 +158,22 @@ impl Source for Given<'_> {
     }
 }
 
-/// How many records are verified of a source that gives these, but for the one at a place; or why they are none.
+/// How many records are verified of a source that gives these, but for the one at a place; or why they are none. And the place of
+/// the one that was withheld.
 fn verified_of(
     alloc: Global,
     records: &[Record],
     fails: usize,
     fault: SourceFault,
-) -> Result<usize, VerifyFault> {
+) -> (Result<usize, VerifyFault>, Option<usize>) {
     let mut source = Given {
         records,
         fails,
         fault,
-        withheld: false,
+        withheld: None,
     };
-    let verified = verify_source(alloc, &mut source)?;
-    Ok(verified.len())
+    let len = verify_source(alloc, &mut source).map(|verified| verified.len());
+    (len, source.withheld)
 }
 
 #[test]
@@ -180,30 +184,38 @@ fn a_record_that_is_not_given_is_named(rt: HostRuntime) -> Result<(), Fail> {
     let (log, lists) = open(alloc, log.close()).ok().ok_or("not opened")?;
     let records = read_guest(alloc, &lists, &mut log.close(), 0)?;
     let rows = [
-        (2, SourceFault::Damaged, Ok(2)),
+        (2, SourceFault::Damaged, Ok(2), None),
         (
             0,
             SourceFault::Damaged,
             Err(VerifyFault::Unreadable { index: 0 }),
+            Some(0),
         ),
         (
             1,
             SourceFault::Damaged,
             Err(VerifyFault::Unreadable { index: 1 }),
+            Some(1),
         ),
         (
             1,
             SourceFault::DeviceFailed,
             Err(VerifyFault::Unreadable { index: 1 }),
+            Some(1),
         ),
-        (0, SourceFault::Memory, Err(VerifyFault::Memory)),
-        (1, SourceFault::Memory, Err(VerifyFault::Memory)),
+        (0, SourceFault::Memory, Err(VerifyFault::Memory), None),
+        (1, SourceFault::Memory, Err(VerifyFault::Memory), None),
     ];
-    for (fails, fault, want) in rows {
+    for (fails, fault, want, withheld) in rows {
         let found = verified_of(alloc, &records, fails, fault);
-        same(&rt, &(fails, fault), found, want);
+        same(&rt, &(fails, fault), found, (want, withheld));
     }
     let none = verified_of(alloc, &[], 0, SourceFault::Damaged);
-    same(&rt, &"no records", none, Err(VerifyFault::BadOpening));
+    same(
+        &rt,
+        &"no records",
+        none,
+        (Err(VerifyFault::BadOpening), None),
+    );
     Ok(())
 }
