@@ -1,9 +1,9 @@
 -- Frames that a chooser chose.
-use Rattle.std.proofs.Common.{true, false, true≢false, ◌≡◌, ◌∙◌, inr, ℕ, ◌+◌, ◌<◌, ◌^◌, arith, List, [], ◌∷◌, ◌++◌, length, map, take, drop, refl, sym, ap, subst, append_assoc}
+use Rattle.std.proofs.Common.{true, false, true≢false, ◌≡◌, ◌∙◌, inl, inr, ℕ, ◌+◌, ◌<◌, ◌^◌, arith, List, [], ◌∷◌, ◌++◌, length, map, take, drop, refl, sym, ap, subst, append_assoc}
 use denote.Enum.Bare.{sameb}
 use Rattle.std.proofs.lemmas.List.{append-nil, take-append-drop}
 use Rattle.std.proofs.lemmas.List.Sums.{sum_by-append}
-use Rattle.std.specs.Prelude.{◌≢◌, Some, None, vec_items}
+use Rattle.std.specs.Prelude.{◌≢◌, Some, None, Err, vec_items}
 use Rattle.rrv_model.specs.declared.record.Choice.{Choice}
 use Rattle.rrv_model.specs.declared.record.Frame.{Frame}
 use Rattle.rrv_model.specs.declared.record.Item.{Item}
@@ -24,13 +24,18 @@ use Rattle.commit_core.proofs.Runs.{frames_of-append}
 use Rattle.commit_core.specs.World.{opening_record}
 use Rattle.commit_group.specs.Numbers.{renumbered}
 use Rattle.recorder.specs.declared.checkpoints.Parts.{Parts}
+use Rattle.recorder.specs.declared.fault.RecorderFault.{RecorderFault}
+use Rattle.recorder.specs.declared.fault.RecorderFault.TheVariants as recorder_faults
 use Rattle.recorder.specs.RecorderCalls.{HasStepped, IsUnmoved, KeepsMade, part_records}
 use Rattle.recorder.specs.Recorders.{GuestRecorder, HasRecorded, made, records_from}
 use Rattle.session.specs.contracts.rounds.Turn.{the_type}
 use Rattle.session.specs.declared.job.Job.{Job}
 use Rattle.session.specs.declared.rounds.Turn.{Turn}
 use Rattle.session.specs.declared.rounds.Turn.TheVariants as turns
-use Rattle.session.specs.Chosen.{HasChosen, IsAtStart, IsLeftWith, MakesChosen, TurnLeaves, frames_in, start_of}
+use Rattle.session.specs.declared.rounds.WorkFault.{WorkFault}
+use Rattle.session.specs.declared.rounds.WorkFault.TheVariants as work_faults
+use Rattle.session.specs.Drives.{fault_told, work_told}
+use Rattle.session.specs.Chosen.{HasChosen, HasChosenOn, IsAskedOnce, IsAtStart, IsLeftWith, LeavesChooser, MakesChosen, TurnLeaves, WorkLeaves, frames_in, start_of}
 
 -- ---- the frames among records
 
@@ -112,8 +117,11 @@ module _ {C : Type 0} (chooses : Choosing C) where
     ends = q.ends;
   }
 
-  pub makes_any : (o a : GuestRecorder) (c : C) (E : C → Type 0) → MakesChosen chooses o c a E → MakesChosen chooses o c a (λ _. Unit {0})
-  makes_any o a c E p = record { frames = p.frames; made_are = p.made_are; last = p.last; chosen = p.chosen; ran = p.ran; ends = tt }
+  -- a step was refused, and its choice is lost
+  pub makes_lost : {O : Type 0} (a b : GuestRecorder) (choice : Choice) (before after : O) (c c' : C) → IsUnmoved a b before after → Picks chooses (state_of a.guest) c (Some choice) c'
+      → MakesChosen chooses a c b (IsAskedOnce chooses c' (state_of b.guest))
+  makes_lost a b choice before after c c' h picks =
+      makes_unmoved a b before after c (IsAskedOnce chooses c' (state_of b.guest)) (inr (Some choice, subst (λ (s : State). Picks chooses s c (Some choice) c') (sym h.state) picks)) h
 
   -- one frame
   pub makes_one : {O : Type 0} (gives : Gives O) (a b : GuestRecorder) (choice : Choice) (outcome : Parts) (before after : O) (c c' : C) → HasStepped gives a choice outcome b before after
@@ -149,6 +157,51 @@ module _ {C : Type 0} (chooses : Choosing C) where
       → MakesChosen chooses a c b (IsLeftWith chooses c' (state_of b.guest))
   makes_over a b c c' turn over p = subst (λ (t : Turn). MakesChosen chooses a c b (TurnLeaves chooses t c' (state_of b.guest))) over p
 
+  -- ---- what is left of the chooser, by what was met
+
+  makes_weaker : (o a : GuestRecorder) (c : C) (E F : C → Type 0) → ((last : C) → E last → F last) → MakesChosen chooses o c a E → MakesChosen chooses o c a F
+  makes_weaker o a c E F weaker p = record { frames = p.frames; made_are = p.made_are; last = p.last; chosen = p.chosen; ran = p.ran; ends = weaker p.last p.ends }
+
+  leaves_same : (e : WorkFault) (new : C) (s : State) (last : C) → new ≡ last → WorkLeaves chooses (Err e) new s last
+  leaves_same work_faults.Halted new s last same = inl same
+  leaves_same work_faults.SinkFailed new s last same = inl same
+  leaves_same work_faults.Held new s last same = same
+  leaves_same work_faults.Memory new s last same = inl same
+
+  -- the chooser is the one that the frames lead to
+  pub makes_met : (o a : GuestRecorder) (c c' : C) (e : WorkFault) → MakesChosen chooses o c a (λ last. c' ≡ last) → MakesChosen chooses o c a (WorkLeaves chooses (Err e) c' (state_of a.guest))
+  makes_met o a c c' e p = makes_weaker o a c (λ last. c' ≡ last) (WorkLeaves chooses (Err e) c' (state_of a.guest)) (λ last same. leaves_same e c' (state_of a.guest) last same) p
+
+  pub makes_asked : (o a : GuestRecorder) (c c' : C) (e : WorkFault) → e ≡ work_faults.Memory → MakesChosen chooses o c a (IsAskedOnce chooses c' (state_of a.guest))
+      → MakesChosen chooses o c a (WorkLeaves chooses (Err e) c' (state_of a.guest))
+  makes_asked o a c c' e is p = subst (λ (x : WorkFault). MakesChosen chooses o c a (WorkLeaves chooses (Err x) c' (state_of a.guest))) (sym is) p
+
+  asked : (new : C) (s : State) (last : C) → IsLeftWith chooses new s last → IsAskedOnce chooses new s last
+  asked new s last left = elim left [ inl same ↦ inl same | inr picks ↦ inr (None, picks) ]
+
+  leaves_left : (e : RecorderFault) (new : C) (s : State) (last : C) → IsLeftWith chooses new s last → WorkLeaves chooses (Err (work_told e)) new s last
+  leaves_left recorder_faults.Halted new s last left = left
+  leaves_left (recorder_faults.SinkFailed taken) new s last left = left
+  leaves_left recorder_faults.Full new s last left = asked new s last left
+  leaves_left recorder_faults.Memory new s last left = asked new s last left
+  leaves_left (recorder_faults.Refused fault) new s last left = asked new s last left
+  leaves_left recorder_faults.TooManyRecords new s last left = asked new s last left
+  leaves_left recorder_faults.BadOpening new s last left = asked new s last left
+
+  -- a recorder that had no frame to make met a fault
+  pub makes_settled : (o a : GuestRecorder) (c c' : C) (e : RecorderFault) (fault : WorkFault) → fault ≡ work_told e → MakesChosen chooses o c a (IsLeftWith chooses c' (state_of a.guest))
+      → MakesChosen chooses o c a (WorkLeaves chooses (Err fault) c' (state_of a.guest))
+  makes_settled o a c c' e fault is p =
+      subst (λ (x : WorkFault). MakesChosen chooses o c a (WorkLeaves chooses (Err x) c' (state_of a.guest))) (sym is)
+      (makes_weaker o a c (IsLeftWith chooses c' (state_of a.guest)) (WorkLeaves chooses (Err (work_told e)) c' (state_of a.guest)) (λ last left. leaves_left e c' (state_of a.guest) last left) p)
+
+  pub makes_fault : (o a : GuestRecorder) (c c' : C) (guest : ℕ) (s : State) (e : WorkFault) → MakesChosen chooses o c a (WorkLeaves chooses (Err e) c' s)
+      → MakesChosen chooses o c a (LeavesChooser chooses (fault_told guest e) c' s)
+  makes_fault o a c c' guest s work_faults.Halted p = p
+  makes_fault o a c c' guest s work_faults.SinkFailed p = p
+  makes_fault o a c c' guest s work_faults.Held p = p
+  makes_fault o a c c' guest s work_faults.Memory p = p
+
 pub is_over : (turn : Turn) → true ≡ sameb the_type turn turns.Over → turn ≡ turns.Over
 is_over turns.Over h = refl
 is_over turns.Stepped h = absurd (true≢false h)
@@ -159,6 +212,10 @@ pub not_over : (turn : Turn) → false ≡ sameb the_type turn turns.Over → tu
 not_over turn h over = true≢false (sym (h ∙ ap (λ (t : Turn). sameb the_type t turns.Over) over))
 
 -- ---- a job's frames
+
+same_items : (b : ℕ) (rs : List Record) → items_of (renumbered b rs) ≡ items_of rs
+same_items b [] = refl
+same_items b (r ∷ rs) = ap (λ l. r.item ∷ l) (same_items b rs)
 
 module _ {C O S : Type 0} (chooses : Choosing C) (job : Job C O S) where
   pub chosen_from_start : (old new : GuestRecorder) (E : C → Type 0) → IsAtStart job old → MakesChosen chooses old job.chooser new E
@@ -192,6 +249,44 @@ module _ {C O S : Type 0} (chooses : Choosing C) (job : Job C O S) where
       (subst (λ (l : List Frame). AreChosen chooses (start_of job) job.chooser l h.state h.last) (frames_append xs ys) h.chosen) in
       record { state = r.0; last = r.1; chosen = r.2; ends = tt }
 
+  pub none_on : (E : State → C → Type 0) → E (start_of job) job.chooser → HasChosenOn chooses job [] E
+  none_on E e = record { behind = []; state = start_of job; last = job.chooser; chosen = (refl, refl); ends = e }
+
+  pub sent_on : (xs ys : List Record) (E : State → C → Type 0) → HasChosen chooses job (xs ++ ys) E → HasChosenOn chooses job xs E
+  sent_on xs ys E h = record {
+    behind = frames_in ys;
+    state = h.state;
+    last = h.last;
+    chosen = subst (λ (l : List Frame). AreChosen chooses (start_of job) job.chooser l h.state h.last) (frames_append xs ys) h.chosen;
+    ends = h.ends;
+  }
+
+  pub front_on : (xs : List Record) (E : State → C → Type 0) → HasChosenOn chooses job xs E → HasChosen chooses job xs (λ _ _. Unit {0})
+  front_on xs E h =
+      let r = beginnings_are_chosen chooses (frames_in xs) h.behind (start_of job) h.state job.chooser h.last h.chosen in
+      record { state = r.0; last = r.1; chosen = r.2; ends = tt }
+
+  pub first_on : (k : ℕ) (xs : List Record) (E : State → C → Type 0) → HasChosenOn chooses job xs E → HasChosenOn chooses job (take k xs) E
+  first_on k xs E h =
+      let whole : frames_in xs ≡ frames_in (take k xs) ++ frames_in (drop k xs) = ap (λ (l : List Record). frames_in l) (sym (take-append-drop k xs)) ∙ frames_append (take k xs) (drop k xs) in
+      record {
+        behind = frames_in (drop k xs) ++ h.behind;
+        state = h.state;
+        last = h.last;
+        chosen = subst (λ (l : List Frame). AreChosen chooses (start_of job) job.chooser l h.state h.last)
+            (ap (λ (l : List Frame). l ++ h.behind) whole ∙ append_assoc (frames_in (take k xs)) (frames_in (drop k xs)) h.behind) h.chosen;
+        ends = h.ends;
+      }
+
+  pub on_again : (b : ℕ) (xs : List Record) (E : State → C → Type 0) → HasChosenOn chooses job xs E → HasChosenOn chooses job (renumbered b xs) E
+  on_again b xs E h = record {
+    behind = h.behind;
+    state = h.state;
+    last = h.last;
+    chosen = subst (λ (l : List Item). AreChosen chooses (start_of job) job.chooser (frames_of l ++ h.behind) h.state h.last) (sym (same_items b xs)) h.chosen;
+    ends = h.ends;
+  }
+
   pub first_chosen : (k : ℕ) (xs : List Record) (E : State → C → Type 0) → HasChosen chooses job xs E → HasChosen chooses job (take k xs) (λ _ _. Unit {0})
   first_chosen k xs E h = front_chosen (take k xs) (drop k xs) E (subst (λ (l : List Record). HasChosen chooses job l E) (sym (take-append-drop k xs)) h)
 
@@ -202,7 +297,3 @@ module _ {C O S : Type 0} (chooses : Choosing C) (job : Job C O S) where
     chosen = subst (λ (l : List Item). AreChosen chooses (start_of job) job.chooser (frames_of l) h.state h.last) (sym (same_items b xs)) h.chosen;
     ends = h.ends;
   }
-    where
-      same_items : (b : ℕ) (rs : List Record) → items_of (renumbered b rs) ≡ items_of rs
-      same_items b [] = refl
-      same_items b (r ∷ rs) = ap (λ l. r.item ∷ l) (same_items b rs)

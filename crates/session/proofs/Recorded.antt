@@ -22,12 +22,12 @@ use Rattle.session.specs.declared.fault.SessionFault.{SessionFault}
 use Rattle.session.specs.declared.job.Job.{Job}
 use Rattle.session.specs.declared.task.Task.{Task}
 use Rattle.session.specs.declared.task.Worked.{Worked}
-use Rattle.session.specs.Chosen.{HasChosen}
+use Rattle.session.specs.Chosen.{HasChosen, HasChosenOn, LeavesChooser}
 use Rattle.session.specs.Pairs.{ArePairs}
 use Rattle.commit_core.proofs.Runs.{output_further}
-use Rattle.session.proofs.Chosen.{chosen_again, first_chosen}
-use Rattle.session.specs.Sessions.{AreLeft, AreRecorded, AreReported, HasNumber, HasRecorded, IsRecordingOrNone, IsReported, report_of, reports_of}
-use Rattle.session.specs.Tasks.{faults_met, jobs_of, jobs_worked, met_once, once, seats_worked, states_worked}
+use Rattle.session.proofs.Chosen.{chosen_again, first_chosen, first_on, front_on, on_again}
+use Rattle.session.specs.Sessions.{AreLeft, AreRecorded, AreReported, HasMet, HasNumber, HasRecorded, HaveMet, IsRecordingOrNone, IsReported, report_of, reports_of}
+use Rattle.session.specs.Tasks.{all_met, faults_met, jobs_of, jobs_worked, met_once, once, seats_worked, states_worked}
 use Rattle.session.specs.Works.{Choosers, Sinks, HasChosenAll, HasFinished, HasWorked, IsBegun, IsBehind, IsSameJob, IsToItsEnd, opening_for}
 
 -- ---- under other numbers
@@ -246,6 +246,15 @@ all_own f first place r e all = e.own ∙ ap (λ l. renumbered first l) (ap (λ 
 
 -- ---- all guests
 
+-- what each worker met
+abbrev pub mets_of : {C O S : Type 0} → List (Worked C O S) → List (Option SessionFault)
+mets_of [] = []
+mets_of (worked ∷ rest) = worked.fault ∷ mets_of rest
+
+pub mets_are : {C O S : Type 0} (done : List (Worked C O S)) → all_met (mets_of done) ≡ faults_met done
+mets_are [] = refl
+mets_are (worked ∷ rest) = ap (λ (l : List SessionFault). met_once worked.fault ++ l) (mets_are rest)
+
 none_met : (o : Option SessionFault) (rest : List SessionFault) → met_once o ++ rest ≡ [] → (o ≡ None) × (rest ≡ [])
 none_met None rest e = (refl, e)
 none_met (Some fault) rest e = cc
@@ -267,7 +276,7 @@ module _ {C O S : Type 0} (choosers : Choosers C) (sinks : Sinks S) (records : L
     records = subst (λ l. IsRecordingOrNone (opening_for (first + new.seat.guest) old.job) (first + new.seat.guest) l) (sym e.own)
         (begun_again first new.seat.guest e.count old.job new.job new.seat.sent w.job w.sent);
     chosen = subst (λ (l : List Record). HasChosen choosers.chooses old.job l (λ _ _. Unit {0})) (sym e.own)
-        (chosen_again choosers.chooses old.job first (take e.count new.seat.sent) (λ _ _. Unit {0}) (first_chosen choosers.chooses old.job e.count new.seat.sent (λ _ _. Unit {0}) w.chosen));
+        (chosen_again choosers.chooses old.job first (take e.count new.seat.sent) (λ _ _. Unit {0}) (first_chosen choosers.chooses old.job e.count new.seat.sent (λ _ _. Unit {0}) (front_on choosers.chooses old.job new.seat.sent _ w.chosen)));
     put = w.put;
     takes = w.takes;
     output = subst (λ l. IsOutput w.put l) (sym e.own) (put_again first new.seat.guest new.seat.seen e.count (opening_for new.seat.guest new.job) new.seat.sent w.put w.sent e.seen w.output);
@@ -326,6 +335,29 @@ module _ {C O S : Type 0} (choosers : Choosers C) (sinks : Sinks S) (f : Flusher
         subst (λ (m : ℕ). IsReported choosers sinks m f.committed t.job d.job (report_of first d)) (omega arith) (finished_one t d (n + 0) pairs.0 e none.0 all here (omega arith)),
         subst (λ (m : ℕ). AreReported choosers sinks f.committed m (jobs_of tasks) (jobs_worked done) (reports_of first done)) (omega arith)
             (all_reported (suc n) tasks done pairs.1 (ends_next n d done each) none.1 all here (omega arith)),
+      )
+
+  met_one : (others : List SessionFault) (old : Task C O S) (new : Worked C O S) (place : ℕ) → HasWorked choosers sinks old new → IsEnded f first place new.seat → (others ≡ [] → AllCommitted f × (f.halted ≡ false))
+      → first + new.seat.guest ≤ 4294967294 → HasMet choosers sinks others f.committed first new.seat.guest old.job new.job new.fault
+  met_one others old new place w e goes_on room = record {
+    is_own = w.faults;
+    sink = w.sink;
+    whole = λ none no_others. let all = goes_on no_others in (report_of first new, finished_one old new place w e none all.0 all.1 room);
+    chosen = subst (λ (l : List Record). HasChosenOn choosers.chooses old.job l (LeavesChooser choosers.chooses new.fault new.job.chooser)) (sym e.own)
+        (on_again choosers.chooses old.job first (take e.count new.seat.sent) _ (first_on choosers.chooses old.job e.count new.seat.sent _ w.chosen));
+  }
+
+  pub have_met : (others : List SessionFault) (n : ℕ) (tasks : List (Task C O S)) (done : List (Worked C O S)) → ArePairs (HasWorked choosers sinks) tasks done → EndsFrom n done
+      → (others ≡ [] → AllCommitted f × (f.halted ≡ false)) → first + n + length done ≤ 4294967295 → HaveMet choosers sinks others f.committed first n (jobs_of tasks) (jobs_worked done) (mets_of done)
+  have_met others n [] [] pairs each goes_on room = tt
+  have_met others n [] (d ∷ done) pairs each goes_on room = elim pairs [ ]
+  have_met others n (t ∷ tasks) [] pairs each goes_on room = elim pairs [ ]
+  have_met others n (t ∷ tasks) (d ∷ done) pairs each goes_on room =
+      let e = each 0 d.seat refl in
+      let place = e.place_is in (
+        subst (λ (m : ℕ). HasMet choosers sinks others f.committed first m t.job d.job d.fault) (omega arith) (met_one others t d (n + 0) pairs.0 e goes_on (omega arith)),
+        subst (λ (m : ℕ). HaveMet choosers sinks others f.committed first m (jobs_of tasks) (jobs_worked done) (mets_of done)) (omega arith)
+            (have_met others (suc n) tasks done pairs.1 (ends_next n d done each) goes_on (omega arith)),
       )
 
   left_one : (old : Task C O S) (new : Worked C O S) (place : ℕ) → HasWorked choosers sinks old new → IsEnded f first place new.seat → new.fault ≡ None → AllCommitted f → f.halted ≡ false

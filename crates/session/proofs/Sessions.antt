@@ -1,7 +1,7 @@
 -- A session, from what its threads gave to what it gives.
-use Rattle.std.proofs.Common.{◌≡◌, inl, inr, ℕ, zero, suc, ◌+◌, ◌≤◌, List, [], ◌∷◌, ◌++◌, append_assoc, drop, length, take, refl, sym, ap, ◌∙◌, subst, arith, false}
+use Rattle.std.proofs.Common.{◌≡◌, inl, inr, ℕ, zero, suc, ◌+◌, ◌≤◌, List, [], ◌∷◌, ◌++◌, append_assoc, drop, max, length, take, refl, sym, ap, ◌∙◌, subst, arith, false}
 use Rattle.std.proofs.lemmas.List.{append-nil, take-append-drop}
-use Rattle.std.specs.Prelude.{◌⊎◌, Option, Some, Result, Ok, Err, OnOk, slice_get}
+use Rattle.std.specs.Prelude.{◌⊎◌, Option, None, Some, Result, Ok, Err, OnOk, slice_get}
 use Rattle.rrv_model.specs.declared.record.Record.{Record}
 use Rattle.rrv_model.specs.CrashModel.{Leaves}
 use Rattle.rrv_model.specs.Recovered.{next_guest, IsRecovered}
@@ -10,12 +10,13 @@ use Rattle.rrv_model.proofs.Lists.{AllByRecursion-front}
 use Rattle.guest_calls.specs.Guest.{GuestValue}
 use Rattle.trace_log.specs.Kept.{Keeps, LogValue}
 use Rattle.commit_group.specs.declared.fault.FlushFault.{FlushFault}
+use Rattle.commit_group.specs.declared.fault.FlushFault.TheVariants as flushes
 use Rattle.commit_group.specs.Flushes.{first_number}
 use Rattle.commit_group.specs.Seats.{FlusherValue, GroupId, RecorderValue, new_flusher_seat}
 use Rattle.commit_group.specs.Turns.{AllCommitted}
 use Rattle.session.specs.declared.fault.SessionFault.{SessionFault}
 use Rattle.session.specs.declared.job.Job.{Job}
-use Rattle.session.specs.Faults.{flusher_met}
+use Rattle.session.specs.Faults.{IsLowest, IsSessions, flusher_met, told_of}
 use Rattle.session.specs.Gains.{Device, HasFlushed, HasGained, HoldsUpTo, StandsIn}
 use Rattle.session.specs.Sessions.{AreRecorded, HasRun, IsLeft}
 use Rattle.session.specs.Works.{Sinks}
@@ -28,12 +29,13 @@ use Rattle.session.specs.declared.report.GuestReport.{GuestReport}
 use Rattle.session.specs.declared.task.Task.{Task}
 use Rattle.session.specs.declared.task.Worked.{Worked}
 use Rattle.session.specs.Pairs.{ArePairs}
-use Rattle.session.specs.Sessions.{AreLeft, AreReported, reports_of}
-use Rattle.session.specs.Tasks.{faults_met, jobs_of, jobs_worked, seats_of, seats_worked, states_worked}
+use Rattle.session.specs.Sessions.{AreLeft, AreReported, HaveMet, TellsFirst, reports_of}
+use Rattle.session.specs.Tasks.{all_met, faults_met, jobs_of, jobs_worked, seats_of, seats_worked, states_worked}
 use Rattle.session.specs.Works.{Choosers, HasWorked}
-use Rattle.session.proofs.Chosen.{none_chosen}
+use Rattle.session.specs.Chosen.{LeavesChooser}
+use Rattle.session.proofs.Chosen.{none_chosen, none_on}
 use Rattle.session.proofs.Gained.{leaves_kept}
-use Rattle.session.proofs.Recorded.{AreFirstSent, IsEnded, all_left, all_recorded, all_reported, ended_at, first_sent, first_with}
+use Rattle.session.proofs.Recorded.{AreFirstSent, IsEnded, all_left, all_recorded, all_reported, ended_at, first_sent, first_with, have_met, mets_are, mets_of}
 use Rattle.session.proofs.Pairs.{pairs_length}
 use Rattle.session.proofs.Tasks.{all_of, jobs_length, worked_length}
 
@@ -60,6 +62,13 @@ module _ {D : Type 0} (device : Device D) where
     | inr none ↦ inr (none.0 ∙ ap (λ (x : FlusherValue). x.committed) new, none.1)
   ]
 
+  -- a new group took these numbers alone
+  pub next_is : (group : GroupId) (f g : FlusherValue) (log log' : LogValue D) (flushed : Result Unit FlushFault) → f ≡ new_flusher_seat group → HasFlushed device f g log log' flushed
+      → log'.next_guest ≡ max log.next_guest (next_guest g.committed)
+  next_is group f g log log' flushed new h =
+      let committed : g.committed ≡ h.raises.more = h.raises.committed_are ∙ ap (λ (x : FlusherValue). x.committed ++ h.raises.more) new in
+      h.raises.next_is ∙ ap (λ (l : List Record). max log.next_guest (next_guest l)) (sym committed)
+
   -- nothing happened
   none_gained : (log : LogValue D) (bodies : List (List ℕ)) (earlier : List Record) → IsLeft device log bodies earlier → HasGained device [] [] log log bodies earlier
   none_gained log bodies earlier left =
@@ -83,7 +92,7 @@ module _ {D : Type 0} (device : Device D) where
     none_recorded number [] = tt
     none_recorded number (job ∷ jobs) = (
       record {
-        job = record { elf = refl; name = refl; random = refl };
+        job = record { elf = refl; name = refl; random = refl; every = refl };
         records = inl refl;
         chosen = none_chosen choosers.chooses job;
         put = [];
@@ -97,10 +106,47 @@ module _ {D : Type 0} (device : Device D) where
     nothing_ran log jobs = record {
       batch = [];
       gained = none_gained log;
+      next = omega arith;
       only = tt;
       recorded = none_recorded log.next_guest jobs;
       in_hand = none_recorded log.next_guest jobs;
     }
+
+    -- no worker met a fault
+    abbrev nones : List (Job C O S) → List (Option SessionFault)
+    nones [] = []
+    nones (job ∷ jobs) = None ∷ nones jobs
+
+    nones_are : (jobs : List (Job C O S)) → all_met (nones jobs) ≡ []
+    nones_are [] = refl
+    nones_are (job ∷ jobs) = nones_are jobs
+
+    none_met : (others : List SessionFault) → (others ≡ [] → ⊥) → (first place : ℕ) (jobs : List (Job C O S)) → HaveMet choosers sinks others [] first place jobs jobs (nones jobs)
+    none_met others some first place [] = tt
+    none_met others some first place (job ∷ jobs) = (
+      record {
+        is_own = tt;
+        sink = refl;
+        whole = λ _ none. absurd (some none);
+        chosen = none_on choosers.chooses job (LeavesChooser choosers.chooses None job.chooser) (inl refl);
+      },
+      none_met others some first (place + 1) jobs,
+    )
+
+    -- a fault that was met before a worker began
+    pub tells_alone : (T : Type 0) (fault : SessionFault) → IsSessions fault → (first : ℕ) (jobs : List (Job C O S)) → TellsFirst {T = T} choosers sinks [] first (Err fault) jobs jobs
+    tells_alone T fault is first jobs = record {
+      others = fault ∷ [];
+      others_are = (is, tt);
+      met = nones jobs;
+      each = none_met (fault ∷ []) (λ e. cc) first 0 jobs;
+      lowest = subst (λ (l : List SessionFault). IsLowest (fault ∷ l) (Some fault)) (sym (nones_are jobs)) ((0, omega arith, refl), (inr (refl, omega arith), tt));
+    }
+
+    pub tells_none : (T : Type 0) (report : T) (first : ℕ) (jobs : List (Job C O S)) → jobs ≡ [] → TellsFirst {T = T} choosers sinks [] first (Ok report) jobs jobs
+    tells_none T report first jobs none =
+        subst (λ (l : List (Job C O S)). TellsFirst {T = T} choosers sinks [] first (Ok report) l l) (sym none)
+        (record { others = []; others_are = tt; met = []; each = tt; lowest = refl })
 
 -- where there is no fault the flusher met none
 pub flusher_met_none : (flushed : Result Unit FlushFault) (rest : List SessionFault) (P : Type 0) → flusher_met flushed ++ rest ≡ [] → OnOk flushed P → P × (rest ≡ [])
@@ -166,6 +212,7 @@ module _ {C O S D : Type 0} (choosers : Choosers C) (sinks : Sinks S) (device : 
   has_run jobs jobs' j given back = record {
     batch = hand_of j;
     gained = session_gained device group old f log log' flushed j.new j.flusher;
+    next = next_is device group old f log log' flushed j.new j.flusher;
     only = only_these (length jobs) j (sym (jobs_length tasks) ∙ ap length given);
     recorded = of_jobs f.committed (λ k r at. first_sent f log.next_guest (0 + k) r (ends j k r at));
     in_hand = of_jobs (f.committed ++ hand_of j) (first_in_hand j);
@@ -177,6 +224,27 @@ module _ {C O S D : Type 0} (choosers : Choosers C) (sinks : Sinks S) (device : 
           let all = all_recorded choosers sinks records log.next_guest 0 tasks done j.works each in
           let here = subst (λ (n : ℕ). AreRecorded choosers sinks records n (jobs_of tasks) (jobs_worked done)) (omega arith) all in
           subst (λ (x : List (Job C O S) × List (Job C O S)). AreRecorded choosers sinks records log.next_guest x.0 x.1) (λ i. (given i, sym back i)) here
+
+  pub tells_first : (T : Type 0) (result : Result T SessionFault) (jobs jobs' : List (Job C O S)) → AreJoined choosers sinks device group old f log log' flushed tasks done → jobs_of tasks ≡ jobs → jobs' ≡ jobs_worked done
+      → log.next_guest + length done ≤ 4294967295 → IsLowest (flusher_met flushed ++ faults_met done) (told_of result) → TellsFirst {T = T} choosers sinks f.committed log.next_guest result jobs jobs'
+  tells_first T result jobs jobs' j given back room lowest = record {
+    others = flusher_met flushed;
+    others_are = flusher_is flushed;
+    met = mets_of done;
+    each = subst (λ (x : List (Job C O S) × List (Job C O S)). HaveMet choosers sinks (flusher_met flushed) f.committed log.next_guest 0 x.0 x.1 (mets_of done)) (λ i. (given i, sym back i))
+        (have_met choosers sinks f log.next_guest (flusher_met flushed) 0 tasks done j.works (ends j) goes_on (omega arith));
+    lowest = subst (λ (l : List SessionFault). IsLowest (flusher_met flushed ++ l) (told_of result)) (sym (mets_are done)) lowest;
+  }
+    where
+      flusher_is : (r : Result Unit FlushFault) → AllByRecursion IsSessions (flusher_met r)
+      flusher_is (Ok u) = tt
+      flusher_is (Err flushes.DeviceFailed) = (tt, tt)
+      flusher_is (Err flushes.Halted) = (tt, tt)
+      flusher_is (Err flushes.TooLong) = (tt, tt)
+      flusher_is (Err flushes.Memory) = (tt, tt)
+
+      goes_on : flusher_met flushed ≡ [] → AllCommitted f × (f.halted ≡ false)
+      goes_on none = (flusher_met_none flushed [] (AllCommitted f × (f.halted ≡ false)) (append-nil (flusher_met flushed) ∙ none) j.flusher.all).0
 
   pub has_reported : (jobs jobs' : List (Job C O S)) (first : ℕ) (reports : List GuestReport) → AreJoined choosers sinks device group old f log log' flushed tasks done → jobs_of tasks ≡ jobs → jobs' ≡ jobs_worked done
       → first ≡ log.next_guest → reports ≡ reports_of first done → flusher_met flushed ++ faults_met done ≡ [] → log.next_guest + length done ≤ 4294967295

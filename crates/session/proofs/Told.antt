@@ -12,7 +12,7 @@ use Rattle.session.specs.declared.fault.SessionFault.TheVariants as faults
 use Rattle.session.specs.declared.job.Job.{Job}
 use Rattle.session.specs.declared.task.Task.{Task}
 use Rattle.session.specs.declared.task.Worked.{Worked}
-use Rattle.session.specs.Faults.{IsLowest, IsNoLater, flusher_met, guest_of, rank}
+use Rattle.session.specs.Faults.{IsLowest, IsNoLater, IsSessions, flusher_met, guest_of, rank}
 use Rattle.session.specs.Gains.{TellsDisk}
 use Rattle.session.specs.Openings.{IsFirstBad, RefusesJobs, StartsGuest}
 use Rattle.session.specs.Pairs.{ArePairs}
@@ -297,6 +297,12 @@ pub job_is_no_device : {C O S : Type 0} (jobs : List (Job C O S)) (fault : Sessi
 job_is_no_device jobs fault h is = elim h.refuses [
   | inl memory ↦ let e = ap rank (sym memory ∙ is) in omega arith
   | inr bad ↦ let e = ap rank (sym bad.0 ∙ is) in omega arith
+]
+
+pub job_is_sessions : {C O S : Type 0} (jobs : List (Job C O S)) (fault : SessionFault) → RefusesJobs jobs fault → IsSessions fault
+job_is_sessions jobs fault h = elim h.refuses [
+  | inl memory ↦ subst IsSessions (sym memory) tt
+  | inr bad ↦ subst IsSessions (sym bad.0) tt
 ]
 
 -- ---- all sinks of a session

@@ -33,8 +33,8 @@ use Rattle.session.specs.declared.job.Job.{Job}
 use Rattle.session.specs.declared.task.Task.{Task}
 use Rattle.session.specs.declared.task.Worked.{Worked}
 use Rattle.session.proofs.Works.{no_fault, none_put}
-use Rattle.session.proofs.Chosen.{chosen_from_start, front_chosen, none_chosen}
-use Rattle.session.specs.Chosen.{HasChosen, IsAtStart, IsLeftWith, MakesChosen, frames_in}
+use Rattle.session.proofs.Chosen.{chosen_from_start, none_on, sent_on}
+use Rattle.session.specs.Chosen.{HasChosenOn, IsAtStart, IsLeftWith, LeavesChooser, MakesChosen, frames_in}
 use Rattle.session.specs.Drives.{Drives, HasHalted, IsDone, IsDriven, IsOver, LeavesWith}
 use Rattle.session.specs.Works.{AreMet, Choosers, FaultTellsSink, HasChosenAll, HasFinished, IsBehind, HasStopped, HasWorked, IsBegun, IsRecordedFrom, IsSameJob, Sinks, opening_for}
 
@@ -155,9 +155,22 @@ chosen_to_end choosers job job' old new end end_is start left =
       ends = (end_is ∙ ap (λ (s : State). s.ended) (sym h.ends.0), subst (λ (s : State). IsLeftWith choosers.chooses job'.chooser s h.last) (sym h.ends.0) h.ends.1);
     }
 
+-- what was sent of it
+sent_of : {C O S : Type 0} (choosers : Choosers C) (job job' : Job C O S) (old new : GuestRecorder) (fault : Option SessionFault) → IsAtStart job old
+    → MakesChosen choosers.chooses old job.chooser new (LeavesChooser choosers.chooses fault job'.chooser (state_of new.guest)) → HasChosenOn choosers.chooses job new.seat.sent (LeavesChooser choosers.chooses fault job'.chooser)
+sent_of choosers job job' old new fault start makes =
+    let h = sent_on choosers.chooses job new.seat.sent new.backlog _ (chosen_from_start choosers.chooses job old new (LeavesChooser choosers.chooses fault job'.chooser (state_of new.guest)) start makes) in
+    record {
+      behind = h.behind;
+      state = h.state;
+      last = h.last;
+      chosen = h.chosen;
+      ends = subst (λ (s : State). LeavesChooser choosers.chooses fault job'.chooser s h.last) (sym h.ends.0) h.ends.1;
+    }
+
 module _ {C O S : Type 0} (choosers : Choosers C) (sinks : Sinks S) (old new : GuestRecorder) (job job' : Job C O S)
     (begun : IsDriven (opening_for old.seat.guest job) old []) (drives : Drives sinks old new job.sink job'.sink) (same : IsSameJob job job')
-    (low : new.seat.seen ≤ length new.seat.sent) (start : IsAtStart job old) (makes : MakesChosen choosers.chooses old job.chooser new (λ _. Unit {0})) where
+    (low : new.seat.seen ≤ length new.seat.sent) (start : IsAtStart job old) where
   abbrev opening : Record
   opening = opening_for new.seat.guest job'
 
@@ -209,15 +222,16 @@ module _ {C O S : Type 0} (choosers : Choosers C) (sinks : Sinks S) (old new : G
       }
 
   pub has_worked : (guest : Option GuestValue) (end : Option GuestEnd) (fault : Option SessionFault) → AreMet new.seat.guest fault → FaultTellsSink fault (sinks.faults job.sink) (sinks.faults job'.sink)
+      → MakesChosen choosers.chooses old job.chooser new (LeavesChooser choosers.chooses fault job'.chooser (state_of new.guest))
       → (fault ≡ None → HasStopped drives.put (record { seat = seat; job = job'; guest = guest; end = end; fault = fault }) ⊎ HasFinished choosers job drives.put (record { seat = seat; job = job'; guest = guest; end = end; fault = fault }))
       → HasWorked choosers sinks (record { seat = old.seat; job = job }) (record { seat = seat; job = job'; guest = guest; end = end; fault = fault })
-  has_worked guest end fault met sink done = record {
+  has_worked guest end fault met sink makes done = record {
     group = drives.goes.group;
     guest = drives.goes.guest;
     left = refl;
     job = same;
     sent = begun_front opening new.seat.guest new.seat.sent new.backlog (state_of new.guest) driven.recorded;
-    chosen = front_chosen choosers.chooses job new.seat.sent new.backlog _ (chosen_from_start choosers.chooses job old new (λ _. Unit {0}) start makes);
+    chosen = sent_of choosers job job' old new fault start makes;
     put = drives.put;
     takes = drives.takes;
     output = output;
@@ -232,25 +246,23 @@ left_with r job fault = record { seat = record r.seat { has_left = true }; job =
 
 pub worked : {C O S : Type 0} (choosers : Choosers C) (sinks : Sinks S) (guest : ℕ) (seat : RecorderValue) (old new : GuestRecorder) (job job' : Job C O S) (fault : Option SessionFault) (worked : Worked C O S)
     → guest ≡ seat.guest → old.seat ≡ seat → IsDriven (opening_for seat.guest job) old [] → Drives sinks old new job.sink job'.sink → IsSameJob job job' → AreMet guest fault → FaultTellsSink fault (sinks.faults job.sink) (sinks.faults job'.sink)
-    → IsAtStart job old → MakesChosen choosers.chooses old job.chooser new (λ _. Unit {0})
-    → (fault ≡ None → HasHalted new ⊎ IsDone choosers new job'.chooser)
-    → (fault ≡ None → HasHalted new ⊎ MakesChosen choosers.chooses old job.chooser new (IsLeftWith choosers.chooses job'.chooser (state_of new.guest))) → LeavesWith new job' fault worked
-    → HasWorked choosers sinks (record { seat = seat; job = job }) worked
-worked {C = C} {O = O} {S = S} choosers sinks guest seat old new job job' fault out place same_seat begun drives same met sink start makes done left leaves =
+    → IsAtStart job old → MakesChosen choosers.chooses old job.chooser new (LeavesChooser choosers.chooses fault job'.chooser (state_of new.guest))
+    → (fault ≡ None → HasHalted new ⊎ IsDone choosers new job'.chooser) → LeavesWith new job' fault worked → HasWorked choosers sinks (record { seat = seat; job = job }) worked
+worked {C = C} {O = O} {S = S} choosers sinks guest seat old new job job' fault out place same_seat begun drives same met sink start makes done leaves =
     let begun' : IsDriven (opening_for old.seat.guest job) old [] = subst (λ (q : RecorderValue). IsDriven (opening_for q.guest job) old []) (sym same_seat) begun in
     let met' : AreMet new.seat.guest fault = subst (λ n. AreMet n fault) (place ∙ ap (λ (q : RecorderValue). q.guest) (sym same_seat) ∙ sym drives.goes.guest) met in
     let end = (state_of new.guest).ended in
     let low = leaves.seen in
     subst (λ (x : RecorderValue × Worked C O S). HasWorked choosers sinks (record { seat = x.0; job = job }) x.1) (λ i. (same_seat i, sym leaves.is i))
-    (has_worked choosers sinks old new job job' begun' drives same low start makes (Some new.guest) end fault met' sink (λ none. finish (done none) (left none)))
+    (has_worked choosers sinks old new job job' begun' drives same low start (Some new.guest) end fault met' sink makes
+    (λ none. finish (done none) (subst (λ (o : Option SessionFault). MakesChosen choosers.chooses old job.chooser new (LeavesChooser choosers.chooses o job'.chooser (state_of new.guest))) none makes)))
   where
     begun_here : IsDriven (opening_for old.seat.guest job) old []
     begun_here = subst (λ (q : RecorderValue). IsDriven (opening_for q.guest job) old []) (sym same_seat) begun
 
-    finish : HasHalted new ⊎ IsDone choosers new job'.chooser → HasHalted new ⊎ MakesChosen choosers.chooses old job.chooser new (IsLeftWith choosers.chooses job'.chooser (state_of new.guest)) → HasStopped drives.put (left_with new job' fault) ⊎ HasFinished choosers job drives.put (left_with new job' fault)
-    finish (inl halted) left = inl (stopped choosers sinks old new job job' begun_here drives same leaves.seen start makes (Some new.guest) (state_of new.guest).ended fault halted)
-    finish (inr done) (inl halted) = inl (stopped choosers sinks old new job job' begun_here drives same leaves.seen start makes (Some new.guest) (state_of new.guest).ended fault halted)
-    finish (inr done) (inr left) = inr (finished choosers sinks old new job job' begun_here drives same leaves.seen start makes (Some new.guest) (state_of new.guest).ended fault refl refl done.settled done.over left)
+    finish : HasHalted new ⊎ IsDone choosers new job'.chooser → MakesChosen choosers.chooses old job.chooser new (IsLeftWith choosers.chooses job'.chooser (state_of new.guest)) → HasStopped drives.put (left_with new job' fault) ⊎ HasFinished choosers job drives.put (left_with new job' fault)
+    finish (inl halted) left = inl (stopped choosers sinks old new job job' begun_here drives same leaves.seen start (Some new.guest) (state_of new.guest).ended fault halted)
+    finish (inr done) left = inr (finished choosers sinks old new job job' begun_here drives same leaves.seen start (Some new.guest) (state_of new.guest).ended fault refl refl done.settled done.over left)
 
 -- a worker that found no memory for its recorder
 pub worked_none : {C O S : Type 0} (choosers : Choosers C) (sinks : Sinks S) (task : Task C O S) (seat : RecorderValue) → seat ≡ record task.seat { has_left = true } → task.seat.sent ≡ []
@@ -261,9 +273,10 @@ worked_none choosers sinks task seat is none =
       group = ap (λ (q : RecorderValue). q.group) is;
       guest = ap (λ (q : RecorderValue). q.guest) is;
       left = ap (λ (q : RecorderValue). q.has_left) is;
-      job = record { elf = refl; name = refl; random = refl };
+      job = record { elf = refl; name = refl; random = refl; every = refl };
       sent = inl sent;
-      chosen = subst (λ (l : List Record). HasChosen choosers.chooses task.job l (λ _ _. Unit {0})) (sym sent) (none_chosen choosers.chooses task.job);
+      chosen = subst (λ (l : List Record). HasChosenOn choosers.chooses task.job l (LeavesChooser choosers.chooses (Some faults.Memory) task.job.chooser)) (sym sent)
+          (none_on choosers.chooses task.job (LeavesChooser choosers.chooses (Some faults.Memory) task.job.chooser) (inl refl));
       put = [];
       takes = λ t. sym (append-nil (sinks.taken task.job.sink));
       output = none_put seat.seen seat.sent sent;

@@ -1,5 +1,6 @@
 -- Which choices lie behind a job's frames.
-use Rattle.std.specs.Prelude.{◌≡◌, ◌⊎◌, ◌+◌, ◌<◌, ◌^◌, List, [], ◌++◌, None, vec_items}
+use Rattle.std.specs.Prelude.{◌≡◌, ◌⊎◌, ◌+◌, ◌<◌, ◌^◌, List, [], ◌++◌, Option, None, Some, Result, Ok, Err, vec_items}
+use Rattle.rrv_model.specs.declared.record.Choice.{Choice}
 use Rattle.rrv_model.specs.declared.record.Frame.{Frame}
 use Rattle.rrv_model.specs.declared.record.Record.{Record}
 use Rattle.rrv_model.specs.Opening.{opening_state}
@@ -9,9 +10,13 @@ use Rattle.rrv_model.specs.StateAt.{total}
 use Rattle.guest_calls.specs.Guest.{state_of}
 use Rattle.serial_sched.specs.Chosen.{Choosing, AreChosen, Picks}
 use Rattle.recorder.specs.Recorders.{GuestRecorder, made}
+use Rattle.session.specs.declared.fault.SessionFault.{SessionFault}
+use Rattle.session.specs.declared.fault.SessionFault.TheVariants as faults
 use Rattle.session.specs.declared.job.Job.{Job}
 use Rattle.session.specs.declared.rounds.Turn.{Turn}
 use Rattle.session.specs.declared.rounds.Turn.TheVariants as turns
+use Rattle.session.specs.declared.rounds.WorkFault.{WorkFault}
+use Rattle.session.specs.declared.rounds.WorkFault.TheVariants as work_faults
 
 -- the frames among the records
 abbrev pub frames_in : List Record → List Frame
@@ -25,6 +30,29 @@ start_of job = opening_state (vec_items job.elf) (vec_items job.name) job.random
 abbrev pub IsLeftWith : {C : Type 0} → Choosing C → (new : C) → State → (last : C) → Type 0
 IsLeftWith chooses new s last = (new ≡ last) ⊎ Picks chooses s last None new
 
+-- it is the same chooser, but where it was asked once more in this state
+abbrev pub IsAskedOnce : {C : Type 0} → Choosing C → (new : C) → State → (last : C) → Type 0
+IsAskedOnce chooses new s last = (new ≡ last) ⊎ ((choice : Option Choice) × Picks chooses s last choice new)
+
+-- What a worker leaves of the chooser that its frames lead to, by what it met: a choice is lost only for want of memory.
+abbrev pub LeavesChooser : {C : Type 0} → Choosing C → Option SessionFault → (new : C) → State → (last : C) → Type 0
+LeavesChooser chooses None new s last = IsLeftWith chooses new s last
+LeavesChooser chooses (Some faults.DeviceFailed) new s last = IsLeftWith chooses new s last
+LeavesChooser chooses (Some (faults.SinkFailed guest)) new s last = IsLeftWith chooses new s last
+LeavesChooser chooses (Some (faults.Held guest)) new s last = new ≡ last
+LeavesChooser chooses (Some faults.Memory) new s last = IsAskedOnce chooses new s last
+LeavesChooser chooses (Some faults.TooManyGuests) new s last = IsLeftWith chooses new s last
+LeavesChooser chooses (Some faults.StoreFull) new s last = IsLeftWith chooses new s last
+LeavesChooser chooses (Some (faults.BadOpening guest)) new s last = IsLeftWith chooses new s last
+
+-- so by what its rounds came to
+abbrev pub WorkLeaves : {C : Type 0} → Choosing C → Result Unit WorkFault → (new : C) → State → (last : C) → Type 0
+WorkLeaves chooses (Ok done) new s last = IsLeftWith chooses new s last
+WorkLeaves chooses (Err work_faults.Halted) new s last = IsLeftWith chooses new s last
+WorkLeaves chooses (Err work_faults.SinkFailed) new s last = IsLeftWith chooses new s last
+WorkLeaves chooses (Err work_faults.Held) new s last = new ≡ last
+WorkLeaves chooses (Err work_faults.Memory) new s last = IsAskedOnce chooses new s last
+
 -- The frames of these records are the slices of what the job's chooser chose, from the guest's start on. So is what this
 -- says of the state and the chooser that they lead to.
 pub record HasChosen {C O S : Type 0} (chooses : Choosing C) (job : Job C O S) (records : List Record)
@@ -32,6 +60,15 @@ pub record HasChosen {C O S : Type 0} (chooses : Choosing C) (job : Job C O S) (
   pub state : State
   pub last : C
   pub chosen : AreChosen chooses (start_of job) job.chooser (frames_in records) state last
+  pub ends : Ends state last
+
+-- So are the frames of these records, and some that were made behind them.
+pub record HasChosenOn {C O S : Type 0} (chooses : Choosing C) (job : Job C O S) (records : List Record)
+    (Ends : State → C → Type 0) : Type 0 where
+  pub behind : List Frame
+  pub state : State
+  pub last : C
+  pub chosen : AreChosen chooses (start_of job) job.chooser (frames_in records ++ behind) state last
   pub ends : Ends state last
 
 -- the frames that a recorder made are the slices of what the chooser chose, whose steps its guest counts as far as it can;

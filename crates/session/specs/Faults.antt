@@ -42,6 +42,21 @@ IsLower (Some a) None lower = lower ≡ Some a
 IsLower (Some a) (Some b) lower =
     ((lower ≡ Some a) × IsNoLater a b) ⊎ ((lower ≡ Some b) × IsNoLater b a)
 
+-- the fault that is told, if one is
+abbrev pub told_of : {T : Type 0} → Result T SessionFault → Option SessionFault
+told_of (Ok report) = None
+told_of (Err fault) = Some fault
+
+-- the session may meet it beside its workers
+abbrev pub IsSessions : SessionFault → Type 0
+IsSessions faults.DeviceFailed = Unit {0}
+IsSessions (faults.SinkFailed guest) = ⊥
+IsSessions (faults.Held guest) = ⊥
+IsSessions faults.Memory = Unit {0}
+IsSessions faults.TooManyGuests = Unit {0}
+IsSessions faults.StoreFull = Unit {0}
+IsSessions (faults.BadOpening guest) = Unit {0}
+
 -- How a refusal of the flusher is told. It finds the group halted only where no thread could be made for a worker.
 abbrev pub flush_told : FlushFault → SessionFault
 flush_told flushes.DeviceFailed = faults.DeviceFailed

@@ -1,5 +1,5 @@
 -- What a session gives.
-use Rattle.std.specs.Prelude.{◌≡◌, ◌⊎◌, ℕ, ◌+◌, ◌<◌, ◌≤◌, true, false, List, [], ◌∷◌, ◌++◌, length, slice_get, Some, Result, Ok, Err, IfErr, IsErrAnd, Vec, vec_items}
+use Rattle.std.specs.Prelude.{◌≡◌, ◌⊎◌, ℕ, ◌+◌, ◌<◌, ◌≤◌, max, true, false, List, [], ◌∷◌, ◌++◌, length, slice_get, Option, None, Some, Result, Ok, Err, IfErr, IsErrAnd, Vec, vec_items}
 use Rattle.std.specs.List.{AllByRecursion}
 use Rattle.std.specs.declared.alloc.Global.{Global}
 use Rattle.rrv_model.specs.declared.record.Record.{Record}
@@ -16,11 +16,12 @@ use Rattle.session.specs.declared.fault.SessionFault.TheVariants as faults
 use Rattle.session.specs.declared.job.Job.{Job}
 use Rattle.session.specs.declared.report.GuestReport.{GuestReport}
 use Rattle.session.specs.declared.task.Worked.{Worked}
-use Rattle.session.specs.Faults.{IsNoLater}
+use Rattle.session.specs.Faults.{IsLowest, IsNoLater, IsSessions, told_of}
 use Rattle.session.specs.Gains.{Device, HasGained, IsFull}
-use Rattle.session.specs.Chosen.{HasChosen}
+use Rattle.session.specs.Chosen.{HasChosen, HasChosenOn, LeavesChooser}
 use Rattle.session.specs.Openings.{IsFirstBad}
-use Rattle.session.specs.Works.{Choosers, Sinks, HasChosenAll, IsBehind, IsSameJob, IsToItsEnd, Takes, opening_for}
+use Rattle.session.specs.Tasks.{all_met}
+use Rattle.session.specs.Works.{AreMet, Choosers, FaultTellsSink, Sinks, HasChosenAll, IsBehind, IsSameJob, IsToItsEnd, Takes, opening_for}
 
 -- there is no record, or they are a recording of this guest, its opening's first
 abbrev pub IsRecordingOrNone : Record → ℕ → List Record → Type 0
@@ -83,12 +84,14 @@ pub record IsLeft {D : Type 0} (device : Device D) (log : LogValue D) (bodies : 
   pub above : next_guest earlier ≤ log.next_guest
 
 -- These records were committed, whatever bodies the log kept before: of each job what was recorded so far, and no others. So
--- are these with the batch in hand, in a body that a call of the disk failed to commit.
+-- are these with the batch in hand, in a body that a call of the disk failed to commit. The log's next guest is one above
+-- the greatest number committed, and as before where nothing was.
 pub record HasRun {C O S D : Type 0} (choosers : Choosers C) (sinks : Sinks S) (device : Device D)
     (committed : List Record) (log log' : LogValue D) (jobs jobs' : List (Job C O S)) : Type 0 where
   pub batch : List Record
   pub gained : (bodies : List (List ℕ)) (earlier : List Record)
       → IsLeft device log bodies earlier → HasGained device committed batch log log' bodies earlier
+  pub next : log'.next_guest ≡ max log.next_guest (next_guest committed)
   pub only : AllByRecursion (IsPlaced log.next_guest (length jobs)) (committed ++ batch)
   pub recorded : AreRecorded choosers sinks committed log.next_guest jobs jobs'
   pub in_hand : AreRecorded choosers sinks (committed ++ batch) log.next_guest jobs jobs'
@@ -147,6 +150,37 @@ TellsSinks {C = C} {O = O} {S = S} sinks result jobs jobs' =
 abbrev pub TellsBadJob : {T : Type 0} → Result T SessionFault → ℕ → Type 0
 TellsBadJob result guest = IsErrAnd result (λ fault. (fault ≡ faults.BadOpening guest)
     ⊎ ((fault ≡ faults.Memory) ⊎ (fault ≡ faults.TooManyGuests)))
+
+-- What the worker of the guest at this place met: a fault of its own, with a refusal of its sink if it is that, or none.
+-- Then the guest is recorded to its end, unless the session met a fault that is no worker's. Its job's chooser comes back
+-- as the frames left it that were made, committed or not; a choice is lost only for want of memory.
+pub record HasMet {C O S : Type 0} (choosers : Choosers C) (sinks : Sinks S) (others : List SessionFault)
+    (committed : List Record) (first place : ℕ) (old new : Job C O S) (met : Option SessionFault) : Type 0 where
+  pub is_own : AreMet place met
+  pub sink : FaultTellsSink met (sinks.faults old.sink) (sinks.faults new.sink)
+  pub whole : met ≡ None → others ≡ []
+      → (report : GuestReport) × IsReported choosers sinks (first + place) committed old new report
+  pub chosen : HasChosenOn choosers.chooses old (of_guest (first + place) committed)
+      (LeavesChooser choosers.chooses met new.chooser)
+
+-- so each worker, of the jobs from this place on
+abbrev pub HaveMet : {C O S : Type 0} → Choosers C → Sinks S → List SessionFault → List Record → ℕ → ℕ
+    → (jobs jobs' : List (Job C O S)) → List (Option SessionFault) → Type 0
+HaveMet choosers sinks others committed first place [] [] [] = Unit {0}
+HaveMet choosers sinks others committed first place (old ∷ olds) (new ∷ news) (met ∷ mets) =
+    HasMet choosers sinks others committed first place old new met
+    × HaveMet choosers sinks others committed first (place + 1) olds news mets
+HaveMet choosers sinks others committed first place _ _ _ = ⊥
+
+-- Of the faults that the workers met, and the others of the session, the first is told: by its kind, and then of the
+-- lowest guest.
+pub record TellsFirst {C O S T : Type 0} (choosers : Choosers C) (sinks : Sinks S) (committed : List Record) (first : ℕ)
+    (result : Result T SessionFault) (jobs jobs' : List (Job C O S)) : Type 0 where
+  pub others : List SessionFault
+  pub others_are : AllByRecursion IsSessions others
+  pub met : List (Option SessionFault)
+  pub each : HaveMet choosers sinks others committed first 0 jobs jobs' met
+  pub lowest : IsLowest (others ++ all_met met) (told_of result)
 
 -- ---- reports
 

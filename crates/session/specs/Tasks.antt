@@ -35,6 +35,11 @@ abbrev pub met_once : Option SessionFault → List SessionFault
 met_once None = []
 met_once (Some fault) = fault ∷ []
 
+-- those that are faults
+abbrev pub all_met : List (Option SessionFault) → List SessionFault
+all_met [] = []
+all_met (met ∷ rest) = met_once met ++ all_met rest
+
 -- the faults that the workers met, in order
 abbrev pub faults_met : {C O S : Type 0} → List (Worked C O S) → List SessionFault
 faults_met [] = []

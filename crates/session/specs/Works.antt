@@ -19,7 +19,7 @@ use Rattle.session.specs.declared.fault.SessionFault.TheVariants as faults
 use Rattle.session.specs.declared.job.Job.{Job}
 use Rattle.session.specs.declared.task.Task.{Task}
 use Rattle.session.specs.declared.task.Worked.{Worked}
-use Rattle.session.specs.Chosen.{HasChosen, IsLeftWith, frames_in}
+use Rattle.session.specs.Chosen.{HasChosen, HasChosenOn, IsLeftWith, LeavesChooser, frames_in}
 
 -- what a type of sinks, and what one of choosers, says of each
 abbrev pub Sinks : Type 0 → Type 1
@@ -39,6 +39,7 @@ pub record IsSameJob {C O S : Type 0} (old new : Job C O S) : Type 0 where
   pub elf : vec_items new.elf ≡ vec_items old.elf
   pub name : vec_items new.name ≡ vec_items old.name
   pub random : new.random ≡ old.random
+  pub every : new.every ≡ old.every
 
 -- the records of this guest are a recording, its opening's first, that ends in this state
 pub record IsRecordedFrom (opening : Record) (guest : ℕ) (records : List Record) (s : State) : Type 0 where
@@ -122,10 +123,10 @@ pub record HasStopped {C O S : Type 0} (put : List (ℕ × ℕ)) (new : Worked C
   pub knows : new.seat.knows_halt ≡ true
   pub output : IsAllOutput put (take new.seat.seen new.seat.sent)
 
--- The seat and the job are the same, and the seat has left. What was sent is nothing, or a recording of the job's opening, whose
--- frames the job's chooser chose. The sink took a
--- beginning of the output of those records that were seen to be durable. The guest is recorded to its end, unless the
--- worker met a fault or found the group halted.
+-- The seat and the job are the same, and the seat has left. What was sent is nothing, or a recording of the job's opening,
+-- whose frames the job's chooser chose, with those that were not sent. The sink took a beginning of the output of those
+-- records that were seen to be durable. The guest is recorded to its end, unless the worker met a fault or found the group
+-- halted.
 pub record HasWorked {C O S : Type 0} (choosers : Choosers C) (sinks : Sinks S)
     (old : Task C O S) (new : Worked C O S) : Type 0 where
   pub group : new.seat.group ≡ old.seat.group
@@ -133,7 +134,8 @@ pub record HasWorked {C O S : Type 0} (choosers : Choosers C) (sinks : Sinks S)
   pub left : new.seat.has_left ≡ true
   pub job : IsSameJob old.job new.job
   pub sent : IsBegun (opening_for new.seat.guest new.job) new.seat.guest new.seat.sent
-  pub chosen : HasChosen choosers.chooses old.job new.seat.sent (λ _ _. Unit {0})
+  pub chosen : HasChosenOn choosers.chooses old.job new.seat.sent
+      (LeavesChooser choosers.chooses new.fault new.job.chooser)
   pub put : List (ℕ × ℕ)
   pub takes : Takes sinks old.job.sink new.job.sink put
   pub output : IsOutput put (take new.seat.seen new.seat.sent)

@@ -5,7 +5,7 @@ ghost use Rattle.guest_calls.specs.Guest.{state_of};
 ghost use Rattle.serial_sched.specs.Chosen.{Picks};
 ghost use Rattle.recorder.specs.RecorderCalls.{KeepsMade};
 ghost use Rattle.recorder.specs.Recorders.{IsSettled, made};
-ghost use Rattle.session.specs.Chosen.{IsLeftWith, MakesChosen, TurnLeaves};
+ghost use Rattle.session.specs.Chosen.{IsAskedOnce, MakesChosen, TurnLeaves, WorkLeaves};
 ghost use Rattle.session.specs.Drives.{CallTellsSink, Drives, GoesOn, HasHalted, HasSent, IsOver, WorkTellsSink, next_held, work_told};
 ghost use Rattle.session.specs.declared.rounds.WorkFault.TheVariants as work_faults;
 
@@ -85,6 +85,7 @@ fn choose<C: Chooser>(
     ensures done { IfOk result (λ choice. choice ≡ None → C.is_done chooser.new) }
     ensures picks { IfOk result (λ choice.
         Picks C.chooses (state_of guest.now) chooser.old choice chooser.new) }
+    ensures same { OnErr result (chooser.new ≡ chooser.old) }
 {
     let runnable = guest.running(alloc)?;
     if runnable.is_empty() {
@@ -116,7 +117,8 @@ fn take_turn<C: Chooser, O: Outside, G: Gate>(
     ensures waits { IfOk result (λ turn. turn ≡ Turn.Waits
         → length recorder.new.seat.sent ≢ length (made recorder.new)) }
     ensures memory { IfErr result (λ e. e ≡ WorkFault.Memory) }
-    ensures chosen { OnErr result (MakesChosen C.chooses recorder.old chooser.old recorder.new (λ _. Unit {0})) }
+    ensures chosen { OnErr result (MakesChosen C.chooses recorder.old chooser.old recorder.new
+        (IsAskedOnce C.chooses chooser.new (state_of recorder.new.guest))) }
     ensures turn { IfOk result (λ turn. MakesChosen C.chooses recorder.old chooser.old recorder.new
         (TurnLeaves C.chooses turn chooser.new (state_of recorder.new.guest))) }
 {
@@ -202,9 +204,8 @@ fn make_frames<C: Chooser, O: Outside, S: Sink, G: Gate, R: Wait>(
 ) -> Result<(), WorkFault>
     ensures drives { Drives S.Sink recorder.old recorder.new sink.old sink.new }
     ensures over { OnOk result (IsOver C.Chooser recorder.new chooser.new) }
-    ensures chosen { MakesChosen C.chooses recorder.old chooser.old recorder.new (λ _. Unit {0}) }
-    ensures left { OnOk result (MakesChosen C.chooses recorder.old chooser.old recorder.new
-        (IsLeftWith C.chooses chooser.new (state_of recorder.new.guest))) }
+    ensures chosen { MakesChosen C.chooses recorder.old chooser.old recorder.new
+        (WorkLeaves C.chooses result chooser.new (state_of recorder.new.guest)) }
     ensures halted { result ≡ Err WorkFault.Halted → HasHalted recorder.new }
     ensures sink { WorkTellsSink result (S.faults sink.old) (S.faults sink.new) }
 {
@@ -232,9 +233,8 @@ pub(crate) fn drive<C: Chooser, O: Outside, S: Sink, G: Gate, R: Wait>(
 ) -> Result<(), WorkFault>
     ensures drives { Drives S.Sink recorder.old recorder.new sink.old sink.new }
     ensures over { OnOk result (IsOver C.Chooser recorder.new chooser.new) }
-    ensures chosen { MakesChosen C.chooses recorder.old chooser.old recorder.new (λ _. Unit {0}) }
-    ensures left { OnOk result (MakesChosen C.chooses recorder.old chooser.old recorder.new
-        (IsLeftWith C.chooses chooser.new (state_of recorder.new.guest))) }
+    ensures chosen { MakesChosen C.chooses recorder.old chooser.old recorder.new
+        (WorkLeaves C.chooses result chooser.new (state_of recorder.new.guest)) }
     ensures settled { OnOk result (IsSettled recorder.new) }
     ensures halted { result ≡ Err WorkFault.Halted → HasHalted recorder.new }
     ensures sink { WorkTellsSink result (S.faults sink.old) (S.faults sink.new) }

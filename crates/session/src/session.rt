@@ -4,7 +4,7 @@ ghost use Rattle.std.specs.Prelude.{◌≡◌, ◌<◌, ◌≤◌, ◌+◌, ℕ,
 ghost use Rattle.rrv_model.specs.declared.record.Record.{Record};
 ghost use Rattle.std.specs.List.{AllByRecursion};
 ghost use Rattle.session.specs.Openings.{IsFirstBad, StartsGuest};
-ghost use Rattle.session.specs.Sessions.{AreLeft, AreReported, AreTooMany, AreUntouched, HasRun, RefusesSession, TellsBadJob, TellsDevice, TellsSinks};
+ghost use Rattle.session.specs.Sessions.{AreLeft, AreReported, AreTooMany, AreUntouched, HasRun, RefusesSession, TellsBadJob, TellsDevice, TellsFirst, TellsSinks};
 
 use crate::fault::SessionFault;
 use crate::gate::Gate;
@@ -51,7 +51,8 @@ fn record_some<
     requires numbers { log.next_guest + length jobs.items ≤ 4294967295 }
     ensures recorded { (committed : List Record) × HasRun C.Chooser S.Sink D.Disk committed log result.0
         jobs.items result.1.items × IfOk result.2 (λ r. AreReported C.Chooser S.Sink committed log.next_guest
-        jobs.items result.1.items r.guests.items × AreLeft committed log.next_guest result.1.items r.states.items) }
+        jobs.items result.1.items r.guests.items × AreLeft committed log.next_guest result.1.items r.states.items)
+        × TellsFirst C.Chooser S.Sink committed log.next_guest result.2 jobs.items result.1.items }
     ensures whole { OnOk result.2 (result.0.is_broken ≡ false) }
     ensures refused { IfErr result.2 (RefusesSession log result.0 jobs result.1) }
     ensures disk { TellsDevice result.2 (D.faults log.disk) (D.faults result.0.disk) }
@@ -117,7 +118,8 @@ pub fn record_all<
     requires whole { log.is_broken ≡ false }
     ensures recorded { (committed : List Record) × HasRun C.Chooser S.Sink D.Disk committed log result.0
         jobs.items result.1.items × IfOk result.2 (λ r. AreReported C.Chooser S.Sink committed log.next_guest
-        jobs.items result.1.items r.guests.items × AreLeft committed log.next_guest result.1.items r.states.items) }
+        jobs.items result.1.items r.guests.items × AreLeft committed log.next_guest result.1.items r.states.items)
+        × TellsFirst C.Chooser S.Sink committed log.next_guest result.2 jobs.items result.1.items }
     ensures whole { OnOk result.2 (result.0.is_broken ≡ false) }
     ensures starts { OnOk result.2 (AllByRecursion StartsGuest jobs.items) }
     ensures refused { IfErr result.2 (RefusesSession log result.0 jobs result.1) }

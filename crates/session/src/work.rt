@@ -3,7 +3,7 @@
 ghost use Rattle.std.specs.Prelude.{◌≡◌, ◌⊎◌, [], true, IfErr, IfOk, None};
 ghost use Rattle.guest_calls.specs.Guest.{state_of};
 ghost use Rattle.recorder.specs.RecorderCalls.{KeepsMade};
-ghost use Rattle.session.specs.Chosen.{IsAtStart, IsLeftWith, MakesChosen};
+ghost use Rattle.session.specs.Chosen.{IsAtStart, LeavesChooser, MakesChosen};
 ghost use Rattle.session.specs.Drives.{Drives, GoesOn, HasHalted, HasSent, IsDone, IsDriven, LeavesWith, fault_told};
 ghost use Rattle.session.specs.Works.{AreMet, FaultTellsSink, HasWorked, IsFresh, IsSameJob, opening_for};
 
@@ -94,9 +94,8 @@ fn record<C: Chooser + Drop, O: Outside + Drop, S: Sink + Drop, G: Gate, R: Wait
     ensures job { IsSameJob job.old job.new }
     ensures met { AreMet place.now.guest result }
     ensures done { result ≡ None → HasHalted recorder.new ⊎ IsDone C.Chooser recorder.new job.new.chooser }
-    ensures chosen { MakesChosen C.chooses recorder.old job.old.chooser recorder.new (λ _. Unit {0}) }
-    ensures left { result ≡ None → HasHalted recorder.new ⊎ MakesChosen C.chooses recorder.old job.old.chooser
-        recorder.new (IsLeftWith C.chooses job.new.chooser (state_of recorder.new.guest)) }
+    ensures chosen { MakesChosen C.chooses recorder.old job.old.chooser recorder.new
+        (LeavesChooser C.chooses result job.new.chooser (state_of recorder.new.guest)) }
     ensures rest { HasSent recorder.new }
     ensures sink { FaultTellsSink result (S.faults job.old.sink) (S.faults job.new.sink) }
 {

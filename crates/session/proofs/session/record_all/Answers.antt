@@ -2,15 +2,20 @@ use Rattle.std.proofs.Common.{rules, arith, ◌≡◌, [], refl, subst}
 use Rattle.std.specs.Prelude.{slice_get, Some}
 use Rattle.session.specs.declared.fault.SessionFault.TheVariants as faults
 use Rattle.session.specs.declared.report.SessionReport.{SessionReport}
-use Rattle.session.proofs.Told.{bad_told, job_is_no_device, job_is_no_sink, none_is_bad, none_there, other_than_sink, sinks_rest, steady_told}
+use Rattle.session.proofs.Told.{bad_told, job_is_no_device, job_is_no_sink, job_is_sessions, none_is_bad, none_there, other_than_sink, sinks_rest, steady_told}
 use Rattle.session.proofs.Pairs.{none_left}
 use Rattle.session.specs.Openings.{RefusesJobs}
 use Rattle.session.proofs.Refusals.{job_tells}
-use Rattle.session.proofs.Sessions.{none_left_behind, none_reported, nothing_ran}
+use Rattle.session.proofs.Sessions.{none_left_behind, none_reported, nothing_ran, tells_alone, tells_none}
 use Rattle.session.proofs.session.record_all.Goals as goal
 
 pub returns-then-count-clause-recorded : goal.returns-then-count-clause-recorded
-returns-then-count-clause-recorded g c = ([], nothing_ran g.D.Disk g.C.Chooser g.S.Sink c.args.log c.args.jobs.items, tt)
+returns-then-count-clause-recorded g c = (
+  [],
+  nothing_ran g.D.Disk g.C.Chooser g.S.Sink c.args.log c.args.jobs.items,
+  tt,
+  tells_alone g.D.Disk g.C.Chooser g.S.Sink SessionReport faults.TooManyGuests tt c.args.log.next_guest c.args.jobs.items,
+)
 
 pub returns-then-count-eq0-clause-recorded : goal.returns-then-count-eq0-clause-recorded
 returns-then-count-eq0-clause-recorded g c = (
@@ -20,10 +25,16 @@ returns-then-count-eq0-clause-recorded g c = (
     none_reported g.C.Chooser g.S.Sink c.args.log.next_guest c.args.jobs.items c.new.result.items (none_left c.args.jobs.items (search rules)) c.new.ensures.items,
     none_left_behind c.args.log.next_guest c.args.jobs.items c.new-then-count-eq0.result.items (none_left c.args.jobs.items (search rules)) c.new-then-count-eq0.ensures.items,
   ),
+  tells_none g.D.Disk g.C.Chooser g.S.Sink SessionReport _ c.args.log.next_guest c.args.jobs.items (none_left c.args.jobs.items (search rules)),
 )
 
 pub returns-in-Err-clause-recorded : goal.returns-in-Err-clause-recorded
-returns-in-Err-clause-recorded g c = ([], nothing_ran g.D.Disk g.C.Chooser g.S.Sink c.args.log c.args.jobs.items, tt)
+returns-in-Err-clause-recorded g c = (
+  [],
+  nothing_ran g.D.Disk g.C.Chooser g.S.Sink c.args.log c.args.jobs.items,
+  tt,
+  tells_alone g.D.Disk g.C.Chooser g.S.Sink SessionReport c.in-Err.fault (job_is_sessions _ _ c.in-Err.ensures.refused) c.args.log.next_guest c.args.jobs.items,
+)
 
 pub returns-in-Err-clause-refused : goal.returns-in-Err-clause-refused
 returns-in-Err-clause-refused g c = job_tells c.args.log c.args.jobs c.in-Err.fault c.requires.whole (subst (λ l. RefusesJobs l c.in-Err.fault) c.deref.ensures.value c.in-Err.ensures.refused)

@@ -1,5 +1,5 @@
 use Rattle.std.proofs.Common.{rules, arith, ◌≡◌, [], ◌++◌, length, sym, ap, ◌∙◌, subst}
-use Rattle.std.specs.Prelude.{slice_get, Option, Some}
+use Rattle.std.specs.Prelude.{slice_get, Err, Option, Some}
 use Rattle.commit_group.specs.Seats.{AllNew, AllOf, GroupId}
 use Rattle.session.specs.declared.fault.SessionFault.{SessionFault}
 use Rattle.session.specs.declared.report.SessionReport.{SessionReport}
@@ -13,12 +13,17 @@ use Rattle.session.proofs.Recorded.{all_numbered}
 use Rattle.session.proofs.Refusals.{lowest_tells}
 use Rattle.session.specs.declared.fault.SessionFault.TheVariants as faults
 use Rattle.session.proofs.Told.{device_told, none_meets, other_than_sink, sinks_err, sinks_ok, sinks_rest, steady_where_none}
-use Rattle.session.proofs.Sessions.{AreJoined, flusher_met_none, has_left, has_reported, has_run, nothing_ran}
+use Rattle.session.proofs.Sessions.{AreJoined, flusher_met_none, has_left, has_reported, has_run, nothing_ran, tells_alone, tells_first}
 use Rattle.session.proofs.Tasks.{all_fresh, all_of, jobs_length, seats_length, worked_length}
 use Rattle.session.proofs.session.record_some.Goals as goal
 
 pub returns-in_default-clause-recorded : goal.returns-in_default-clause-recorded
-returns-in_default-clause-recorded g c = ([], nothing_ran g.D.Disk g.C.Chooser g.S.Sink c.args.log c.args.jobs.items, tt)
+returns-in_default-clause-recorded g c = (
+  [],
+  nothing_ran g.D.Disk g.C.Chooser g.S.Sink c.args.log c.args.jobs.items,
+  tt,
+  tells_alone g.D.Disk g.C.Chooser g.S.Sink SessionReport faults.Memory tt c.args.log.next_guest c.args.jobs.items,
+)
 
 pub run-done-requires-after_bounds : goal.run-done-requires-after_bounds
 run-done-requires-after_bounds g c κs within =
@@ -111,7 +116,16 @@ returns-in-Some-clause-recorded g c =
       each = λ k r at. (_, _, _, c.end.ensures.each k r (ap (λ l. slice_get l k) c.take_back.ensures.seats ∙ at));
     } in
     let run = has_run g.C.Chooser g.S.Sink g.D.Disk group c.in-Ok.room.flusher c.run-done.result.1 c.args.log c.run-done.result.2 c.run-done.result.3 T Z c.args.jobs.items c.take_back.new.jobs.items joined c.give.ensures.jobs c.take_back.ensures.jobs in
-    (c.run-done.result.1.committed, run, tt)
+    let jobs : length T ≡ length c.args.jobs.items = sym (jobs_length T) ∙ ap length c.give.ensures.jobs in
+    let r = c.requires.numbers in
+    let met = flusher_met c.run-done.result.3 in
+    let lowest = subst (λ l. IsLowest (met ++ faults_met l) (Some c.in-Some.fault)) c.deref.ensures.value (subst (λ (o : Option SessionFault). IsLowest (met ++ faults_met c.deref.result.now) o) c.in-Some.is c.lowest_fault-lowest.ensures) in (
+      c.run-done.result.1.committed,
+      run,
+      tt,
+      tells_first g.C.Chooser g.S.Sink g.D.Disk group c.in-Ok.room.flusher c.run-done.result.1 c.args.log c.run-done.result.2 c.run-done.result.3 T Z SessionReport (Err c.in-Some.fault) c.args.jobs.items
+          c.take_back.new.jobs.items joined c.give.ensures.jobs c.take_back.ensures.jobs (omega arith) lowest,
+    )
 
 pub returns-clause-recorded : goal.returns-clause-recorded
 returns-clause-recorded g c =
@@ -144,6 +158,8 @@ returns-clause-recorded g c =
         has_left g.C.Chooser g.S.Sink g.D.Disk group c.in-Ok.room.flusher c.run-done.result.1 c.args.log c.run-done.result.2 c.run-done.result.3 T Z c.take_back.new.jobs.items c.take_back.new.states.items
             joined c.take_back.ensures.jobs c.take_back.ensures.states none,
       ),
+      tells_first g.C.Chooser g.S.Sink g.D.Disk group c.in-Ok.room.flusher c.run-done.result.1 c.args.log c.run-done.result.2 c.run-done.result.3 T Z SessionReport _ c.args.jobs.items
+          c.take_back.new.jobs.items joined c.give.ensures.jobs c.take_back.ensures.jobs (omega arith) none,
     )
 
 pub returns-in-Some-clause-refused : goal.returns-in-Some-clause-refused
