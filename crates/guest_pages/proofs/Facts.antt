@@ -56,7 +56,7 @@ fits : (n : ℕ) (p : Option PageValue) (k : ℕ) → IfSome p (IsPage n) → Fi
 fits n None k h = tt
 fits n (Some p) k h = (h.bytes k, h.readable)
 
-none_outside : (pages : PageMap) → AreEachPage pages → (n : ℕ) → (1 ≤ n → n < 0x80000 → ⊥) → page_at pages n ≡ None
+pub none_outside : (pages : PageMap) → AreEachPage pages → (n : ℕ) → (1 ≤ n → n < 0x80000 → ⊥) → page_at pages n ≡ None
 none_outside pages h n out = by_page (page_at pages n) (h n) where
   by_page : (p : Option PageValue) → IfSome p (IsPage n) → p ≡ None
   by_page None i = refl

@@ -12,3 +12,4 @@ pub mod WholePages
 pub mod OwnPages
 pub mod Spaces
 pub mod PutRefusals
+pub mod Live

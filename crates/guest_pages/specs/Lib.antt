@@ -4,3 +4,4 @@ pub mod Mapping
 pub mod Snapshots
 pub mod Stores
 pub mod WholePages
+pub mod Live

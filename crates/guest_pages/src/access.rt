@@ -5,6 +5,7 @@ ghost use Rattle.std.specs.Int.{w8, w16, w32, to_le_bytes};
 ghost use Rattle.rrv_model.specs.Memory.{byte_or_zero, bytes_at, page_bytes, readable, writable, all_cells, stored};
 ghost use Rattle.page_tables.specs.Contents.{contents_of};
 ghost use Rattle.page_tables.specs.Changes.{IsOwn};
+ghost use Rattle.guest_pages.specs.Live.{added_across, live_of};
 ghost use Rattle.guest_pages.specs.Space.{memory_of, snapshots_of, fetched_word, loaded_byte, loaded_half, loaded_word, cell_byte, page_at, page_passes, test_of, present, CanFill, IsLoadRefusal, IsStoreRefusal, KeepsOwn};
 
 use crate::address_space::Space;
@@ -192,6 +193,7 @@ impl Space {
         ensures refused { IfErr result (IsStoreRefusal (memory_of self.old) address 1) }
         ensures err { OnErr result (self.new ≡ self.old) }
         ensures snapshots { snapshots_of self.new ≡ snapshots_of self.old }
+        ensures live { OnOk result (live_of self.new ≡ live_of self.old + added_across self.old address 1) }
     {
         self.tables
             .put_byte(address / 4096, (address % 4096) as usize, value)?;
@@ -208,6 +210,7 @@ impl Space {
         ensures refused { IfErr result (IsStoreRefusal (memory_of self.old) address 2) }
         ensures err { OnErr result (self.new ≡ self.old) }
         ensures snapshots { snapshots_of self.new ≡ snapshots_of self.old }
+        ensures live { OnOk result (live_of self.new ≡ live_of self.old + added_across self.old address 2) }
     {
         let at = (address % 4096) as usize;
         if at > 4094 {
@@ -227,6 +230,7 @@ impl Space {
         ensures refused { IfErr result (IsStoreRefusal (memory_of self.old) address 4) }
         ensures err { OnErr result (self.new ≡ self.old) }
         ensures snapshots { snapshots_of self.new ≡ snapshots_of self.old }
+        ensures live { OnOk result (live_of self.new ≡ live_of self.old + added_across self.old address 4) }
     {
         let at = (address % 4096) as usize;
         if at > 4092 {
@@ -246,6 +250,8 @@ impl Space {
         ensures some { OnErr result (1 ≤ length bytes.now) }
         ensures err { OnErr result (self.new ≡ self.old) }
         ensures snapshots { snapshots_of self.new ≡ snapshots_of self.old }
+        ensures live { OnOk result (live_of self.new
+            ≡ live_of self.old + added_across self.old address (length bytes.now)) }
     {
         self.prepare(address, bytes.len())?;
         self.fill(address, bytes);
@@ -263,6 +269,7 @@ impl Space {
         ensures memory { memory_of self.new ≡ memory_of self.old }
         ensures err { OnErr result (self.new ≡ self.old) }
         ensures snapshots { snapshots_of self.new ≡ snapshots_of self.old }
+        ensures live { OnOk result (live_of self.new ≡ live_of self.old + added_across self.old address count) }
     {
         if !self.passes(address, count, Access::Presence) {
             return Err(PageFault::NotMapped);
@@ -288,6 +295,7 @@ impl Space {
         ensures memory { memory_of self.new ≡ memory_of self.old }
         ensures err { OnErr result (self.new ≡ self.old) }
         ensures snapshots { snapshots_of self.new ≡ snapshots_of self.old }
+        ensures live { OnOk result (live_of self.new ≡ live_of self.old + added_across self.old address count) }
     {
         let first = address / 4096;
         let last = ((u64::from(address) + count as u64 - 1) / 4096) as u32;
@@ -306,6 +314,7 @@ impl Space {
         requires { CanFill self.old address (length bytes.now) }
         ensures memory { memory_of self.new ≡ stored address bytes.now (memory_of self.old) }
         ensures snapshots { snapshots_of self.new ≡ snapshots_of self.old }
+        ensures live { live_of self.new ≡ live_of self.old }
         ensures own { KeepsOwn self.old self.new }
     {
         // the proof opens the space here, for what holds of its pages
@@ -319,6 +328,7 @@ impl Space {
         requires alone { (n : ℕ) → snapshots_of self.old n ≡ None }
         ensures memory { memory_of self.new ≡ stored address bytes.now (memory_of self.old) }
         ensures snapshots { snapshots_of self.new ≡ snapshots_of self.old }
+        ensures live { live_of self.new ≡ live_of self.old }
     {
         self.tables.all_own();
         self.fill_pages(address, bytes);
@@ -329,6 +339,7 @@ impl Space {
         requires low { address + length bytes.now ≤ 2 ^ 32 }
         ensures memory { memory_of self.new ≡ stored address bytes.now (memory_of self.old) }
         ensures snapshots { snapshots_of self.new ≡ snapshots_of self.old }
+        ensures live { live_of self.new ≡ live_of self.old }
         ensures own { KeepsOwn self.old self.new }
     {
         let mut at = u64::from(address);
@@ -348,6 +359,7 @@ impl Space {
         requires fits { address % 4096 + length bytes.now ≤ 4096 }
         ensures memory { memory_of self.new ≡ stored address bytes.now (memory_of self.old) }
         ensures snapshots { snapshots_of self.new ≡ snapshots_of self.old }
+        ensures live { live_of self.new ≡ live_of self.old }
         ensures own { KeepsOwn self.old self.new }
     {
         self.tables

@@ -1,9 +1,9 @@
 //! The address space.
 
-ghost use Rattle.std.specs.Prelude.{◌≡◌, ◌≢◌, ℕ, ◌+◌, ◌<◌, ◌≤◌, ◌^◌, OnOk, OnErr, IfErr, IfOk, IsTrue, IsSome, IsSomeAnd, Some, None, true, false, length, ◌%◌, ◌*◌, ◌/◌, ◌↔◌};
+ghost use Rattle.std.specs.Prelude.{◌≡◌, ◌≢◌, ℕ, ◌+◌, ◌<◌, ◌≤◌, ◌^◌, OnOk, OnErr, IfErr, IfOk, IsTrue, IsSome, IsSomeAnd, Some, None, true, false, length, ◌%◌, ◌*◌, ◌/◌, ◌↔◌, if◌then◌else◌};
 ghost use Rattle.std.specs.Result.{IsErrOf};
 ghost use Rattle.rrv_model.specs.Memory.{all_free, all_mapped, highest_free_up_to, mapped, no_memory, page_bytes, protected, unmapped, page_count, is_mapped, IsMemory};
-ghost use Rattle.page_tables.specs.Contents.{contents_of};
+ghost use Rattle.guest_pages.specs.Live.{HasNoSnapshot, SetsLive, added_for, added_in, freed_for, freed_in, live_of};
 ghost use Rattle.guest_pages.specs.Space.{memory_of, snapshots_of};
 ghost use Rattle.guest_pages.specs.Mapping.{AreOwnIn, IsMapRefusal, covered};
 ghost use Rattle.guest_pages.specs.Snapshots.{AreChanges, IsNextPage, IsPageOf};
@@ -48,6 +48,7 @@ impl Space {
     pub fn new(alloc: Global) -> Space
         ensures memory { memory_of result ≡ no_memory }
         ensures snapshots { (n : ℕ) → snapshots_of result n ≡ None }
+        ensures live { live_of result ≡ 0 }
     {
         Space {
             alloc,
@@ -56,11 +57,14 @@ impl Space {
         }
     }
 
-    /// How many pages there are in all: those of the space and of its live snapshots, a shared one counted once. It takes no
-    /// memory.
+    /// How many pages there are in all: those of the space and of its live snapshots, a shared one counted once. With no snapshot
+    /// they are those that are mapped. It takes no memory.
     pub fn live(&self) -> usize
-        ensures { result ≡ (contents_of self.now).live }
+        ensures count { result ≡ live_of self.now }
+        ensures least { page_count (memory_of self.now) ≤ result }
+        ensures alone { HasNoSnapshot self.now → result ≡ page_count (memory_of self.now) }
     {
+        self.tables.all_own();
         self.tables.live()
     }
 
@@ -93,6 +97,7 @@ impl Space {
         ensures err { OnErr result (self.new ≡ self.old) }
         ensures grows { OnErr result (AreOwnIn self.old page count → ⊥) }
         ensures snapshots { snapshots_of self.new ≡ snapshots_of self.old }
+        ensures live { OnOk result (live_of self.new ≡ live_of self.old + added_in self.old page count) }
     {
         let more = count_missing(&self.tables, page, count);
         if self.mapped + more > MAX_PAGES {
@@ -114,6 +119,7 @@ impl Space {
         requires { page + count < 2 ^ 32 }
         ensures memory { memory_of self.new ≡ unmapped (page * page_bytes) (count * page_bytes) (memory_of self.old) }
         ensures snapshots { snapshots_of self.new ≡ snapshots_of self.old }
+        ensures live { live_of self.new + freed_in self.old page count ≡ live_of self.old }
     {
         let gone = remove_range(&mut self.tables, page, count);
         self.mapped -= gone;
@@ -135,6 +141,7 @@ impl Space {
             × (all_mapped (memory_of self.old) page count ≡ false)) }
         ensures err { OnErr result (self.new ≡ self.old) }
         ensures snapshots { snapshots_of self.new ≡ snapshots_of self.old }
+        ensures live { live_of self.new ≡ live_of self.old }
     {
         if !self.is_mapped(page, count) {
             return Err(PageFault::NotMapped);
@@ -185,7 +192,11 @@ impl Space {
         ensures err { OnErr result (self.new ≡ self.old) }
         ensures grows { OnErr result (is_mapped (memory_of self.old) page ≡ false) }
         ensures snapshots { snapshots_of self.new ≡ snapshots_of self.old }
+        ensures live { OnOk result (live_of self.new
+            ≡ live_of self.old + (if is_mapped (memory_of self.old) page then 0 else 1)) }
     {
+        // a page that isn't there is counted nowhere
+        self.tables.all_own();
         if let Some(there) = self.tables.page(page) {
             let joined = union(there.permissions, permissions);
             self.tables.set_permissions(page, joined);
@@ -212,6 +223,7 @@ impl Space {
         ensures some { OnErr result (IsSome page.entry) }
         ensures too_many { IsErrOf result PageFault.TooManyPages → is_mapped (memory_of self.old) number ≡ false }
         ensures snapshots { snapshots_of self.new ≡ snapshots_of self.old }
+        ensures live { OnOk result (SetsLive number page.entry self.old self.new) }
     {
         match page {
             Some(page) => self.put_page(number, page),
@@ -230,6 +242,7 @@ impl Space {
         ensures err { OnErr result (self.new ≡ self.old) }
         ensures too_many { IsErrOf result PageFault.TooManyPages → is_mapped (memory_of self.old) number ≡ false }
         ensures snapshots { snapshots_of self.new ≡ snapshots_of self.old }
+        ensures live { OnOk result (live_of self.new ≡ live_of self.old + added_for self.old number) }
     {
         has_page_bytes(page.bytes);
         if is_there(&self.tables, number) {
@@ -252,7 +265,10 @@ impl Space {
     fn remove_page(&mut self, number: u32)
         ensures memory { memory_of self.new ≡ with_page number None (memory_of self.old) }
         ensures snapshots { snapshots_of self.new ≡ snapshots_of self.old }
+        ensures live { live_of self.new + freed_for self.old number ≡ live_of self.old }
     {
+        // a page that isn't there is counted nowhere
+        self.tables.all_own();
         if !is_there(&self.tables, number) {
             return;
         }
@@ -260,27 +276,33 @@ impl Space {
         self.mapped -= 1;
     }
 
-    /// Keeps the memory as it is, under the token that it gives. Refused where a growth is.
+    /// Keeps the memory as it is, under the token that it gives, and adds no page. Refused where a growth is.
     pub fn snapshot(&mut self) -> Result<Snapshot, Memory>
         ensures kept { IfOk result (λ token. snapshots_of self.new token ≡ Some (memory_of self.old)) }
         ensures fresh { IfOk result (λ token. snapshots_of self.old token ≡ None) }
         ensures others { IfOk result (λ token. (n : ℕ) → n ≢ token →
             snapshots_of self.new n ≡ snapshots_of self.old n) }
         ensures memory { memory_of self.new ≡ memory_of self.old }
+        ensures live { live_of self.new ≡ live_of self.old }
         ensures err { OnErr result (self.new ≡ self.old) }
     {
         let number = self.tables.keep()?;
         Ok(Snapshot::new(number))
     }
 
-    /// Lets a snapshot go, whose token is then spent. It takes no memory.
+    /// Lets a snapshot go, whose token is then spent. Once none is left, the pages that there are are those that are mapped. It
+    /// takes no memory.
     pub fn drop_snapshot(&mut self, snapshot: Snapshot)
         requires { IsSome (snapshots_of self.old snapshot) }
         ensures gone { snapshots_of self.new snapshot ≡ None }
         ensures others { (n : ℕ) → n ≢ snapshot → snapshots_of self.new n ≡ snapshots_of self.old n }
         ensures memory { memory_of self.new ≡ memory_of self.old }
+        ensures fewer { live_of self.new ≤ live_of self.old }
+        ensures least { page_count (memory_of self.new) ≤ live_of self.new }
+        ensures last { HasNoSnapshot self.new → live_of self.new ≡ page_count (memory_of self.new) }
     {
         self.tables.release(snapshot.number());
+        self.tables.all_own();
     }
 
     /// The numbers of the pages that differ from a live snapshot's in bytes, in permissions or in being mapped, rising.

@@ -5,6 +5,7 @@ ghost use Rattle.std.specs.Option.{option_map};
 ghost use Rattle.rrv_model.specs.Memory.{all_mapped, is_mapped, page_count};
 ghost use Rattle.page_tables.specs.Contents.{contents_of};
 ghost use Rattle.page_tables.specs.Changes.{IsOwn, is_listed, shown, with_permissions};
+ghost use Rattle.guest_pages.specs.Live.{freed_in, live_of};
 ghost use Rattle.guest_pages.specs.Space.{memory_of, AreEachPage};
 ghost use Rattle.guest_pages.specs.Mapping.{missing, clear_page, union, AreOwnIn, SameAt, ListsOthers};
 ghost use Rattle.guest_pages.specs.Stores.{word_pages};
@@ -80,6 +81,7 @@ pub(crate) fn list_word_pages(alloc: Global, places: &[u32]) -> Result<Vec<u32>,
 }
 
 /// Fills the pages of a range, which are the current table's own, with zeros, and sets their permissions.
+#[tactic(auto, using(crate::proofs::Live::cleared_live))]
 pub(crate) fn clear_pages(tables: &mut PageTables, first: u32, count: u32, permissions: Permissions)
     requires low { first + count < 2 ^ 32 }
     requires own { AreOwnIn tables.old first count }
@@ -88,6 +90,7 @@ pub(crate) fn clear_pages(tables: &mut PageTables, first: u32, count: u32, permi
     ensures below { (q : ℕ) → q < first → (contents_of tables.new).pages q ≡ (contents_of tables.old).pages q }
     ensures above { (q : ℕ) → first + count ≤ q → (contents_of tables.new).pages q ≡ (contents_of tables.old).pages q }
     ensures kept { (contents_of tables.new).kept ≡ (contents_of tables.old).kept }
+    ensures live { live_of tables.new ≡ live_of tables.old }
 {
     for number in first..first + count {
         tables.clear(number, permissions);
@@ -114,7 +117,10 @@ pub(crate) fn remove_range(tables: &mut PageTables, first: u32, count: u32) -> u
     ensures above { (q : ℕ) → first + count ≤ q → (contents_of tables.new).pages q ≡ (contents_of tables.old).pages q }
     ensures kept { (contents_of tables.new).kept ≡ (contents_of tables.old).kept }
     ensures count { page_count (memory_of tables.new) + result ≡ page_count (memory_of tables.old) }
+    ensures live { live_of tables.new + freed_in tables.old first count ≡ live_of tables.old }
 {
+    // a page that isn't there is counted nowhere
+    tables.all_own();
     let mut gone = 0;
     for number in first..first + count {
         if !is_there(tables, number) {
@@ -139,6 +145,7 @@ pub(crate) fn protect_range(
     ensures below { (q : ℕ) → q < first → (contents_of tables.new).pages q ≡ (contents_of tables.old).pages q }
     ensures above { (q : ℕ) → first + count ≤ q → (contents_of tables.new).pages q ≡ (contents_of tables.old).pages q }
     ensures kept { (contents_of tables.new).kept ≡ (contents_of tables.old).kept }
+    ensures live { live_of tables.new ≡ live_of tables.old }
 {
     for number in first..first + count {
         tables.set_permissions(number, permissions);

@@ -1,8 +1,9 @@
 //! Words at several places.
 
-ghost use Rattle.std.specs.Prelude.{◌≡◌, ◌≤◌, OnOk, OnErr, IsTrue, length};
+ghost use Rattle.std.specs.Prelude.{◌≡◌, ◌+◌, ◌≤◌, OnOk, OnErr, IsTrue, length};
 ghost use Rattle.std.specs.Int.{w32, to_le_bytes};
 ghost use Rattle.rrv_model.specs.CallRows.{all_writable};
+ghost use Rattle.guest_pages.specs.Live.{added_words, live_of};
 ghost use Rattle.guest_pages.specs.Space.{memory_of, snapshots_of};
 ghost use Rattle.guest_pages.specs.Stores.{stored_at_each, AreOwnWords};
 
@@ -20,6 +21,7 @@ impl Space {
         ensures some { OnErr result (1 ≤ length places.now) }
         ensures err { OnErr result (self.new ≡ self.old) }
         ensures snapshots { snapshots_of self.new ≡ snapshots_of self.old }
+        ensures live { OnOk result (live_of self.new ≡ live_of self.old + added_words self.old places.now) }
     {
         self.own_words(places)?;
         for place in places {
@@ -36,6 +38,7 @@ impl Space {
         ensures some { OnErr result (1 ≤ length places.now) }
         ensures err { OnErr result (self.new ≡ self.old) }
         ensures snapshots { snapshots_of self.new ≡ snapshots_of self.old }
+        ensures live { OnOk result (live_of self.new ≡ live_of self.old + added_words self.old places.now) }
     {
         let numbers = list_word_pages(self.alloc, places)?;
         self.tables.own_each(numbers.as_slice())?;

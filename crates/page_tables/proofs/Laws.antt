@@ -1,5 +1,5 @@
 -- What is so of all page tables.
-use Rattle.std.proofs.Common.{◌≡◌, ℕ, false, true, Option, Some, None, IfSome, IsSome, is_some, List, get_or, refl, ap, ◌∙◌, sym, subst, arith}
+use Rattle.std.proofs.Common.{◌≡◌, ◌≤◌, ℕ, false, true, Option, Some, None, IfSome, IsSome, is_some, List, get_or, refl, ap, ◌∙◌, sym, subst, arith}
 use Rattle.std.specs.Prelude.{if◌then◌else◌, Bool}
 use Rattle.std.proofs.lemmas.Bool.{false≢true}
 use Rattle.std.specs.Option.{option_map}
@@ -8,11 +8,12 @@ use Rattle.page_tables.specs.declared.table.Entry.{Entry}
 use Rattle.page_tables.specs.declared.table.Table.{Table}
 use Rattle.page_tables.specs.declared.pool.Page.{Page}
 use Rattle.page_tables.specs.Table.{entry_at}
-use Rattle.page_tables.specs.Contents.{Contents, FillPage, ArePages, TablesValue, contents_of, value_of}
+use Rattle.page_tables.specs.Contents.{Contents, FillPage, ArePages, TablesValue, contents_of, page_total, value_of}
 use Rattle.page_tables.specs.Sharing.{has, slot_entry, sharers, AreShared, page_in, value_in, pages_in, contents_in}
 use Rattle.page_tables.proofs.Sharing.{one_if, count_is, has_own, found}
 use Rattle.page_tables.proofs.Values.{seen}
 use Rattle.page_tables.proofs.PlacedPages.{no_shares, live_mapped, count_at}
+use Rattle.page_tables.proofs.Counting.{least_live, alone_live}
 
 maps_some : {X Y Z : Type 0} (f : X → Y) (g : X → Z) (o : Option X) → IsSome (option_map f o) → IsSome (option_map g o)
 maps_some f g None e = e
@@ -61,6 +62,12 @@ module _ (pool : Slab Page) (table : Table) (kept : List (Option Table)) (v : Ta
       let page : Option Page = page_in (get pool) (entry_at table n) in
       subst (λ (c : Contents). (IsSome (c.pages n) → IsSome (c.counts n)) × (IsSome (c.counts n) → IsSome (c.pages n))) (sym is_seen)
       (maps_some (value_in (entry_at table n)) (λ (p : Page). p.count) page, maps_some (λ (p : Page). p.count) (value_in (entry_at table n)) page)
+
+  pub has_least : page_total (contents_of v).pages ≤ (contents_of v).live
+  has_least = subst (λ (c : Contents). page_total c.pages ≤ c.live) (sym is_seen) (least_live pool table kept h)
+
+  pub has_no_others : ((i : ℕ) → (contents_of v).kept i ≡ None) → (contents_of v).live ≡ page_total (contents_of v).pages
+  has_no_others none = subst (λ (c : Contents). c.live ≡ page_total c.pages) (sym is_seen) (alone_live pool table kept h (no_slot none))
 
   pub has_pages : ArePages (contents_of v).pages
   has_pages = subst (λ (c : Contents). ArePages c.pages) (sym is_seen) (filled_pages (get pool) (entry_at table) h.filled)

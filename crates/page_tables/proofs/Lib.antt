@@ -4,6 +4,7 @@ pub mod Sharing
 pub mod Values
 pub mod KeptTables
 pub mod PlacedPages
+pub mod Counting
 pub mod Laws
 pub mod Listed
 pub mod NewPages

@@ -1,13 +1,14 @@
 -- Pages that come into a table one after another, until each of some numbers has one of its own.
-use Rattle.std.proofs.Common.{◌≡◌, ◌≢◌, ℕ, true, false, Option, Some, None, IsSome, is_some, List, [], ◌∷◌, ◌++◌, ◌<◌, length, refl, ap, ◌∙◌, sym, subst, arith, inl, inr}
+use Rattle.std.proofs.Common.{◌≡◌, ◌≢◌, ℕ, ◌+◌, Bool, true, false, if◌then◌else◌, Option, Some, None, IsSome, is_some, List, [], ◌∷◌, ◌++◌, ◌<◌, length, refl, ap, ◌∙◌, sym, subst, arith, inl, inr}
 use Rattle.std.specs.List.{All}
 use Rattle.std.proofs.lemmas.Bool.{false≢true, cases_eq}
 use Rattle.std.proofs.lemmas.List.Elements.{All-nil, All-pop, All-push, All-weaker}
 use Rattle.page_tables.specs.declared.new_pages.NewPage.{NewPage}
 use Rattle.page_tables.specs.Contents.{PageValue, Contents}
-use Rattle.page_tables.specs.Changes.{AreOwned, IsPlaced, is_listed, page_or_zeros}
+use Rattle.page_tables.specs.Changes.{AreOwned, IsPlaced, added, added_at, is_listed, page_or_zeros}
 use Rattle.page_tables.specs.NewPages.{new_value, AreUnshared, IsCopy, AreCopies}
 use Rattle.page_tables.proofs.Listed.{listed_more, still_listed, last_listed}
+use Rattle.page_tables.proofs.Counting.{sum_changed, sum_zero}
 
 -- ---- steps on the way: each number has what it had, or zeros
 
@@ -16,9 +17,10 @@ pub record AreNearer (numbers : List ℕ) (old new : Contents) : Type 0 where
   pub pages : (n : ℕ) → is_listed numbers n ≡ false → new.pages n ≡ old.pages n
   pub counts : (n : ℕ) → is_listed numbers n ≡ false → new.counts n ≡ old.counts n
   pub kept : new.kept ≡ old.kept
+  pub live : new.live + added_at (is_listed numbers) new.counts ≡ old.live + added_at (is_listed numbers) old.counts
 
 pub no_step : (numbers : List ℕ) (c : Contents) → AreNearer numbers c c
-no_step numbers c = record { value = λ n. refl; pages = λ n l. refl; counts = λ n l. refl; kept = refl }
+no_step numbers c = record { value = λ n. refl; pages = λ n l. refl; counts = λ n l. refl; kept = refl; live = refl }
 
 pub same_value : (n : ℕ) (page : PageValue) (old new : Contents) → IsPlaced n page old new → page ≡ page_or_zeros (old.pages n) → (q : ℕ) → page_or_zeros (new.pages q) ≡ page_or_zeros (old.pages q)
 same_value n page old new i e q = elim (cases_eq q n) [
@@ -26,12 +28,24 @@ same_value n page old new i e q = elim (cases_eq q n) [
   | inr w ↦ ap page_or_zeros (i.rest.pages q w)
 ]
 
-pub one_step : (numbers : List ℕ) (n : ℕ) (page : PageValue) (old mid new : Contents) → AreNearer numbers old mid → IsPlaced n page mid new → page ≡ page_or_zeros (mid.pages n) → is_listed numbers n ≡ true → AreNearer numbers old new
-one_step numbers n page old mid new s i e listed = record {
+-- a page that comes at a number adds what that number lacked
+one_less : (numbers : List ℕ) (n : ℕ) (page : PageValue) (old new : Contents) → IsPlaced n page old new → is_listed numbers n ≡ true → n < 0x80000 →
+    new.live + added_at (is_listed numbers) new.counts ≡ old.live + added_at (is_listed numbers) old.counts
+one_less numbers n page old new i listed low =
+    let f : ℕ → ℕ = λ q. if is_listed numbers q then added (old.counts q) else 0 in
+    let g : ℕ → ℕ = λ q. if is_listed numbers q then added (new.counts q) else 0 in
+    let changed = sum_changed 0x80000 n f g (λ q apart. ap (λ (o : Option ℕ). if is_listed numbers q then added o else 0) (i.rest.counts q apart)) low in
+    let lacked : f n ≡ added (old.counts n) = ap (λ (b : Bool). if b then added (old.counts n) else 0) listed in
+    let lacks : g n ≡ 0 = ap (λ (b : Bool). if b then added (new.counts n) else 0) listed ∙ ap added i.own in
+    omega (arith, changed, lacked, lacks, i.live)
+
+pub one_step : (numbers : List ℕ) (n : ℕ) (page : PageValue) (old mid new : Contents) → AreNearer numbers old mid → IsPlaced n page mid new → page ≡ page_or_zeros (mid.pages n) → is_listed numbers n ≡ true → n < 0x80000 → AreNearer numbers old new
+one_step numbers n page old mid new s i e listed low = record {
   value = λ q. same_value n page mid new i e q ∙ s.value q;
   pages = λ q l. i.rest.pages q (apart q l) ∙ s.pages q l;
   counts = λ q l. i.rest.counts q (apart q l) ∙ s.counts q l;
   kept = i.rest.kept ∙ s.kept;
+  live = one_less numbers n page mid new i listed low ∙ s.live;
 } where
   apart : (q : ℕ) → is_listed numbers q ≡ false → q ≢ n
   apart q l w = false≢true (sym l ∙ ap (is_listed numbers) w ∙ listed)
@@ -39,6 +53,13 @@ one_step numbers n page old mid new s i e listed = record {
 there_is : (o : Option PageValue) → IsSome o → o ≡ Some (page_or_zeros o)
 there_is None e = absurd (false≢true e)
 there_is (Some p) e = refl
+
+-- numbers whose pages are their own lack none
+none_lacked : (numbers : List ℕ) (counts : ℕ → Option ℕ) → AreUnshared numbers counts → added_at (is_listed numbers) counts ≡ 0
+none_lacked numbers counts own = sum_zero 0x80000 (λ q. if is_listed numbers q then added (counts q) else 0) (λ q l. by_test q (is_listed numbers q) refl) where
+  by_test : (q : ℕ) (b : Bool) → is_listed numbers q ≡ b → (if b then added (counts q) else 0) ≡ 0
+  by_test q true e = ap added (own q e)
+  by_test q false e = refl
 
 -- where the steps end each of the pages is its own
 pub all_steps : (numbers : List ℕ) (old new : Contents) → AreNearer numbers old new → AreUnshared numbers new.counts → ((n : ℕ) → IsSome (new.counts n) → IsSome (new.pages n)) → AreOwned numbers old new
@@ -48,6 +69,7 @@ all_steps numbers old new s own there = record {
   pages = s.pages;
   counts = s.counts;
   kept = s.kept;
+  live = omega (arith, s.live, none_lacked numbers new.counts own);
 }
 
 -- ---- the pages that are to come

@@ -7,7 +7,7 @@ use Rattle.page_tables.specs.declared.pool.Page.{Page}
 use Rattle.page_tables.specs.declared.page_tables.PageView.{PageView}
 use Rattle.page_tables.specs.declared.page_tables.PutFault.{PutFault}
 use Rattle.page_tables.specs.declared.page_tables.PutFault.TheVariants as errors
-use Rattle.page_tables.specs.Contents.{PageValue, Contents, FillPage}
+use Rattle.page_tables.specs.Contents.{PageValue, Contents, FillPage, sum_below}
 
 -- the current table alone has page n: to write it takes no memory
 abbrev pub IsOwn : Contents → ℕ → Type 0
@@ -62,6 +62,10 @@ added (Some count) = if count == 1 then 0 else 1
 abbrev pub freed : Option ℕ → ℕ
 freed None = 0
 freed (Some count) = if count == 1 then 1 else 0
+
+-- pages of their own for the numbers that pass a test
+abbrev pub added_at : (ℕ → Bool) → (ℕ → Option ℕ) → ℕ
+added_at test counts = sum_below 0x80000 (λ n. if test n then added (counts n) else 0)
 
 -- ---- the changes
 
@@ -165,3 +169,4 @@ pub record AreOwned (numbers : List ℕ) (old new : Contents) : Type 0 where
   pub pages : (n : ℕ) → is_listed numbers n ≡ false → new.pages n ≡ old.pages n
   pub counts : (n : ℕ) → is_listed numbers n ≡ false → new.counts n ≡ old.counts n
   pub kept : new.kept ≡ old.kept
+  pub live : new.live ≡ old.live + added_at (is_listed numbers) old.counts

@@ -1,5 +1,5 @@
 -- What page tables contain, as functions from page numbers.
-use Rattle.std.specs.Prelude.{◌≡◌, ℕ, zero, suc, ◌<◌, ◌^◌, List, [], ◌∷◌, length, slice_index, Option, Some, None, IfSome}
+use Rattle.std.specs.Prelude.{◌≡◌, ℕ, zero, suc, ◌+◌, ◌<◌, ◌^◌, if◌then◌else◌, List, [], ◌∷◌, length, slice_index, Option, Some, None, IfSome, is_some}
 use Rattle.std.specs.Ordering.{nat_cmp}
 use Rattle.std.specs.Option.{option_map}
 use Rattle.std.specs.Map.{lookup}
@@ -47,6 +47,17 @@ contents_of v = record {
   kept = λ i. option_map at_number (at_number v.kept i);
   live = v.live;
 }
+
+-- ---- how many there are
+
+-- the sum of what a function has at the numbers below n
+unfoldable pub sum_below : ℕ → (ℕ → ℕ) → ℕ
+sum_below zero f = 0
+sum_below (suc n) f = sum_below n f + f n
+
+-- how many numbers have a page
+abbrev pub page_total : (ℕ → Option PageValue) → ℕ
+page_total pages = sum_below 0x80000 (λ n. if is_some (pages n) then 1 else 0)
 
 -- ---- from functions to data
 

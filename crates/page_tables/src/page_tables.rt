@@ -2,7 +2,7 @@
 
 ghost use Rattle.std.specs.Prelude.{◌≡◌, ◌≢◌, ℕ, ◌+◌, ◌<◌, ◌≤◌, OnOk, OnErr, IfOk, IfErr, IfSome, IsSome, IsSomeAnd, IsTrue, Some, None, true, false, length, replicate, option_copied, ◌↔◌};
 ghost use Rattle.std.specs.Int.{w8, w16, w32, to_le_bytes};
-ghost use Rattle.page_tables.specs.Contents.{contents_of, ArePages};
+ghost use Rattle.page_tables.specs.Contents.{contents_of, page_total, ArePages};
 ghost use Rattle.page_tables.specs.Changes.{IsOwn, AreOwn, AreOwned, allows_read, allows_write, allows_execute, IsPutRefusal, bytes_if, IsWritten, IsPlaced, IsRemoved, IsProtected, IsKept, IsReleased, IsNext, IsUnshared, is_listed, shown};
 ghost use Rattle.page_tables.specs.Sharing.{IsTableOf, pages_in};
 ghost use Rattle.page_tables.specs.Table.{entry_at};
@@ -103,12 +103,16 @@ impl PageTables {
         self.pool.len()
     }
 
-    /// A law: with no live snapshot each page is its own; a count stands exactly where a page does; a page has 4,096 bytes.
+    /// A law: with no live snapshot each page is its own, and there are no others; a count stands exactly where a page does; a page
+    /// has 4,096 bytes.
     pub fn all_own(&self)
         ensures own { ((i : ℕ) → (contents_of self.now).kept i ≡ None) →
             (n : ℕ) → IsSome ((contents_of self.now).pages n) → IsOwn (contents_of self.now) n }
         ensures counted { (n : ℕ) → (IsSome ((contents_of self.now).pages n) → IsSome ((contents_of self.now).counts n))
             × (IsSome ((contents_of self.now).counts n) → IsSome ((contents_of self.now).pages n)) }
+        ensures least { page_total (contents_of self.now).pages ≤ (contents_of self.now).live }
+        ensures live { ((i : ℕ) → (contents_of self.now).kept i ≡ None) →
+            (contents_of self.now).live ≡ page_total (contents_of self.now).pages }
         ensures bytes { ArePages (contents_of self.now).pages }
         ensures kept_bytes { (i : ℕ) → IfSome ((contents_of self.now).kept i) ArePages }
     {

@@ -1,4 +1,4 @@
-use Rattle.std.proofs.Common.{◌∙◌, true, not, sym}
+use Rattle.std.proofs.Common.{◌∙◌, sym}
 use Rattle.page_tables.specs.Contents.{contents_of}
 use Rattle.guest_pages.proofs.Ranges.{one_absent}
 use Rattle.guest_pages.proofs.mapping.all_there.Goals as goal

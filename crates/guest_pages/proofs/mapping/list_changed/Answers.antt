@@ -1,4 +1,4 @@
-use Rattle.std.proofs.Common.{◌≡◌, ℕ, List, IsSomeAnd, sym, subst, arith, ◌+◌, refl}
+use Rattle.std.proofs.Common.{◌≡◌, ℕ, List, IsSomeAnd, sym, subst, arith, refl}
 use Rattle.page_tables.specs.Contents.{contents_of}
 use Rattle.guest_pages.specs.Mapping.{SameAt, ListsOthers}
 use Rattle.guest_pages.proofs.Changes.{same_then_on, differ_then_on}

@@ -39,7 +39,7 @@ loop-page-preserved c =
           let o = i.owned numbers copies in
           let each = All-pop (IsCopy numbers before.pages) c.loop-page.pages.items rest (Some x) is o.0.each in (
             one_comes numbers before after c.loop-page.pages.items rest x is o.0 p.placed,
-            one_step numbers x.number (new_value x) (contents_in c.args.pool.now c.args.table.now c.args.kept.now.items) before after o.1 p.placed each.1.value each.1.listed,
+            one_step numbers x.number (new_value x) (contents_in c.args.pool.now c.args.table.now c.args.kept.now.items) before after o.1 p.placed each.1.value each.1.listed low.1,
           );
     }
 

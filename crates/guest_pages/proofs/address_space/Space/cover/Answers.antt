@@ -1,11 +1,13 @@
-use Rattle.std.proofs.Common.{◌≡◌, ◌∙◌, ◌+◌, ◌≤◌, ℕ, Some, is_some, false, sym, ap, subst, arith}
+use Rattle.std.proofs.Common.{◌≡◌, ◌∙◌, ◌+◌, ◌≤◌, ℕ, is_some, true, false, if◌then◌else◌, sym, ap, subst, arith}
 use Rattle.rrv_model.specs.declared.limits.TheConstants.{MAX_PAGES}
 use Rattle.rrv_model.specs.Memory.{page_count, is_mapped}
 use Rattle.page_tables.specs.Contents.{contents_of}
 use Rattle.page_tables.specs.Changes.{shown}
+use Rattle.guest_pages.specs.Live.{live_of}
 use Rattle.guest_pages.specs.Space.{SpaceValue, memory_of}
 use Rattle.guest_pages.specs.Mapping.{covered}
 use Rattle.guest_pages.proofs.Facts.{is_mapped_in, count_alike}
+use Rattle.guest_pages.proofs.Live.{absent_adds}
 use Rattle.guest_pages.proofs.MissingPages.{joined_each, joined_there, covered_joined, page_count_covered, covered_each, covered_added}
 use Rattle.guest_pages.proofs.Spaces.{is_space}
 use Rattle.guest_pages.proofs.address_space.Space.cover.Goals as goal
@@ -75,3 +77,19 @@ returns-clause-covered c =
     let put = c.in-Ok.ensures.placed in
     covered_added (contents_of c.self.inside.tables).pages (contents_of c.place.new.self).pages c.args.permissions c.args.page (sym c.page.ensures ∙ ap shown c.in_default.is) put.here put.rest.pages
     ∙ ap (λ (s : SpaceValue). covered c.args.page c.args.permissions (memory_of s)) c.self.view_is
+
+pub returns-in-Some-clause-live : goal.returns-in-Some-clause-live
+returns-in-Some-clause-live c =
+    let there : is_mapped (memory_of c.self.inside.tables) c.args.page ≡ true =
+    is_mapped_in (contents_of c.self.inside.tables).pages c.args.page ∙ ap is_some (sym c.page.ensures ∙ ap shown c.in-Some.is) in
+    let same : live_of c.set_permissions.new.self ≡ live_of c.self.inside.tables + (if is_mapped (memory_of c.self.inside.tables) c.args.page then 0 else 1) =
+    rw there (omega (arith, c.set_permissions.ensures.live)) in
+    subst (λ (s : SpaceValue). live_of c.set_permissions.new.self ≡ live_of s + (if is_mapped (memory_of s) c.args.page then 0 else 1)) c.self.view_is same
+
+pub returns-clause-live : goal.returns-clause-live
+returns-clause-live c =
+    let absent = sym c.page.ensures ∙ ap shown c.in_default.is in
+    let not_there : is_mapped (memory_of c.self.inside.tables) c.args.page ≡ false = is_mapped_in (contents_of c.self.inside.tables).pages c.args.page ∙ ap is_some absent in
+    let more : live_of c.place.new.self ≡ live_of c.self.inside.tables + (if is_mapped (memory_of c.self.inside.tables) c.args.page then 0 else 1) =
+    rw not_there (omega (arith, c.in-Ok.ensures.placed.live, absent_adds c.self.inside.tables c.args.page (c.all_own.ensures.counted c.args.page).1 absent)) in
+    subst (λ (s : SpaceValue). live_of c.place.new.self ≡ live_of s + (if is_mapped (memory_of s) c.args.page then 0 else 1)) c.self.view_is more

@@ -1,6 +1,10 @@
-use Rattle.std.proofs.Common.{◌∙◌, ap, arith}
+use Rattle.std.proofs.Common.{◌∙◌, ◌/◌, ap, arith, subst, sym}
 use Rattle.rrv_model.specs.Memory.{stored}
+use Rattle.page_tables.specs.Contents.{contents_of}
+use Rattle.page_tables.specs.Changes.{IsOwn}
+use Rattle.guest_pages.specs.Live.{live_of}
 use Rattle.guest_pages.specs.Space.{SpaceValue, memory_of}
+use Rattle.guest_pages.proofs.Live.{written_live}
 use Rattle.guest_pages.proofs.Stores.{stored_space, stored_memory}
 use Rattle.guest_pages.proofs.address_space.Space.fill_page.Goals as goal
 
@@ -13,3 +17,9 @@ pub returns-clause-memory : goal.returns-clause-memory
 returns-clause-memory c =
     stored_memory c.self.inside.tables c.write.new.self _ _ c.args.address c.args.bytes.now c.self.invariant.pages.each c.write.ensures (omega (arith, c.requires.low)) (omega (arith, c.requires.fits))
     ∙ ap (λ (s : SpaceValue). stored c.args.address c.args.bytes.now (memory_of s)) c.self.view_is
+
+pub returns-clause-live : goal.returns-clause-live
+returns-clause-live c =
+    written_live c.self.inside.tables c.write.new.self _ _ c.args.bytes.now c.write.ensures
+    (subst (λ (s : SpaceValue). IsOwn (contents_of s) (c.args.address / 4096)) (sym c.self.view_is) c.requires.own)
+    ∙ ap (λ (s : SpaceValue). live_of s) c.self.view_is

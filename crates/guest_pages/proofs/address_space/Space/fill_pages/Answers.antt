@@ -30,4 +30,5 @@ loop-rest-preserved c =
           (c.split_at.ensures.front ∙ ap (λ (j : ℕ). take j c.loop-rest.rest.now) (sym c.split_at.ensures.front_len)) (omega (arith, c.split_at.ensures.front_len, c.min.ensures));
       snapshots = c.fill_page.ensures.snapshots ∙ held.snapshots;
       own = λ n o. c.fill_page.ensures.own n (held.own n o);
+      live = c.fill_page.ensures.live ∙ held.live;
     }

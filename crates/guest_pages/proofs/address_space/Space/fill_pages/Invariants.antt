@@ -1,5 +1,6 @@
 use Rattle.std.proofs.Common.{◌≡◌, ◌+◌, ◌-◌, ◌≤◌, length, take, drop}
 use Rattle.rrv_model.specs.Memory.{stored}
+use Rattle.guest_pages.specs.Live.{live_of}
 use Rattle.guest_pages.specs.Space.{memory_of, snapshots_of, KeepsOwn}
 use Rattle.guest_pages.proofs.address_space.Space.fill_pages.Given as goal
 
@@ -12,6 +13,7 @@ invariant-loop-rest l =
       memory : memory_of l.self ≡ stored l.address (take (l.at - l.address) l.bytes) (memory_of l.initial.self);
       snapshots : snapshots_of l.self ≡ snapshots_of l.initial.self;
       own : KeepsOwn l.initial.self l.self;
+      live : live_of l.self ≡ live_of l.initial.self;
     }
 
 abbrev pub decreases-loop-rest : goal.decreases-loop-rest

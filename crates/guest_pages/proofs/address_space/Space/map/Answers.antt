@@ -1,10 +1,12 @@
-use Rattle.std.proofs.Common.{◌≡◌, ◌∙◌, ℕ, ◌+◌, ◌*◌, List, true, false, sym, ap, subst, arith}
+use Rattle.std.proofs.Common.{◌≡◌, ◌∙◌, ℕ, ◌+◌, ◌*◌, List, sym, ap, subst, arith}
 use Rattle.rrv_model.specs.Memory.{mapped, page_count, page_bytes}
 use Rattle.page_tables.specs.Contents.{contents_of}
 use Rattle.page_tables.specs.Changes.{is_listed, IsOwn, AreOwned}
+use Rattle.guest_pages.specs.Live.{added_in, live_of}
 use Rattle.guest_pages.specs.Space.{SpaceValue, memory_of}
 use Rattle.guest_pages.specs.Mapping.{AreOwnIn}
 use Rattle.guest_pages.proofs.MissingPages.{page_count_mapped, mapped_in, mapped_each, others_after}
+use Rattle.guest_pages.proofs.Live.{listed_adds}
 use Rattle.guest_pages.proofs.OwnPages.{all_own_in}
 use Rattle.guest_pages.proofs.Spaces.{is_space}
 use Rattle.guest_pages.proofs.address_space.Space.map.Goals as goal
@@ -92,3 +94,10 @@ returns-clause-mapped c =
     let others = others_after pages (contents_of c.own_each.new.self).pages after c.in-Ok.numbers.items c.args.page c.args.count c.in-Ok.ensures.from c.in-Ok.ensures.to owned.pages cleared.below cleared.above in
     mapped_in pages after c.args.permissions c.args.page c.args.count cleared.cleared others
     ∙ ap (λ (s : SpaceValue). mapped (c.args.page * page_bytes) (c.args.count * page_bytes) c.args.permissions (memory_of s)) c.self.view_is
+
+pub returns-clause-live : goal.returns-clause-live
+returns-clause-live c =
+    let owned = subst (λ (xs : List ℕ). AreOwned xs (contents_of c.self.inside.tables) (contents_of c.own_each.new.self)) c.as_slice.ensures.value c.in-Ok-own_each.ensures.owned in
+    let adds = listed_adds c.self.inside.tables c.in-Ok.numbers.items c.args.page c.args.count c.in-Ok.ensures.from c.in-Ok.ensures.to c.in-Ok.ensures.others c.requires.high in
+    subst (λ (s : SpaceValue). live_of c.clear_pages.new.tables ≡ live_of s + added_in s c.args.page c.args.count) c.self.view_is
+    (c.clear_pages.ensures.live ∙ owned.live ∙ ap (λ (k : ℕ). live_of c.self.inside.tables + k) adds)

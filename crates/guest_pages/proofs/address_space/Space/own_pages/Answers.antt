@@ -1,7 +1,9 @@
-use Rattle.std.proofs.Common.{◌≡◌, ◌∙◌, ℕ, ◌+◌, ◌/◌, List, true, sym, ap, subst, arith}
+use Rattle.std.proofs.Common.{◌≡◌, ◌∙◌, ℕ, ◌+◌, ◌-◌, ◌/◌, IsSome, List, true, sym, ap, subst, arith}
 use Rattle.page_tables.specs.Contents.{contents_of}
 use Rattle.page_tables.specs.Changes.{is_listed, AreOwned}
+use Rattle.guest_pages.specs.Live.{added_across, added_in, live_of, pages_across}
 use Rattle.guest_pages.specs.Space.{SpaceValue, PageMap, memory_of, memory_in, present}
+use Rattle.guest_pages.proofs.Live.{listed_adds, some_across}
 use Rattle.guest_pages.proofs.OwnPages.{owned_same, owned_space, all_own_in, in_range, low_page}
 use Rattle.guest_pages.proofs.address_space.Space.own_pages.Goals as goal
 
@@ -43,3 +45,19 @@ returns-clause-memory c =
     (subst (λ (s : SpaceValue). present (memory_of s) c.args.address c.args.count ≡ true) (sym c.self.view_is) c.requires.there)
     (c.in-Ok.ensures.from n listed) (omega (arith, c.from.ensures, c.requires.some, c.in-Ok.ensures.to n listed))) in
     ap (λ (p : PageMap). memory_in p) pages ∙ ap (λ (s : SpaceValue). memory_of s) c.self.view_is
+
+pub returns-clause-live : goal.returns-clause-live
+returns-clause-live c =
+    let first : ℕ = c.args.address / 4096 in
+    let count : ℕ = (c.from.result + c.args.count - 1) / 4096 - c.args.address / 4096 + 1 in
+    let owned = subst (λ (xs : List ℕ). AreOwned xs (contents_of c.self.inside.tables) (contents_of c.own_each.new.self)) c.as_slice.ensures.value c.in-Ok-own_each.ensures.owned in
+    let last : IsSome ((contents_of c.self.inside.tables).pages ((c.args.address + c.args.count - 1) / 4096)) =
+    in_range (contents_of c.self.inside.tables).pages c.args.address c.args.count ((c.args.address + c.args.count - 1) / 4096) c.requires.some
+    (subst (λ (s : SpaceValue). present (memory_of s) c.args.address c.args.count ≡ true) (sym c.self.view_is) c.requires.there)
+    (omega (arith, c.requires.some)) (omega (arith, c.requires.some)) in
+    let low = low_page (contents_of c.self.inside.tables).pages ((c.args.address + c.args.count - 1) / 4096) c.self.invariant.pages.each last in
+    let adds = listed_adds c.self.inside.tables c.in-Ok.numbers.items first count c.in-Ok.ensures.from c.in-Ok.ensures.to c.in-Ok.ensures.others (omega (arith, low, c.from.ensures, c.requires.some)) in
+    let across : count ≡ pages_across c.args.address c.args.count =
+    ap (λ (a : ℕ). (a + c.args.count - 1) / 4096 - c.args.address / 4096 + 1) c.from.ensures ∙ sym (some_across c.args.address c.args.count c.requires.some) in
+    subst (λ (s : SpaceValue). live_of c.own_each.new.self ≡ live_of s + added_across s c.args.address c.args.count) c.self.view_is
+    (owned.live ∙ ap (λ (k : ℕ). live_of c.self.inside.tables + k) (adds ∙ ap (λ (k : ℕ). added_in c.self.inside.tables first k) across))

@@ -1,8 +1,9 @@
-use Rattle.std.proofs.Common.{◌≡◌, ◌∙◌, ℕ, List, true, sym, ap, subst}
+use Rattle.std.proofs.Common.{◌≡◌, ◌∙◌, ◌+◌, ℕ, List, true, sym, ap, subst}
 use Rattle.rrv_model.specs.CallRows.{all_writable}
 use Rattle.page_tables.specs.Contents.{contents_of}
 use Rattle.page_tables.specs.Changes.{is_listed, AreOwned}
 use Rattle.page_tables.proofs.PlacedPages.{on_err}
+use Rattle.guest_pages.specs.Live.{added_words, live_of}
 use Rattle.guest_pages.specs.Space.{SpaceValue, PageMap, memory_of, memory_in}
 use Rattle.guest_pages.specs.Stores.{word_pages}
 use Rattle.guest_pages.proofs.OwnPages.{owned_same, owned_space, low_page}
@@ -42,3 +43,8 @@ returns-clause-memory c =
     (λ n listed. words_there (contents_of c.self.inside.tables).pages c.args.places.now
     (subst (λ (s : SpaceValue). all_writable (memory_of s) c.args.places.now ≡ true) (sym c.self.view_is) c.requires) n listed))
     ∙ ap (λ (s : SpaceValue). memory_of s) c.self.view_is
+
+pub returns-clause-live : goal.returns-clause-live
+returns-clause-live c =
+    let owned = subst (λ (xs : List ℕ). AreOwned xs (contents_of c.self.inside.tables) (contents_of c.own_each.new.self)) (c.as_slice.ensures.value ∙ c.in_ok-numbers.ensures.listed) c.in_ok-own_each.ensures.owned in
+    subst (λ (s : SpaceValue). live_of c.own_each.new.self ≡ live_of s + added_words s c.args.places.now) c.self.view_is owned.live

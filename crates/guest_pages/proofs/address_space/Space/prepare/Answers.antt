@@ -3,6 +3,7 @@ use Rattle.rrv_model.specs.Memory.{can_write, writable}
 use Rattle.page_tables.specs.Contents.{contents_of}
 use Rattle.guest_pages.specs.Space.{SpaceValue, memory_of, present}
 use Rattle.guest_pages.proofs.Facts.{present_low}
+use Rattle.guest_pages.proofs.Live.{none_across}
 use Rattle.guest_pages.proofs.OwnPages.{none_to_fill}
 use Rattle.guest_pages.proofs.Cells.{absent_forbids, some_cell}
 use Rattle.guest_pages.proofs.address_space.Space.prepare.Goals as goal
@@ -30,3 +31,6 @@ own_pages-requires-clause-low c =
     let there : present (memory_of c.args.self.now) c.args.address c.args.count ≡ true = grind arith in
     present_low (contents_of c.self.inside.tables).pages c.self.invariant.pages.each c.args.address c.args.count c.ranges.address.fits
     (subst (λ (s : SpaceValue). present (memory_of s) c.args.address c.args.count ≡ true) (sym c.self.view_is) there)
+
+pub returns-then-count-eq0-clause-live : goal.returns-then-count-eq0-clause-live
+returns-then-count-eq0-clause-live c = omega (arith, none_across c.args.self.now c.args.address c.args.count c.if-count-eq0.true)

@@ -1,6 +1,7 @@
-use Rattle.std.proofs.Common.{◌≡◌, ◌∙◌, ◌+◌, Some, sym, ap, arith}
+use Rattle.std.proofs.Common.{◌≡◌, ◌∙◌, ◌+◌, Some, subst, sym, ap, arith}
 use Rattle.rrv_model.specs.Memory.{page_count, is_mapped}
 use Rattle.page_tables.specs.Contents.{contents_of}
+use Rattle.guest_pages.specs.Live.{added_for, live_of}
 use Rattle.guest_pages.specs.Space.{SpaceValue, memory_of}
 use Rattle.guest_pages.specs.WholePages.{with_page}
 use Rattle.guest_pages.proofs.Facts.{is_mapped_in}
@@ -73,3 +74,9 @@ returns-clause-set c =
     let put = c.in-Ok-place.ensures.placed in
     put_in (contents_of c.self.inside.tables).pages (contents_of c.place-2.new.self).pages c.args.number (Some c.args.page) put.here put.rest.pages
     ∙ ap (λ (s : SpaceValue). with_page c.args.number (Some c.args.page) (memory_of s)) c.self.view_is
+
+pub returns-then-is_there-clause-live : goal.returns-then-is_there-clause-live
+returns-then-is_there-clause-live c = subst (λ (s : SpaceValue). live_of c.place.new.self ≡ live_of s + added_for s c.args.number) c.self.view_is c.in-Ok.ensures.placed.live
+
+pub returns-clause-live : goal.returns-clause-live
+returns-clause-live c = subst (λ (s : SpaceValue). live_of c.place-2.new.self ≡ live_of s + added_for s c.args.number) c.self.view_is c.in-Ok-place.ensures.placed.live

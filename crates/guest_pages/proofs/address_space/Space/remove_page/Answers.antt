@@ -1,6 +1,8 @@
-use Rattle.std.proofs.Common.{◌∙◌, true, false, None, refl, ap, sym, arith}
+use Rattle.std.proofs.Common.{◌≡◌, ◌+◌, ◌∙◌, subst, None, refl, ap, sym, arith}
 use Rattle.page_tables.specs.Contents.{contents_of}
+use Rattle.guest_pages.specs.Live.{freed_for, live_of}
 use Rattle.guest_pages.specs.Space.{SpaceValue, memory_of}
+use Rattle.guest_pages.proofs.Live.{absent_frees}
 use Rattle.guest_pages.specs.WholePages.{with_page}
 use Rattle.guest_pages.proofs.Ranges.{count_removed}
 use Rattle.guest_pages.proofs.Spaces.{is_space, removed_each, no_page}
@@ -38,3 +40,12 @@ returns-clause-memory c =
     let gone = c.remove.ensures in
     put_in (contents_of c.self.inside.tables).pages (contents_of c.remove.new.self).pages c.args.number None gone.here gone.rest.pages
     ∙ ap (λ (s : SpaceValue). with_page c.args.number None (memory_of s)) c.self.view_is
+
+pub returns-then-not-is_there-clause-live : goal.returns-then-not-is_there-clause-live
+returns-then-not-is_there-clause-live c =
+    let pages = (contents_of c.self.inside.tables).pages in
+    let none = absent_frees c.self.inside.tables c.args.number (c.all_own.ensures.counted c.args.number).1 (no_page (pages c.args.number) (sym c.is_there.ensures ∙ c.if-not-is_there.true)) in
+    subst (λ (s : SpaceValue). live_of s + freed_for s c.args.number ≡ live_of s) c.self.view_is (omega (arith, none))
+
+pub returns-clause-live : goal.returns-clause-live
+returns-clause-live c = subst (λ (s : SpaceValue). live_of c.remove.new.self + freed_for s c.args.number ≡ live_of s) c.self.view_is c.remove.ensures.live

@@ -1,9 +1,11 @@
-use Rattle.std.proofs.Common.{◌∙◌, ◌/◌, ◌%◌, ap, sym, subst, arith}
+use Rattle.std.proofs.Common.{◌≡◌, ◌∙◌, ◌+◌, ◌/◌, ◌%◌, ap, sym, subst, arith}
 use Rattle.std.specs.Int.{w16, to_le_bytes}
 use Rattle.rrv_model.specs.Memory.{stored}
 use Rattle.page_tables.specs.Contents.{contents_of}
 use Rattle.std.proofs.lemmas.Result.{err_from_is_err_and}
+use Rattle.guest_pages.specs.Live.{added_across, live_of}
 use Rattle.guest_pages.specs.Space.{SpaceValue, memory_of, IsStoreRefusal, fault_for}
+use Rattle.guest_pages.proofs.Live.{put_adds}
 use Rattle.guest_pages.proofs.PutRefusals.{put_refused}
 use Rattle.guest_pages.proofs.Stores.{stored_space, stored_memory, all_small}
 use Rattle.guest_pages.proofs.address_space.Space.store_half.Goals as goal
@@ -25,3 +27,8 @@ returns-in_err-put_half-clause-refused c =
     let told : IsStoreRefusal (memory_of c.args.self.now) c.args.address 2 (fault_for c.in_err-put_half.field-0.0) =
     subst (λ (s : SpaceValue). IsStoreRefusal (memory_of s) c.args.address 2 (fault_for c.in_err-put_half.field-0.0)) c.self.view_is refused in
     rw p.1 (subst (IsStoreRefusal (memory_of c.args.self.now) c.args.address 2) (sym p.2) told)
+
+pub returns-clause-live : goal.returns-clause-live
+returns-clause-live c =
+    subst (λ (s : SpaceValue). live_of c.put_half.new.self ≡ live_of s + added_across s c.args.address 2) c.self.view_is
+    (put_adds c.self.inside.tables c.put_half.new.self c.args.address 2 (to_le_bytes w16 c.args.value) c.in_ok-put_half.ensures.written (omega arith) (omega arith))

@@ -1,9 +1,11 @@
-use Rattle.std.proofs.Common.{◌∙◌, ◌/◌, ◌%◌, ap, sym, subst, arith}
+use Rattle.std.proofs.Common.{◌≡◌, ◌∙◌, ◌+◌, ◌/◌, ◌%◌, ap, sym, subst, arith}
 use Rattle.std.specs.Int.{w32, to_le_bytes}
 use Rattle.rrv_model.specs.Memory.{stored}
 use Rattle.page_tables.specs.Contents.{contents_of}
 use Rattle.std.proofs.lemmas.Result.{err_from_is_err_and}
+use Rattle.guest_pages.specs.Live.{added_across, live_of}
 use Rattle.guest_pages.specs.Space.{SpaceValue, memory_of, IsStoreRefusal, fault_for}
+use Rattle.guest_pages.proofs.Live.{put_adds}
 use Rattle.guest_pages.proofs.PutRefusals.{put_refused}
 use Rattle.guest_pages.proofs.Stores.{stored_space, stored_memory, all_small}
 use Rattle.guest_pages.proofs.address_space.Space.store_word.Goals as goal
@@ -25,3 +27,8 @@ returns-in_err-put_word-clause-refused c =
     let told : IsStoreRefusal (memory_of c.args.self.now) c.args.address 4 (fault_for c.in_err-put_word.field-0.0) =
     subst (λ (s : SpaceValue). IsStoreRefusal (memory_of s) c.args.address 4 (fault_for c.in_err-put_word.field-0.0)) c.self.view_is refused in
     rw p.1 (subst (IsStoreRefusal (memory_of c.args.self.now) c.args.address 4) (sym p.2) told)
+
+pub returns-clause-live : goal.returns-clause-live
+returns-clause-live c =
+    subst (λ (s : SpaceValue). live_of c.put_word.new.self ≡ live_of s + added_across s c.args.address 4) c.self.view_is
+    (put_adds c.self.inside.tables c.put_word.new.self c.args.address 4 (to_le_bytes w32 c.args.value) c.in_ok-put_word.ensures.written (omega arith) (omega arith))

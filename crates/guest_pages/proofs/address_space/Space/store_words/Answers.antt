@@ -1,4 +1,4 @@
-use Rattle.std.proofs.Common.{◌≡◌, ℕ, ◌+◌, ◌/◌, true, List, drop, get_or, length, sym, ◌∙◌, ap, subst}
+use Rattle.std.proofs.Common.{◌≡◌, ℕ, ◌+◌, ◌/◌, List, drop, get_or, length, sym, ◌∙◌, ap, subst}
 use Rattle.std.proofs.lemmas.List.{drop_all}
 use Rattle.std.specs.Int.{w32, to_le_bytes}
 use Rattle.rrv_model.specs.Memory.{Memory, stored}
@@ -17,6 +17,7 @@ loop-place-init c =
       allowed = ap (λ (m : Memory). all_writable m c.args.places.now) memory ∙ c.requires;
       own = c.in_ok-own_words.ensures.ready;
       snapshots = c.own_words.ensures.snapshots;
+      live = c.in_ok-own_words.ensures.live;
     }
 
 pub fill-requires : goal.fill-requires
@@ -42,6 +43,7 @@ loop-place-preserved c =
       allowed = ap (λ (m : Memory). all_writable m (drop (i + 1) places)) here ∙ allowed_after (get_or places i 0) bytes m (drop (i + 1) places) next.1;
       own = λ k l j m. c.fill.ensures.own ((get_or places k 0 + j) / 4096) (c.loop-place.invariant.own k l j m);
       snapshots = c.fill.ensures.snapshots ∙ c.loop-place.invariant.snapshots;
+      live = c.fill.ensures.live ∙ c.loop-place.invariant.live;
     }
 
 pub returns-clause-stored : goal.returns-clause-stored

@@ -1,6 +1,7 @@
-use Rattle.std.proofs.Common.{◌∙◌, ◌*◌, ap, arith}
+use Rattle.std.proofs.Common.{◌≡◌, ◌+◌, ◌∙◌, ◌*◌, ap, arith, subst}
 use Rattle.rrv_model.specs.Memory.{unmapped, page_bytes}
 use Rattle.page_tables.specs.Contents.{contents_of}
+use Rattle.guest_pages.specs.Live.{freed_in, live_of}
 use Rattle.guest_pages.specs.Space.{SpaceValue, memory_of}
 use Rattle.guest_pages.proofs.Ranges.{unmapped_in, unmapped_each}
 use Rattle.guest_pages.proofs.Spaces.{is_space}
@@ -20,3 +21,6 @@ returns-clause-memory c =
     let r = c.remove_range-gone.ensures in
     unmapped_in (contents_of c.self.inside.tables).pages (contents_of c.remove_range-gone.new.tables).pages c.args.page c.args.count r.removed r.below r.above
     ∙ ap (λ (s : SpaceValue). unmapped (c.args.page * page_bytes) (c.args.count * page_bytes) (memory_of s)) c.self.view_is
+
+pub returns-clause-live : goal.returns-clause-live
+returns-clause-live c = subst (λ (s : SpaceValue). live_of c.remove_range-gone.new.tables + freed_in s c.args.page c.args.count ≡ live_of s) c.self.view_is c.remove_range-gone.ensures.live

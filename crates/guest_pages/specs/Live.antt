@@ -1,0 +1,49 @@
+-- How many pages there are: those of a space and of its live snapshots, a shared one counted once.
+use Rattle.std.specs.Prelude.{◌≡◌, ℕ, ◌+◌, ◌-◌, ◌/◌, ◌==◌, if◌then◌else◌, List, Option, Some, None}
+use Rattle.rrv_model.specs.Memory.{page_bytes}
+use Rattle.page_tables.specs.Contents.{contents_of, sum_below}
+use Rattle.page_tables.specs.Changes.{added, added_at, freed, is_listed}
+use Rattle.guest_pages.specs.declared.page.PageView.{PageView}
+use Rattle.guest_pages.specs.Space.{SpaceValue, snapshots_of}
+use Rattle.guest_pages.specs.Stores.{word_pages}
+
+abbrev pub live_of : SpaceValue → ℕ
+live_of s = (contents_of s).live
+
+-- no snapshot is live
+abbrev pub HasNoSnapshot : SpaceValue → Type 0
+HasNoSnapshot s = (n : ℕ) → snapshots_of s n ≡ None
+
+-- ---- what a call adds or takes away
+
+-- a page of its own for number n, where it has none
+abbrev pub added_for : SpaceValue → ℕ → ℕ
+added_for s n = added ((contents_of s).counts n)
+
+-- the page of number n, where no snapshot shares it
+abbrev pub freed_for : SpaceValue → ℕ → ℕ
+freed_for s n = freed ((contents_of s).counts n)
+
+-- the same for each of count numbers from first
+abbrev pub added_in : SpaceValue → ℕ → ℕ → ℕ
+added_in s first count = sum_below count (λ k. added_for s (first + k))
+
+abbrev pub freed_in : SpaceValue → ℕ → ℕ → ℕ
+freed_in s first count = sum_below count (λ k. freed_for s (first + k))
+
+-- how many pages count bytes from a lie in
+abbrev pub pages_across : ℕ → ℕ → ℕ
+pages_across a count = if count == 0 then 0 else (a + (count - 1)) / page_bytes - a / page_bytes + 1
+
+-- pages of its own for these
+abbrev pub added_across : SpaceValue → ℕ → ℕ → ℕ
+added_across s a count = added_in s (a / page_bytes) (pages_across a count)
+
+-- and for words at some places, each page counted once
+abbrev pub added_words : SpaceValue → List ℕ → ℕ
+added_words s places = added_at (is_listed (word_pages places)) (contents_of s).counts
+
+-- page n is put, or unmapped
+abbrev pub SetsLive : ℕ → Option PageView → SpaceValue → SpaceValue → Type 0
+SetsLive n None old new = live_of new + freed_for old n ≡ live_of old
+SetsLive n (Some v) old new = live_of new ≡ live_of old + added_for old n
