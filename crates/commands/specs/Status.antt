@@ -8,12 +8,12 @@ use Rattle.command_line.specs.Lines.{Refuses}
 use Rattle.command_line.specs.Request.{Asks}
 use Rattle.command_line.specs.declared.request.Request.{Request}
 
--- the exit status of a line that is refused by an error of this kind
-abbrev pub status_of : ErrorKind → ℕ
-status_of kinds.OutOfMemory = 1
-status_of kinds.DisplayHelp = 0
-status_of kinds.DisplayVersion = 0
-status_of _ = 2
+-- the exit status of a line that is refused by an error of this kind: 1 also of help that can't be printed
+abbrev pub IsStatusOf : ErrorKind → ℕ → Type 0
+IsStatusOf kinds.OutOfMemory status = status ≡ 1
+IsStatusOf kinds.DisplayHelp status = (status ≡ 0) ⊎ (status ≡ 1)
+IsStatusOf kinds.DisplayVersion status = (status ≡ 0) ⊎ (status ≡ 1)
+IsStatusOf _ status = status ≡ 2
 
 -- the words ask for something
 abbrev pub AreAsked : List Text → Type 0
@@ -21,7 +21,7 @@ AreAsked words = (request : Request) × IsSomeAnd (subcommand_of program words) 
 
 -- the exit status of words that are refused
 abbrev pub IsTold : List Text → ℕ → Type 0
-IsTold words status = (kind : ErrorKind) × Refuses words kind × (status ≡ status_of kind)
+IsTold words status = (kind : ErrorKind) × Refuses words kind × IsStatusOf kind status
 
 -- The exit status of words: 0 or 1 where they ask for something, and else that of an error by which they are refused. Out of memory is 1.
 abbrev pub IsStatus : List Text → ℕ → Type 0

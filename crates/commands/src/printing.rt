@@ -24,6 +24,24 @@ pub(crate) fn print_text<W: Write, T: Display>(out: &mut W, text: &T) -> Result<
     write!(out, "{text}").map_err(|_| Refusal::OutputFailed)
 }
 
+/// Prints a text in one write, so that nothing of another program comes between its parts. Where there is no memory to put it together,
+/// it is printed in parts.
+pub(crate) fn print_whole<W: Write, T: Display>(
+    alloc: Global,
+    text: &T,
+    out: &mut W,
+) -> Result<(), Refusal>
+    ensures printed { OnOk result (IfSome (T.output text.now) (Appends (W.contents out.old) (W.contents out.new))) }
+    ensures refused { IfErr result (λ e. e ≡ Refusal.OutputFailed) }
+{
+    match text.to_string(alloc) {
+        Ok(whole) => out
+            .write_all(whole.as_bytes())
+            .map_err(|_| Refusal::OutputFailed),
+        Err(_) => print_text(out, text),
+    }
+}
+
 /// Prints a text and a newline.
 pub(crate) fn print_line<W: Write, T: Display>(out: &mut W, line: &T) -> Result<(), Refusal>
     ensures printed { OnOk result (IfSome (T.output line.now)

@@ -1,15 +1,15 @@
 //! Doing a line of the program.
 
-ghost use Rattle.std.specs.Prelude.{◌≡◌, ◌≢◌, ◌≤◌, ◌⊎◌, length, map};
+ghost use Rattle.std.specs.Prelude.{◌≡◌, ◌≢◌, ◌≤◌, ◌⊎◌, OnErr, OnOk, length, map};
 ghost use Rattle.std.specs.IoError.{error_kind};
 ghost use Rattle.clap.specs.Words.{kind_of};
 ghost use Rattle.command_line.specs.Lines.{IsWithinLimits};
-ghost use Rattle.commands.specs.Status.{IsStatus, status_of};
+ghost use Rattle.commands.specs.Status.{IsStatus, IsStatusOf};
 
 use crate::exit_five::EXIT_FIVE;
 use crate::files::image_of;
 use crate::guests::{dump, list};
-use crate::printing::print_trial;
+use crate::printing::{print_trial, print_whole};
 use crate::questions::{back, choices, core, last, replay};
 use crate::record::record;
 use crate::refusal::Refusal;
@@ -39,7 +39,7 @@ const QUANTUM: u32 = 50_000;
 
 /// Does what a line of words asks for, which are those after the program's name, and returns the exit status: 0 done
 /// (also for a call of help), 1 refused, 2 a line that is none. What is asked for goes to `out`. A refusal's text,
-/// behind `rrv: `, and the text of a bad line go to `err`.
+/// behind `rrv: `, and the text of a bad line go to `err`, each in one write.
 pub fn run<
     R: Files<File = File> + AllocGlobal + Input + Threads + Wait + Sync + Clock,
     S: AsStr,
@@ -64,45 +64,62 @@ pub fn run_on<
 {
     match line(rt.alloc(), words) {
         Ok(request) => run_request(rt, request, terminals, out, err),
-        Err(error) => report(&error, out, err),
+        Err(error) => report(rt.alloc(), &error, out, err),
     }
 }
 
 /// Tells why the words of a line can't be read, and answers the status: 1 where that was out of memory, else 2.
-pub fn report_unread<E: Write>(error: &io::Error, err: &mut E) -> u8
+pub fn report_unread<E: Write>(alloc: Global, error: &io::Error, err: &mut E) -> u8
     ensures memory { error_kind error.now ≡ ErrorKind.OutOfMemory → result ≡ 1 }
     ensures other { error_kind error.now ≢ ErrorKind.OutOfMemory → result ≡ 2 }
 {
     if error.kind() == ErrorKind::OutOfMemory {
-        return report_refusal(&Refusal::Memory, err);
+        return report_refusal(alloc, &Refusal::Memory, err);
     }
-    let _ = writeln!(err, "rrv: cannot read the command line: {error}");
+    let text = format_args!("rrv: cannot read the command line: {error}\n");
+    let _ = print_whole(alloc, &text, err);
     2
 }
 
-/// Tells what the parser of the line says, where that belongs, and answers the status.
-pub fn report<O: Write, E: Write>(error: &clap::Error, out: &mut O, err: &mut E) -> u8
-    ensures { result ≡ status_of (kind_of error.now) }
+/// Tells what the parser of the line says, where that belongs, and answers the status: 1 also where help can't be printed.
+pub fn report<O: Write, E: Write>(
+    alloc: Global,
+    error: &clap::Error,
+    out: &mut O,
+    err: &mut E,
+) -> u8
+    ensures { IsStatusOf (kind_of error.now) result }
 {
     match error.kind() {
-        LineFault::OutOfMemory => report_refusal(&Refusal::Memory, err),
+        LineFault::OutOfMemory => report_refusal(alloc, &Refusal::Memory, err),
         LineFault::DisplayHelp | LineFault::DisplayVersion => {
-            let _ = write!(out, "{error}");
-            0
+            report_result(alloc, print_whole(alloc, error, out), err)
         }
         _ => {
-            let _ = write!(err, "{error}");
+            let _ = print_whole(alloc, error, err);
             2
         }
     }
 }
 
 /// Tells a refusal, and answers its status.
-fn report_refusal<E: Write>(refusal: &Refusal, err: &mut E) -> u8
+fn report_refusal<E: Write>(alloc: Global, refusal: &Refusal, err: &mut E) -> u8
     ensures { result ≡ 1 }
 {
-    let _ = writeln!(err, "rrv: {refusal}");
+    let text = format_args!("rrv: {refusal}\n");
+    let _ = print_whole(alloc, &text, err);
     1
+}
+
+/// Tells a refusal, if there is one, and answers the status.
+fn report_result<E: Write>(alloc: Global, done: Result<(), Refusal>, err: &mut E) -> u8
+    ensures done { OnOk done (result ≡ 0) }
+    ensures refused { OnErr done (result ≡ 1) }
+{
+    match done {
+        Ok(()) => 0,
+        Err(refusal) => report_refusal(alloc, &refusal, err),
+    }
 }
 
 /// Does what is asked for, or tells why not, and answers the status.
@@ -114,10 +131,8 @@ fn run_request<
     requires { IsWithinLimits request }
     ensures { (result ≡ 0) ⊎ (result ≡ 1) }
 {
-    match perform(rt, request, terminals, out, err) {
-        Ok(()) => 0,
-        Err(refusal) => report_refusal(&refusal, err),
-    }
+    let done = perform(rt, request, terminals, out, err);
+    report_result(rt.alloc(), done, err)
 }
 
 /// Does what each command does.

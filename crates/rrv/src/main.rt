@@ -17,7 +17,7 @@ fn main(rt: HostRuntime) -> ExitCode {
     let mut err = rt.stderr();
     let words = match words_of(&rt) {
         Ok(words) => words,
-        Err(error) => return ExitCode::from(report_unread(&error, &mut err)),
+        Err(error) => return ExitCode::from(report_unread(rt.alloc(), &error, &mut err)),
     };
     let terminals = Terminals {
         out: out.is_terminal(),

@@ -146,6 +146,64 @@ fn output_of_a_recorded_guest_that_fails_is_told(rt: HostRuntime) -> Result<(), 
     prints(&rt, &words, b"hi\n", &[(1, 0), (1, 1), (1000, 2)], failed)
 }
 
+#[test]
+fn help_that_fails_is_told(rt: HostRuntime) {
+    let failed: (u8, &[u8]) = (1, b"rrv: output failed\n");
+    for words in [["--help"], ["--version"]] {
+        for room in [0, 3] {
+            let (status, out, err) = printed(&rt, &words, 1000, room);
+            same(&rt, &(words, room), out.len(), room);
+            same(&rt, &(words, room), (status, err.as_slice()), failed);
+        }
+    }
+}
+
+/// A writer that takes all, and counts its writes.
+#[derive(Drop)]
+struct Counted {
+    taken: Vec<u8>,
+    writes: u32,
+}
+
+impl Write for Counted {
+    fn write(&mut self, buf: &[u8]) -> io::Result<usize> {
+        self.writes = self.writes.saturating_add(1);
+        self.taken.extend_from_slice(buf)?;
+        Ok(buf.len())
+    }
+
+    fn flush(&mut self) -> io::Result<()> {
+        Ok(())
+    }
+}
+
+#[test]
+fn a_refusal_and_help_leave_in_one_write(rt: HostRuntime) {
+    let rows: [(&[&str], u8, (u32, u32)); 4] = [
+        (&["list", "missing"], 1, (0, 1)),
+        (&["list"], 2, (0, 1)),
+        (&["--help"], 0, (1, 0)),
+        (&["--version"], 0, (1, 0)),
+    ];
+    for (words, status, writes) in rows {
+        let (mut out, mut err) = (counted(&rt), counted(&rt));
+        let ended = run(&rt, words, &mut out, &mut err);
+        same(
+            &rt,
+            &words,
+            (ended, (out.writes, err.writes)),
+            (status, writes),
+        );
+    }
+}
+
+fn counted(rt: &impl AllocGlobal) -> Counted {
+    Counted {
+        taken: Vec::new(rt.alloc()),
+        writes: 0,
+    }
+}
+
 /// A writer that fails.
 #[derive(Drop)]
 struct Closed;
@@ -237,7 +295,7 @@ const EXIT_BYTES: &[u8] = b"bytes of a file";
 /// What is printed of words that could not be read, and the status.
 fn unread<R: Abort + AllocGlobal>(rt: &R, kind: ErrorKind, want: (u8, &[u8])) {
     let mut err = Vec::new(rt.alloc());
-    let status = report_unread(&io::Error::from(kind), &mut err);
+    let status = report_unread(rt.alloc(), &io::Error::from(kind), &mut err);
     same(rt, &want, (status, err.as_slice()), want);
 }
 
@@ -257,7 +315,12 @@ fn a_parser_that_is_out_of_memory_is_told(rt: HostRuntime) {
     let want: &[u8] = b"rrv: out of memory\n";
     let mut out = Vec::new(rt.alloc());
     let mut err = Vec::new(rt.alloc());
-    let status = report(&clap::Error::from(AllocError), &mut out, &mut err);
+    let status = report(
+        rt.alloc(),
+        &clap::Error::from(AllocError),
+        &mut out,
+        &mut err,
+    );
     same(
         &rt,
         &want,

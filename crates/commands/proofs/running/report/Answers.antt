@@ -1,11 +1,11 @@
-use Rattle.std.proofs.Common.{◌≡◌, ◌∙◌, refl, sym, subst}
+use Rattle.std.proofs.Common.{◌∙◌, subst, sym}
 use Rattle.clap.specs.declared.error.kind.ErrorKind.{ErrorKind}
 use Rattle.commands.proofs.Statuses.{mistake_status}
-use Rattle.commands.specs.Status.{status_of}
+use Rattle.commands.specs.Status.{IsStatusOf}
 use Rattle.commands.proofs.running.report.Goals as goal
 
 pub returns-in_default : goal.returns-in_default
-returns-in_default g c = subst (λ (k : ErrorKind). 2 ≡ status_of k) c.kind.ensures (sym (mistake_status c.kind.result c.in_default.not-OutOfMemory c.in_default.not-DisplayHelp c.in_default.not-DisplayVersion))
+returns-in_default g c = subst (λ (k : ErrorKind). IsStatusOf k 2) c.kind.ensures (mistake_status c.kind.result c.in_default.not-OutOfMemory c.in_default.not-DisplayHelp c.in_default.not-DisplayVersion)
 
 pub returns-in-OutOfMemory : goal.returns-in-OutOfMemory
-returns-in-OutOfMemory g c = c.report_refusal.ensures ∙ subst (λ (k : ErrorKind). 1 ≡ status_of k) (sym c.in-OutOfMemory.is ∙ c.kind.ensures) refl
+returns-in-OutOfMemory g c = subst (λ (k : ErrorKind). IsStatusOf k c.report_refusal.result) (sym c.in-OutOfMemory.is ∙ c.kind.ensures) c.report_refusal.ensures
