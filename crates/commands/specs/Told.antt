@@ -14,8 +14,14 @@ use Rattle.reverse_step.specs.declared.fault.SeekFault.{SeekFault}
 use Rattle.reverse_step.specs.declared.fault.SeekFault.TheVariants as seek_faults
 use Rattle.session.specs.declared.fault.SessionFault.{SessionFault}
 use Rattle.session.specs.declared.fault.SessionFault.TheVariants as session_faults
+use Rattle.trace_disk.specs.declared.file_disk.CreateFault.{CreateFault}
+use Rattle.trace_disk.specs.declared.file_disk.CreateFault.TheVariants as create_faults
 use Rattle.commands.specs.declared.refusal.Refusal.{Refusal}
 use Rattle.commands.specs.declared.refusal.Refusal.TheVariants as refusals
+
+abbrev pub create_told : CreateFault → Refusal
+create_told create_faults.CannotOpen = refusals.CannotOpenStore
+create_told create_faults.DeviceFailed = refusals.DeviceFailed
 
 abbrev pub open_told : OpenFault → Refusal
 open_told open_faults.NotAStore = refusals.NotAStore

@@ -2,7 +2,7 @@
 
 ghost use Rattle.std.specs.Prelude.{◌≡◌, ◌≢◌};
 ghost use Rattle.std.specs.IoError.{error_kind};
-ghost use Rattle.commands.specs.Told.{elf_told, open_told, output_told, read_told, seek_told, session_told, verify_told};
+ghost use Rattle.commands.specs.Told.{create_told, elf_told, open_told, output_told, read_told, seek_told, session_told, verify_told};
 ghost use Rattle.commands.specs.declared.refusal.Refusal.TheVariants as refusals;
 
 use command_line::BadSeed;
@@ -16,7 +16,7 @@ use std::alloc::{AllocError, AllocFailed};
 use std::io;
 use std::io::ErrorKind;
 use thiserror::Error;
-use trace_disk::CannotOpen;
+use trace_disk::{CannotOpen, CreateFault};
 
 /// Why a line was refused. The text is what the program prints behind `rrv: `.
 #[derive(Debug, Drop, Error)]
@@ -119,6 +119,17 @@ impl From<CannotOpen> for Refusal {
 
     fn from(_: CannotOpen) -> Self {
         Refusal::CannotOpenStore
+    }
+}
+
+impl From<CreateFault> for Refusal {
+    ghost from_gives = { λ fault e. e ≡ create_told fault };
+
+    fn from(fault: CreateFault) -> Self {
+        match fault {
+            CreateFault::CannotOpen => Refusal::CannotOpenStore,
+            CreateFault::DeviceFailed => Refusal::DeviceFailed,
+        }
     }
 }
 

@@ -25,12 +25,15 @@ pub(crate) struct Store<D: Disk> {
     pub(crate) disk: D,
 }
 
-/// Makes an empty store in a new file.
+/// Makes an empty store in a new file, which is removed again where it can't be written.
 pub(crate) fn make_store<R: Files<File = File>>(rt: &R, path: &str) -> Result<(), Refusal> {
     let disk = FileDisk::create(rt, path)?;
     match Log::create(disk) {
         Ok(_) => Ok(()),
-        Err(_) => Err(Refusal::DeviceFailed),
+        Err((disk, _)) => {
+            disk.remove(rt, path);
+            Err(Refusal::DeviceFailed)
+        }
     }
 }
 

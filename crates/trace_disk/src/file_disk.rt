@@ -5,7 +5,7 @@ ghost use Rattle.rrv_model.specs.Failures.{one_more, IsCounted};
 ghost use Rattle.trace_disk.specs.FileDisk.{opened_file, IsFileCall};
 
 use crate::{Disk, DiskFailed};
-use std::fs::{File, OpenOptions};
+use std::fs::{File, Metadata, OpenOptions};
 use std::marker::Model;
 use std::os::fd::AsRawFd;
 use std::os::unix::fs::{FileExt, MetadataExt};
@@ -25,6 +25,29 @@ pub struct CannotOpen;
 impl From<io::Error> for CannotOpen {
     fn from(_: io::Error) -> Self {
         CannotOpen
+    }
+}
+
+/// A file can't be made as a disk.
+#[derive(Clone, Copy, Debug, PartialEq, Eq, Error)]
+pub enum CreateFault {
+    /// There is something of this name, or no file of it can be made and locked.
+    #[error("cannot open store")]
+    CannotOpen,
+    /// The file's name isn't safe on the device.
+    #[error("device failed")]
+    DeviceFailed,
+}
+
+impl From<io::Error> for CreateFault {
+    fn from(_: io::Error) -> Self {
+        CreateFault::CannotOpen
+    }
+}
+
+impl From<CannotOpen> for CreateFault {
+    fn from(_: CannotOpen) -> Self {
+        CreateFault::CannotOpen
     }
 }
 
@@ -54,20 +77,39 @@ impl Model for FileDisk {
 }
 
 impl FileDisk {
-    /// Makes a file with no bytes, and has its name on the device. A path with anything there is refused, a link too. At an `Err` a
-    /// file with no bytes may be left, where a lock isn't to be had or the folder can't be synced.
-    pub fn create<R: Files<File = File>>(rt: &R, path: &str) -> Result<FileDisk, CannotOpen>
+    /// Makes a file with no bytes, and has its name on the device. A path with anything there is refused, a link too. At an `Err` the
+    /// file that was made is removed again, unless another program wrote to it or put one of its own there.
+    pub fn create<R: Files<File = File>>(rt: &R, path: &str) -> Result<FileDisk, CreateFault>
         ensures { IfOk result (λ disk. disk ≡ opened_file 0) }
     {
         let folder = open_folder(rt, path)?;
-        let disk = FileDisk::locking(File::create_new(rt, path)?)?;
-        folder.sync_all()?;
-        // Another program may have written to it before the lock was taken.
-        if disk.len == 0 {
-            Ok(disk)
-        } else {
-            Err(CannotOpen)
+        let file = File::create_new(rt, path)?;
+        let made = file.metadata();
+        match FileDisk::named(file, &folder) {
+            Ok(disk) if disk.len == 0 => Ok(disk),
+            // Another program wrote to it before the lock was taken, and its bytes are kept.
+            Ok(_) => Err(CreateFault::CannotOpen),
+            Err(fault) => {
+                remove_made(rt, path, &made);
+                Err(fault)
+            }
         }
+    }
+
+    /// Removes the file, where this path leads to it.
+    pub fn remove<R: Files<File = File>>(self, rt: &R, path: &str) {
+        remove_made(rt, path, &self.file.metadata());
+    }
+
+    // Takes the lock of a file that was just made, and has its name on the device.
+    fn named(file: File, folder: &File) -> Result<FileDisk, CreateFault>
+        ensures { IfOk result (λ disk. disk ≡ opened_file disk.size) }
+    {
+        let disk = FileDisk::locking(file)?;
+        if folder.sync_all().is_err() {
+            return Err(CreateFault::DeviceFailed);
+        }
+        Ok(disk)
     }
 
     /// Opens a file that is there, with the bytes that it has. A link leads to the file that it names.
@@ -147,6 +189,19 @@ fn open_folder<R: Files<File = File>>(rt: &R, path: &str) -> io::Result<File> {
         return Err(io::ErrorKind::NotADirectory.into());
     }
     File::open(rt, folder)
+}
+
+// Removes a file, where a path leads to it still: another program may have put one of its own there.
+fn remove_made<R: Files<File = File>>(rt: &R, path: &str, made: &io::Result<Metadata>) {
+    let Ok(made) = made else {
+        return;
+    };
+    let Ok(there) = fs::symlink_metadata(rt, path) else {
+        return;
+    };
+    if made.ino() == there.ino() && made.dev() == there.dev() {
+        let _ = fs::remove_file(rt, path);
+    }
 }
 
 // Where a standard stream was closed, a file may get its number: what is meant for the stream must not reach the file.

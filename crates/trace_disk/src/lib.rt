@@ -9,5 +9,5 @@ mod mem_disk;
 
 pub use disk::{Disk, DiskFailed, cut_through, write_through};
 pub use fail_once::FailOnce;
-pub use file_disk::{CannotOpen, FileDisk};
+pub use file_disk::{CannotOpen, CreateFault, FileDisk};
 pub use mem_disk::MemDisk;

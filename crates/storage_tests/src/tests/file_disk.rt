@@ -6,7 +6,7 @@ use std::os::unix::fs::symlink;
 use std::process::Abort;
 use std::rt::Files;
 use std::test::Fail;
-use trace_disk::{CannotOpen, Disk, DiskFailed, FileDisk};
+use trace_disk::{CannotOpen, CreateFault, Disk, DiskFailed, FileDisk};
 
 /// What is done with a disk or beside it, or what is to be found. A disk stays open until it is let go.
 #[derive(Drop)]
@@ -97,7 +97,7 @@ fn is_refused<R: Files<File = File>>(rt: &R, path: &str) -> bool {
 
 // Whether no disk can be made at a path.
 fn is_taken<R: Files<File = File>>(rt: &R, path: &str) -> bool {
-    matches!(FileDisk::create(rt, path), Err(CannotOpen))
+    matches!(FileDisk::create(rt, path), Err(CreateFault::CannotOpen))
 }
 
 // A row that says where there is no disk to be had.
