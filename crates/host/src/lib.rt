@@ -3,9 +3,11 @@
 
 mod clocks;
 mod machine;
+mod patient;
 mod random;
 mod streams;
 
 pub use machine::Machine;
+pub use patient::Patient;
 pub use random::opening_random;
 pub use streams::{StreamSink, Streams};

@@ -2,6 +2,7 @@
 #![tactic(auto)]
 
 use commands::{Terminals, report_unread, run_on};
+use host::Patient;
 use std::io::IsTerminal;
 use std::process::ExitCode;
 use std::{env, io};
@@ -13,15 +14,15 @@ fn words_of(rt: &HostRuntime) -> io::Result<Vec<String>> {
 }
 
 fn main(rt: HostRuntime) -> ExitCode {
-    let mut out = rt.stdout();
-    let mut err = rt.stderr();
+    let terminals = Terminals {
+        out: rt.stdout().is_terminal(),
+        err: rt.stderr().is_terminal(),
+    };
+    let mut out = Patient::new(&rt, rt.stdout());
+    let mut err = Patient::new(&rt, rt.stderr());
     let words = match words_of(&rt) {
         Ok(words) => words,
         Err(error) => return ExitCode::from(report_unread(rt.alloc(), &error, &mut err)),
-    };
-    let terminals = Terminals {
-        out: out.is_terminal(),
-        err: err.is_terminal(),
     };
     ExitCode::from(run_on(&rt, words.as_slice(), terminals, &mut out, &mut err))
 }

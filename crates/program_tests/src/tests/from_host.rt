@@ -4,7 +4,7 @@ ghost use Rattle.std.specs.Prelude.{◌≤◌, length};
 
 use super::kit::same;
 use guest_calls::Outside;
-use host::{Machine, StreamSink, Streams, opening_random};
+use host::{Machine, Patient, StreamSink, Streams, opening_random};
 use rrv_model::sink::{Sink, SinkError};
 use std::io;
 use std::io::{ErrorKind, Write};
@@ -48,6 +48,25 @@ impl Write for Fitful {
         if self.flushes == 2 {
             return Err(io::Error::from(ErrorKind::Other));
         }
+        Ok(())
+    }
+}
+
+/// A writer that is interrupted, would then have to wait twice, and takes two bytes at most then.
+#[derive(Drop)]
+struct Slow(u32);
+
+impl Write for Slow {
+    fn write(&mut self, bytes: &[u8]) -> io::Result<usize> {
+        self.0 = self.0.saturating_add(1);
+        match self.0 {
+            1 => Err(io::Error::from(ErrorKind::Interrupted)),
+            2 | 3 => Err(io::Error::from(ErrorKind::WouldBlock)),
+            _ => Ok(bytes.len().min(2)),
+        }
+    }
+
+    fn flush(&mut self) -> io::Result<()> {
         Ok(())
     }
 }
@@ -148,6 +167,28 @@ fn sinks_share_their_streams(rt: HostRuntime) {
     let (output, error) = streams.into_inner().into_parts();
     same(&rt, &"output", output.as_slice(), b"abcde");
     same(&rt, &"error", error.as_slice(), b"wxyz");
+}
+
+#[test]
+fn a_slow_stream_is_waited_for(rt: HostRuntime) {
+    let patient = Patient::new(&rt, Slow(0));
+    let streams = Mutex::new(Streams::new(patient, Vec::new(rt.alloc())));
+    let mut sink = StreamSink::new(&streams);
+    put(&rt, &mut sink, 1, b"abc", Ok(2), 0);
+    put(&rt, &mut sink, 1, b"c", Ok(1), 0);
+}
+
+#[test]
+fn a_patient_stream_tells_other_errors(rt: HostRuntime) {
+    let fitful = Fitful {
+        writes: 0,
+        flushes: 0,
+    };
+    let mut patient = Patient::new(&rt, fitful);
+    same(&rt, &"first", patient.write(b"abc").ok(), Some(2));
+    same(&rt, &"second", patient.write(b"c").ok(), None);
+    same(&rt, &"flush", patient.flush().is_ok(), true);
+    same(&rt, &"second flush", patient.flush().is_ok(), false);
 }
 
 #[test]
