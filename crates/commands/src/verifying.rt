@@ -4,7 +4,7 @@ ghost use Rattle.std.specs.Prelude.{◌≡◌, ◌<◌, ◌↔◌, IfErr, IfOk, 
 ghost use Rattle.rrv_model.specs.Recovered.{of_guest};
 ghost use Rattle.recover.specs.Spots.{records_of, StandOn};
 ghost use Rattle.replayer.specs.declared.fault.VerifyFault.{VerifyFault};
-ghost use Rattle.replayer.specs.Sourced.{IsEndOf, RefusesSource};
+ghost use Rattle.replayer.specs.Sourced.{IsEndOf, NamesWithheld, RefusesSource};
 ghost use Rattle.replayer.specs.Verified.{Keeps};
 ghost use Rattle.commands.specs.Stores.{RefusesGuest};
 ghost use Rattle.commands.specs.Told.{verify_told};
@@ -80,6 +80,8 @@ fn verified<R: Clock, S: Source, E: Write + Drop>(
     ensures keeps { S.honest source.old → IfOk result (λ verified. Keeps verified (S.records source.old)) }
     ensures refused { S.honest source.old → IfErr result (λ e.
         (fault : VerifyFault) × (e ≡ verify_told fault) × RefusesSource fault (S.records source.old)) }
+    ensures names { IfErr result (λ e.
+        (fault : VerifyFault) × (e ≡ verify_told fault) × NamesWithheld S.withheld_at source.new fault) }
 {
     let all = count_of(alloc, source, is_shown);
     let line = AtomicBool::new(false);
@@ -100,6 +102,8 @@ fn verified_end<R: Clock, S: Source, E: Write + Drop>(
     ensures ends { S.honest source.old → IfOk result (λ end. IsEndOf end (S.records source.old)) }
     ensures refused { S.honest source.old → IfErr result (λ e.
         (fault : VerifyFault) × (e ≡ verify_told fault) × RefusesSource fault (S.records source.old)) }
+    ensures names { IfErr result (λ e.
+        (fault : VerifyFault) × (e ≡ verify_told fault) × NamesWithheld S.withheld_at source.new fault) }
 {
     let all = count_of(alloc, source, is_shown);
     let line = AtomicBool::new(false);
@@ -129,7 +133,7 @@ pub(crate) fn verified_in<R: Clock, D: Disk + Drop, E: Write + Drop>(
         lists,
         disk,
         guest,
-        withheld: false,
+        withheld: None,
     };
     verified(rt, alloc, &mut source, is_shown, err)
 }
@@ -154,7 +158,7 @@ pub(crate) fn end_in<R: Clock, D: Disk + Drop, E: Write + Drop>(
         lists,
         disk,
         guest,
-        withheld: false,
+        withheld: None,
     };
     verified_end(rt, alloc, &mut source, is_shown, err)
 }
