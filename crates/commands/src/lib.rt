@@ -4,6 +4,7 @@
 mod choosing;
 mod core_files;
 mod demonstration;
+mod ended;
 mod exit_five;
 mod files;
 mod guests;

@@ -4,6 +4,7 @@ ghost use Rattle.std.specs.Prelude.{◌≡◌, false, length};
 ghost use Rattle.serial_sched.specs.Slices.{IsQuantum};
 
 use crate::choosing::choices_in_files;
+use crate::ended::{Stopped, Unreported, tell_ended};
 use crate::files::{images_in, input_in};
 use crate::jobs::{Shared, jobs_of};
 use crate::misfits::{GuestMisfit, misfits_of, print_misfits};
@@ -18,7 +19,7 @@ use guest_calls::Guest;
 use host::Streams;
 use progress::{Clearing, RecordProgress};
 use rrv_model::record::Choice;
-use session::{GuestReport, record_all};
+use session::{GuestReport, SessionFault, record_all};
 use std::alloc::Global;
 use std::fs::File;
 use std::io::Write;
@@ -38,7 +39,8 @@ fn seed_of(text: Option<&str>) -> Result<[u8; 16], Refusal> {
     }
 }
 
-/// Records programs to a store, and prints how each guest ended. Output is printed once it is durable.
+/// Records programs to a store, and prints how each guest ended. Output is printed once it is durable. Where the output of a guest fails,
+/// that is told behind the ends of the others.
 pub(crate) fn record<
     R: Files<File = File> + AllocGlobal + Input + Threads + Wait + Sync + Clock,
     O: Write + Drop + Send,
@@ -56,8 +58,15 @@ pub(crate) fn record<
     let seed = seed_of(recording.seed)?;
     let log = open_log(rt, recording.store)?;
     let inputs = inputs_of(rt, recording)?;
-    let recorded = record_shown(rt, recording, start, seed, log, inputs, terminals, out, err)?;
-    tell(rt.alloc(), &recorded, err)
+    match record_shown(rt, recording, start, seed, log, inputs, terminals, out, err) {
+        Ok(recorded) => tell(rt.alloc(), &recorded, err),
+        Err(Unreported::Refused(refusal)) => Err(refusal),
+        Err(Unreported::Stopped(stopped)) => {
+            // Where they can't be told either, the refusal still is.
+            let _ = tell_ended(rt, rt.alloc(), stopped, err);
+            Err(Refusal::OutputFailed)
+        }
+    }
 }
 
 /// What the guests of a recording are made of, as the files of its line have it.
@@ -116,7 +125,7 @@ fn record_shown<
     terminals: Terminals,
     out: &mut O,
     err: &mut E,
-) -> Result<Recorded, Refusal>
+) -> Result<Recorded, Unreported<FileDisk>>
     requires quantum { IsQuantum recording.now.quantum }
     requires whole { log.is_broken ≡ false }
 {
@@ -168,13 +177,18 @@ fn record_images<
     err: E,
     line: &AtomicBool,
     is_on: bool,
-) -> Result<Recorded, Refusal>
+) -> Result<Recorded, Unreported<FileDisk>>
     requires { log.is_broken ≡ false }
 {
     let streams = Mutex::new(Streams::new(out, err));
     let jobs = jobs_of(rt.alloc(), shared, &streams, images)?;
     let gate = RecordProgress::new(rt, &streams, line, is_on);
-    let (_log, jobs, result) = record_all(rt, rt.alloc(), log, jobs, &gate);
+    let first = log.next_guest();
+    let (log, jobs, result) = record_all(rt, rt.alloc(), log, jobs, &gate);
+    if let Err(SessionFault::SinkFailed { .. }) = &result {
+        let stopped = Stopped::new(rt.alloc(), log, first, &jobs)?;
+        return Err(Unreported::Stopped(stopped));
+    }
     let report = result?;
     let lasts = lasts_of(rt.alloc(), &jobs)?;
     let misfits = misfits_of(rt.alloc(), &jobs)?;

@@ -43,7 +43,7 @@ fn has_left(guest: &Guest) -> bool
 }
 
 /// Prints how a guest ended and, unless its last thread exited, where and why.
-fn print_report<W: Write>(
+pub(crate) fn print_report<W: Write>(
     alloc: Global,
     place: usize,
     report: &GuestReport,

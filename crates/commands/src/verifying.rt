@@ -92,7 +92,7 @@ fn verified<R: Clock, S: Source, E: Write + Drop>(
 }
 
 /// Where the recording that a source's records are ends. How far it is goes to `err`, where `is_shown` says so.
-fn verified_end<R: Clock, S: Source, E: Write + Drop>(
+pub(crate) fn verified_end<R: Clock, S: Source, E: Write + Drop>(
     rt: &R,
     alloc: Global,
     source: &mut S,

@@ -8,5 +8,5 @@ invariant_of-result g c =
     let both = ok_is _ _ _ c.in_ok-report.was r.recorded.2 in
     record {
       guests_are = guests_length _ _ _ _ _ _ _ _ both;
-      lasts_are = lasts_length _ _ _ _ _ _ _ _ _ _ (c.in_ok-lasts.ensures.lasts ∙ ap (map _) c.deref.ensures.value) both;
+      lasts_are = lasts_length _ _ _ _ _ _ _ _ _ _ (c.in_ok-lasts.ensures.lasts ∙ ap (map _) c.deref-2.ensures.value) both;
     }

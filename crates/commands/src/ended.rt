@@ -1,0 +1,116 @@
+//! The guests that ended, of a recording that the output of another stopped.
+
+use crate::printing::{finish, in_blocks};
+use crate::refusal::Refusal;
+use crate::reports::print_report;
+use crate::store::{Store, opened};
+use crate::stored::StoredGuest;
+use crate::verifying::verified_end;
+use guest_calls::Outside;
+use rrv_model::sink::Sink;
+use serial_sched::Chooser;
+use session::{GuestReport, Job, SessionFault};
+use std::alloc::Global;
+use std::io;
+use std::io::Write;
+use std::time::Clock;
+use trace_disk::Disk;
+use trace_log::Log;
+
+/// What the output of a guest leaves that stopped its recording: the log, the number of the first guest, and of each guest whether all
+/// of its output was taken.
+#[derive(Drop)]
+pub(crate) struct Stopped<D: Disk> {
+    log: Log<D>,
+    first: u32,
+    taken: Vec<bool>,
+}
+
+impl<D: Disk + Drop> Stopped<D> {
+    /// Of these jobs.
+    pub(crate) fn new<C: Chooser + Drop, O: Outside + Drop, S: Sink + Drop>(
+        alloc: Global,
+        log: Log<D>,
+        first: u32,
+        jobs: &[Job<C, O, S>],
+    ) -> Result<Self, Refusal> {
+        let taken = jobs
+            .iter()
+            .map(|job| job.sink.failures() == 0)
+            .collect(alloc)?;
+        Ok(Stopped { log, first, taken })
+    }
+}
+
+/// Why a recording has no reports.
+#[derive(Drop)]
+pub(crate) enum Unreported<D: Disk> {
+    Refused(Refusal),
+    /// A guest's output failed.
+    Stopped(Stopped<D>),
+}
+
+impl<D: Disk> From<Refusal> for Unreported<D> {
+    fn from(refusal: Refusal) -> Self {
+        Unreported::Refused(refusal)
+    }
+}
+
+impl<D: Disk> From<SessionFault> for Unreported<D> {
+    fn from(fault: SessionFault) -> Self {
+        Unreported::Refused(Refusal::from(fault))
+    }
+}
+
+/// Prints how each guest ended whose output was taken, in blocks. It is replayed for this, from the store.
+pub(crate) fn tell_ended<R: Clock, D: Disk + Drop, E: Write>(
+    rt: &R,
+    alloc: Global,
+    stopped: Stopped<D>,
+    err: &mut E,
+) -> Result<(), Refusal> {
+    let Stopped { log, first, taken } = stopped;
+    let (log, lists) = opened(alloc, log.close())?;
+    let mut store = Store {
+        lists,
+        disk: log.close(),
+    };
+    let mut err = in_blocks(alloc, err)?;
+    for place in 0..taken.len() {
+        if taken[place] {
+            store = print_ended(rt, alloc, store, first, place, &mut err)?;
+        }
+    }
+    finish(&mut err)
+}
+
+/// Prints how the guest at this place of the recording ended, if it did, and hands the store back.
+fn print_ended<R: Clock, D: Disk + Drop, W: Write>(
+    rt: &R,
+    alloc: Global,
+    store: Store<D>,
+    first: u32,
+    place: usize,
+    out: &mut W,
+) -> Result<Store<D>, Refusal> {
+    let Store { lists, disk } = store;
+    let guest = first.saturating_add(u32::try_from(place).unwrap_or(u32::MAX));
+    let records = lists.len(guest);
+    let mut source = StoredGuest {
+        lists,
+        disk,
+        guest,
+        withheld: None,
+    };
+    let end = verified_end(rt, alloc, &mut source, false, &mut io::sink())?;
+    let report = GuestReport {
+        number: guest,
+        records,
+        end: end.guest.ended(),
+    };
+    if report.end.is_some() {
+        print_report(alloc, place, &report, &end.guest, end.last, out)?;
+    }
+    let StoredGuest { lists, disk, .. } = source;
+    Ok(Store { lists, disk })
+}
