@@ -1,6 +1,6 @@
 -- Records that are printed as they are replayed, one after another.
-use Rattle.std.proofs.Common.{◌≡◌, ℕ, zero, suc, ◌+◌, ◌≤◌, Bool, true, List, [], ◌∷◌, ◌++◌, length, Option, Some, None, arith, refl, ap, sym, subst, ◌∙◌}
-use Rattle.std.specs.Prelude.{take, slice_get, OnOk, IfErr, Result, Ok, Err}
+use Rattle.std.proofs.Common.{◌≡◌, ℕ, zero, suc, ◌+◌, ◌≤◌, Bool, true, List, [], ◌∷◌, ◌++◌, length, Option, Some, arith, refl, ap, sym, subst, ◌∙◌}
+use Rattle.std.specs.Prelude.{take, slice_get, OnOk, Result, Ok, Err}
 use Rattle.std.specs.Io.KnownBytes.{Appends}
 use Rattle.command_line.specs.declared.request.DumpForm.{DumpForm}
 use Rattle.rrv_model.specs.declared.record.Record.{Record}
@@ -14,7 +14,7 @@ use Rattle.replayer.specs.declared.fault.VerifyFault.TheVariants as verify_fault
 use Rattle.commands.specs.declared.refusal.Refusal.{Refusal}
 use Rattle.commands.specs.Printed.{with_newline}
 use Rattle.commands.specs.Told.{verify_told}
-use Rattle.commands.specs.Turns.{AreTurns, IsDumped, PrintsTurns, RefusesTurns, count_before, dump_end, end_told, turn_text}
+use Rattle.commands.specs.Turns.{IsDumped, PrintsTurns, RefusesTurns, count_before, dump_end, end_told, turn_text}
 use Rattle.commands.proofs.Texts.{appends_none, appends_on, take_next}
 
 -- one record more

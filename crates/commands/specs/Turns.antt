@@ -1,5 +1,5 @@
 -- What is printed of records that are replayed, one after another.
-use Rattle.std.specs.Prelude.{◌≡◌, ℕ, zero, suc, ◌≤◌, Bool, true, false, List, [], ◌∷◌, ◌++◌, length, take, slice_get, Option, Some}
+use Rattle.std.specs.Prelude.{◌≡◌, ℕ, zero, suc, ◌≤◌, Bool, true, false, List, [], ◌++◌, length, take, slice_get, Option, Some}
 use Rattle.std.specs.Io.KnownBytes.{Appends}
 use Rattle.command_line.specs.declared.request.DumpForm.{DumpForm}
 use Rattle.command_line.specs.declared.request.DumpForm.TheVariants as forms
@@ -14,7 +14,7 @@ use Rattle.trace_text.specs.Lines.{record_line, verify_line}
 use Rattle.turn_text.specs.Records.{event_text, events_end, places_line}
 use Rattle.commands.specs.declared.refusal.Refusal.{Refusal}
 use Rattle.commands.specs.declared.refusal.Refusal.TheVariants as refusals
-use Rattle.commands.specs.Printed.{dump_lines, with_newline}
+use Rattle.commands.specs.Printed.{with_newline}
 
 -- what is printed of a record, before and behind which so many instructions ran, and behind which this is the state
 abbrev pub turn_text : DumpForm → Record → (from to : ℕ) → State → List ℕ

@@ -1,7 +1,6 @@
-use Rattle.std.proofs.Common.{arith, get_or, None, ◌∙◌}
+use Rattle.std.proofs.Common.{arith, None}
 use Rattle.std.proofs.lemmas.Option.{slice_get-get_or}
 use Rattle.session.proofs.Openings.{get_is}
-use Rattle.session.specs.declared.report.GuestReport.{GuestReport}
 use Rattle.commands.proofs.Texts.{guests_on}
 use Rattle.commands.proofs.reports.print_reports.Goals as goal
 
