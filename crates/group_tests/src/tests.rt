@@ -6,6 +6,7 @@ use std::process::Abort;
 mod guests;
 mod items;
 mod machine;
+mod memory;
 mod outputs;
 mod rows;
 mod stores;

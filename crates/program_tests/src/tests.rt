@@ -5,6 +5,7 @@ mod from_host;
 mod guests;
 mod kit;
 mod lines;
+mod memory;
 mod programs;
 mod recordings;
 mod refusals;

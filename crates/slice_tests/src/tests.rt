@@ -3,6 +3,7 @@
 mod asking;
 mod chooser;
 mod memory;
+mod shared;
 mod slices;
 mod stores;
 mod texts;

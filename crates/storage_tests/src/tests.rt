@@ -14,6 +14,7 @@ mod limits;
 mod logs;
 mod machine;
 mod many;
+mod memory;
 mod pieces;
 mod rows;
 mod texts;

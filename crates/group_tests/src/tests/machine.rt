@@ -51,7 +51,7 @@ pub(crate) struct Machine {
 
 impl Machine {
     /// A group of so many guests and a new store, on a disk that fails at this call of those behind the store's making,
-    /// counted from 1; at none with 0.
+    /// counted from 1; at none with 0. Within its room, which a small commit stays in, it takes no memory.
     pub(crate) fn new(alloc: Global, guests: u32, fails: u64) -> Result<Machine, Fail> {
         if guests == 0 || guests > 16 {
             return Err(Fail::new("no such group"));
@@ -61,7 +61,8 @@ impl Machine {
         } else {
             fails.saturating_add(2)
         };
-        let Ok(log) = Log::create(FailOnce::new(MemDisk::new(alloc), fails)) else {
+        let disk = MemDisk::with_room(alloc, 2_000, 20)?;
+        let Ok(log) = Log::create(FailOnce::new(disk, fails)) else {
             return Err(Fail::new("no store"));
         };
         let (seats, flusher) = Group::make(alloc, guests)?;

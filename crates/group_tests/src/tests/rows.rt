@@ -71,6 +71,19 @@ fn take(
     Ok(())
 }
 
+/// Takes rows one after another.
+pub(crate) fn play_on<R: Abort + Wait>(
+    rt: &R,
+    alloc: Global,
+    machine: &mut Machine,
+    rows: &[Row],
+) -> Result<(), Fail> {
+    for row in rows {
+        take(rt, alloc, machine, row)?;
+    }
+    Ok(())
+}
+
 /// Takes rows one after another, on a group of so many guests. A call of the disk fails behind the store's making, counted from 1; none with 0.
 fn played<R: Abort + Wait>(
     rt: &R,
@@ -80,9 +93,7 @@ fn played<R: Abort + Wait>(
     rows: &[Row],
 ) -> Result<Machine, Fail> {
     let mut machine = Machine::new(alloc, guests, fails)?;
-    for row in rows {
-        take(rt, alloc, &mut machine, row)?;
-    }
+    play_on(rt, alloc, &mut machine, rows)?;
     Ok(machine)
 }
 

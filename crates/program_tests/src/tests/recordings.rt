@@ -160,7 +160,7 @@ impl Source for Given<'_> {
 
 /// How many records are verified of a source that gives these, but for the one at a place; or why they are none. And the place of
 /// the one that was withheld.
-fn verified_of(
+pub(crate) fn verified_of(
     alloc: Global,
     records: &[Record],
     fails: usize,

@@ -192,6 +192,7 @@ impl Four {
         store: &mut Store,
         but: usize,
     ) -> Result<usize, Fail> {
+        same(rt, &"jobs", self.jobs.len(), 4);
         let mut records = 0;
         for (place, job) in self.jobs.iter().enumerate() {
             if place == but {

@@ -2,7 +2,7 @@
 
 use super::device::{Device, bytes_of, crashed, lengths_of};
 use super::worked::Store;
-use recover::{Lists, OpenFault, open, open_in_pieces};
+use recover::{Lists, OpenFault, ReadFault, open, open_in_pieces};
 use rrv_model::record::Record;
 use std::alloc::Global;
 use std::test::Fail;
@@ -160,14 +160,24 @@ impl Machine {
         Ok(self.lists.as_ref().ok_or("not opened")?.len(guest))
     }
 
-    /// A record of a guest that was there at the last opening.
-    pub(crate) fn item(&mut self, alloc: Global, guest: u32, index: u32) -> Result<Record, Fail> {
+    /// A record of a guest that was there at the last opening, or why it isn't read.
+    pub(crate) fn try_item(
+        &mut self,
+        alloc: Global,
+        guest: u32,
+        index: u32,
+    ) -> Result<Result<Record, ReadFault>, Fail> {
         let lists = self.lists.as_ref().ok_or("not opened")?;
         let device = self.device.as_mut().ok_or("no disk")?;
         if lists.len(guest) <= index {
             return Err(Fail::new("no such record"));
         }
-        Ok(lists.item(alloc, device, guest, index)?)
+        Ok(lists.item(alloc, device, guest, index))
+    }
+
+    /// A record of a guest that was there at the last opening.
+    pub(crate) fn item(&mut self, alloc: Global, guest: u32, index: u32) -> Result<Record, Fail> {
+        Ok(self.try_item(alloc, guest, index)??)
     }
 
     pub(crate) fn device(&mut self) -> Result<&mut Device, Fail> {

@@ -54,8 +54,8 @@ pub(crate) enum Row<'a> {
     Bytes(u64, &'a [u8]),
 }
 
-// A record's guest and index, and an opening's file and name.
-fn opening_in(record: &Record) -> Option<(u32, u32, &[u8], &[u8])> {
+/// A record's guest and index, and an opening's file and name.
+pub(crate) fn opening_in(record: &Record) -> Option<(u32, u32, &[u8], &[u8])> {
     let Item::Opening(opening) = &record.item else {
         return None;
     };
@@ -63,8 +63,8 @@ fn opening_in(record: &Record) -> Option<(u32, u32, &[u8], &[u8])> {
     Some((record.guest, record.index, elf, opening.name.as_slice()))
 }
 
-// A record's guest and index, and a call's tid and count.
-fn call_in(record: &Record) -> Option<(u32, u32, u32, u32)> {
+/// A record's guest and index, and a call's tid and count.
+pub(crate) fn call_in(record: &Record) -> Option<(u32, u32, u32, u32)> {
     let Item::Frame(frame) = &record.item else {
         return None;
     };
