@@ -165,6 +165,16 @@ struct Counted {
     writes: u32,
 }
 
+impl Counted {
+    /// It took nothing.
+    fn new(rt: &impl AllocGlobal) -> Counted {
+        Counted {
+            taken: Vec::new(rt.alloc()),
+            writes: 0,
+        }
+    }
+}
+
 impl Write for Counted {
     fn write(&mut self, buf: &[u8]) -> io::Result<usize> {
         self.writes = self.writes.saturating_add(1);
@@ -186,7 +196,7 @@ fn a_refusal_and_help_leave_in_one_write(rt: HostRuntime) {
         (&["--version"], 0, (1, 0)),
     ];
     for (words, status, writes) in rows {
-        let (mut out, mut err) = (counted(&rt), counted(&rt));
+        let (mut out, mut err) = (Counted::new(&rt), Counted::new(&rt));
         let ended = run(&rt, words, &mut out, &mut err);
         same(
             &rt,
@@ -194,13 +204,6 @@ fn a_refusal_and_help_leave_in_one_write(rt: HostRuntime) {
             (ended, (out.writes, err.writes)),
             (status, writes),
         );
-    }
-}
-
-fn counted(rt: &impl AllocGlobal) -> Counted {
-    Counted {
-        taken: Vec::new(rt.alloc()),
-        writes: 0,
     }
 }
 
