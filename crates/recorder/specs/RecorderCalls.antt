@@ -1,7 +1,7 @@
 -- What the calls of a guest's recorder do.
 use Rattle.std.specs.Prelude.{◌≡◌, ◌≢◌, ℕ, ◌+◌, ◌<◌, ◌≤◌, true, IsSome, IfErr, Result, List, [], ◌∷◌, ◌++◌, length, map, Option, None}
 use Rattle.elf_load.specs.Refusals.{IsPastRefusal}
-use Rattle.rrv_model.specs.declared.limits.TheConstants.{MAX_NUMBER}
+use Rattle.rrv_model.specs.declared.limits.TheConstants.{MAX_ELF, MAX_NUMBER}
 use Rattle.rrv_model.specs.declared.record.Choice.{Choice}
 use Rattle.rrv_model.specs.declared.record.End.{End}
 use Rattle.rrv_model.specs.declared.record.Frame.{Frame}
@@ -37,10 +37,10 @@ use Rattle.recorder.specs.Recorders.{GuestRecorder, HasPut, made, records_from}
 
 -- ---- new
 
--- why there is no recorder: no guest starts so, or there was no memory; a bad name takes none
+-- why there is no recorder: no guest starts so, or there was no memory; a bad name takes none, nor does a file past its limit
 abbrev pub RefusesOpening : Opening → RecorderFault → Type 0
 RefusesOpening o faults.BadOpening = (s : State) → ¬ Opens o.elf o.name o.random s
-RefusesOpening o faults.Memory = IsName o.name × IsPastRefusal 12 o.elf
+RefusesOpening o faults.Memory = IsName o.name × IsPastRefusal 12 o.elf × (length o.elf ≤ MAX_ELF)
 RefusesOpening o _ = ⊥
 
 -- ---- step

@@ -124,7 +124,7 @@ module _ {C O S : Type 0} (choosers : Choosers C) (sinks : Sinks S) where
 module _ {C O S D : Type 0} (log : LogValue D) (jobs : Vec (Job C O S) Global) where
   pub job_tells : (fault : SessionFault) → log.is_broken ≡ false → RefusesJobs (vec_items jobs) fault → RefusesSession log log jobs jobs fault
   job_tells fault whole h = elim h.refuses [
-    | inl memory ↦ subst (RefusesSession log log jobs jobs) (sym memory) whole
+    | inl memory ↦ subst (RefusesSession log log jobs jobs) (sym memory.0) whole
     | inr bad ↦ subst (RefusesSession log log jobs jobs) (sym bad.0) (
       record { job = h.job; is_there = h.is_there; starts_none = bad.1; before = h.before },
       (refl, refl),

@@ -1,9 +1,10 @@
 -- What a session tells of its disk, of its sinks, and of a job that starts no guest.
-use Rattle.std.proofs.Common.{◌≡◌, ◌≢◌, ◌⊎◌, inl, inr, ℕ, zero, suc, List, [], ◌∷◌, ◌++◌, take, refl, sym, ap, ◌∙◌, subst, arith}
+use Rattle.std.proofs.Common.{◌≡◌, ◌≢◌, ◌⊎◌, inl, inr, ℕ, zero, suc, List, [], ◌∷◌, ◌++◌, take, ◌≤◌, refl, sym, ap, ◌∙◌, subst, arith}
 use Rattle.std.proofs.lemmas.List.Elements.{Contains-append_cases, Contains-append_right}
 use Rattle.std.specs.Prelude.{Option, Some, None, Result, Ok, Err, IfErr, IsErrAnd, MatchOption, slice_get, unwrap_or}
 use Rattle.std.specs.List.{AllByRecursion, Contains}
 use Rattle.rrv_model.specs.Failures.{HasFailed}
+use Rattle.trace_log.specs.Kept.{LogValue}
 use Rattle.commit_group.specs.declared.fault.FlushFault.{FlushFault}
 use Rattle.commit_group.specs.declared.fault.FlushFault.TheVariants as flushes
 use Rattle.commit_group.specs.Seats.{AllNew, GroupId}
@@ -269,9 +270,25 @@ first_is {C = C} {O = O} {S = S} (x ∷ jobs) zero (suc k) a b at at' bad bad' b
 first_is {C = C} {O = O} {S = S} (x ∷ jobs) (suc j) zero a b at at' bad bad' before before' = absurd (bad' (subst StartsGuest (ap (λ (o : Option (Job C O S)). unwrap_or o x) at') before.0))
 first_is (x ∷ jobs) (suc j) (suc k) a b at at' bad bad' before before' = ap suc (first_is jobs j k a b at at' bad bad' before.1 before'.1)
 
-pub bad_told : {C O S : Type 0} (T : Type 0) (jobs : List (Job C O S)) (guest : ℕ) (fault : SessionFault) → RefusesJobs jobs fault → IsFirstBad jobs guest → TellsBadJob {T = T} (Err fault) guest
-bad_told T jobs guest fault h bad = elim h.refuses [
-  | inl memory ↦ inr (inl memory)
+-- if those before a place all start guests, a job that starts none isn't one of them
+is_behind : {C O S : Type 0} (jobs : List (Job C O S)) (j k : ℕ) (b : Job C O S) → slice_get jobs k ≡ Some b → (StartsGuest b → ⊥) → AllByRecursion StartsGuest (take j jobs) → j ≤ k
+is_behind [] j k b at bad before = absurd (none_there k b at)
+is_behind (x ∷ jobs) zero k b at bad before = omega arith
+is_behind {C = C} {O = O} {S = S} (x ∷ jobs) (suc j) zero b at bad before = absurd (bad (subst StartsGuest (ap (λ (o : Option (Job C O S)). unwrap_or o x) at) before.0))
+is_behind (x ∷ jobs) (suc j) (suc k) b at bad before = let h = is_behind jobs j k b at bad before.1 in omega (arith, h)
+
+pub bad_told : {C O S D : Type 0} (T : Type 0) (log : LogValue D) (jobs : List (Job C O S)) (guest : ℕ) (fault : SessionFault) → RefusesJobs jobs fault → IsFirstBad jobs guest → TellsBadJob {T = T} (Err fault) log jobs guest
+bad_told T log jobs guest fault h bad = elim h.refuses [
+  | inl memory ↦ inr (inl (
+    memory.0,
+    record {
+      place = h.place;
+      up_to = is_behind jobs h.place guest bad.job bad.is_there bad.starts_none h.before;
+      job = h.job;
+      is_there = h.is_there;
+      wants = memory.1;
+    },
+  ))
   | inr refuses ↦
       let is : h.place ≡ guest = first_is jobs h.place guest h.job bad.job h.is_there bad.is_there refuses.1 bad.starts_none h.before bad.before in
       inl (refuses.0 ∙ ap (λ (g : ℕ). faults.BadOpening g) is)
@@ -289,19 +306,19 @@ none_of_none met rest none fault there = none_in fault (subst (λ (l : List Sess
 -- what refuses a job is no fault of a sink, and none of the disk
 pub job_is_no_sink : {C O S : Type 0} (jobs : List (Job C O S)) (fault : SessionFault) → RefusesJobs jobs fault → (guest : ℕ) → fault ≢ faults.SinkFailed guest
 job_is_no_sink jobs fault h guest is = elim h.refuses [
-  | inl memory ↦ let e = ap rank (sym memory ∙ is) in omega arith
+  | inl memory ↦ let e = ap rank (sym memory.0 ∙ is) in omega arith
   | inr bad ↦ let e = ap rank (sym bad.0 ∙ is) in omega arith
 ]
 
 pub job_is_no_device : {C O S : Type 0} (jobs : List (Job C O S)) (fault : SessionFault) → RefusesJobs jobs fault → fault ≢ faults.DeviceFailed
 job_is_no_device jobs fault h is = elim h.refuses [
-  | inl memory ↦ let e = ap rank (sym memory ∙ is) in omega arith
+  | inl memory ↦ let e = ap rank (sym memory.0 ∙ is) in omega arith
   | inr bad ↦ let e = ap rank (sym bad.0 ∙ is) in omega arith
 ]
 
 pub job_is_sessions : {C O S : Type 0} (jobs : List (Job C O S)) (fault : SessionFault) → RefusesJobs jobs fault → IsSessions fault
 job_is_sessions jobs fault h = elim h.refuses [
-  | inl memory ↦ subst IsSessions (sym memory) tt
+  | inl memory ↦ subst IsSessions (sym memory.0) tt
   | inr bad ↦ subst IsSessions (sym bad.0) tt
 ]
 

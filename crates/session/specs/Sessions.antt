@@ -19,7 +19,7 @@ use Rattle.session.specs.declared.task.Worked.{Worked}
 use Rattle.session.specs.Faults.{IsLowest, IsNoLater, IsSessions, told_of}
 use Rattle.session.specs.Gains.{Device, HasGained, IsFull}
 use Rattle.session.specs.Chosen.{HasChosen, HasChosenOn, LeavesChooser}
-use Rattle.session.specs.Openings.{IsFirstBad}
+use Rattle.session.specs.Openings.{IsFirstBad, OneWantsMemory}
 use Rattle.session.specs.Tasks.{all_met}
 use Rattle.session.specs.Works.{AreMet, Choosers, FaultTellsSink, Sinks, HasChosenAll, IsBehind, IsSameJob, IsToItsEnd, Takes, opening_for}
 
@@ -145,11 +145,11 @@ TellsSinks {C = C} {O = O} {S = S} sinks result jobs jobs' =
     (guest : ℕ) (old new : Job C O S) → slice_get jobs guest ≡ Some old → slice_get jobs' guest ≡ Some new
     → TellsSink result guest (sinks.faults old.sink) (sinks.faults new.sink)
 
--- The first job that starts no guest is reported, unless there are too many guests, or there was no memory to look at it.
--- Nothing was recorded.
-abbrev pub TellsBadJob : {T : Type 0} → Result T SessionFault → ℕ → Type 0
-TellsBadJob result guest = IsErrAnd result (λ fault. (fault ≡ faults.BadOpening guest)
-    ⊎ ((fault ≡ faults.Memory) ⊎ (fault ≡ faults.TooManyGuests)))
+-- The first job that starts no guest is reported, unless there are too many guests, or there was no memory to look at it
+-- or at one before it.
+abbrev pub TellsBadJob : {C O S D T : Type 0} → Result T SessionFault → LogValue D → List (Job C O S) → ℕ → Type 0
+TellsBadJob result log jobs guest = IsErrAnd result (λ fault. (fault ≡ faults.BadOpening guest)
+    ⊎ (((fault ≡ faults.Memory) × OneWantsMemory jobs guest) ⊎ ((fault ≡ faults.TooManyGuests) × AreTooMany log jobs)))
 
 -- What the worker of the guest at this place met: a fault of its own, with a refusal of its sink if it is that, or none.
 -- Then the guest is recorded to its end, unless the session met a fault that is no worker's. Its job's chooser comes back

@@ -8,6 +8,7 @@ use crate::fault::SessionFault;
 use crate::job::Job;
 use elf_load::{ElfFault, parse};
 use guest_calls::Outside;
+use rrv_model::limits::MAX_ELF;
 use rrv_model::name::is_name;
 use rrv_model::sink::Sink;
 use serial_sched::Chooser;
@@ -22,7 +23,8 @@ fn check_job<C: Chooser + Drop, O: Outside + Drop, S: Sink + Drop>(
     ensures starts { OnOk result (StartsGuest job.now) }
     ensures refused { IfErr result (λ fault. RefusesJob place job.now fault) }
 {
-    if !is_name(&job.name) {
+    // Whatever else is wrong with a file past its limit, no memory is wanted to refuse it.
+    if !is_name(&job.name) || job.elf.len() > MAX_ELF as usize {
         return Err(SessionFault::BadOpening { guest: place });
     }
     match parse(alloc, &job.elf) {

@@ -128,7 +128,7 @@ pub fn record_all<
     ensures disk { TellsDevice result.2 (D.faults log.disk) (D.faults result.0.disk) }
     ensures sinks { TellsSinks S.Sink result.2 jobs.items result.1.items }
     ensures bad { (guest : ℕ) → IsFirstBad jobs.items guest
-        → AreUntouched log result.0 jobs result.1 × TellsBadJob result.2 guest }
+        → AreUntouched log result.0 jobs result.1 × TellsBadJob result.2 log jobs.items guest }
 {
     let count = jobs.len();
     if count > MAX_GUESTS as usize || log.next_guest() > u32::MAX - count as u32 {

@@ -78,7 +78,8 @@ impl Model for FileDisk {
 
 impl FileDisk {
     /// Makes a file with no bytes, and has its name on the device. A path with anything there is refused, a link too. At an `Err` the
-    /// file that was made is removed again, unless another program wrote to it or put one of its own there.
+    /// file that was made is removed again if it has no bytes, and if this path leads to it still: what another program wrote to it, or
+    /// put in its place, stays.
     pub fn create<R: Files<File = File>>(rt: &R, path: &str) -> Result<FileDisk, CreateFault>
         ensures { IfOk result (λ disk. disk ≡ opened_file 0) }
     {
@@ -90,15 +91,19 @@ impl FileDisk {
             // Another program wrote to it before the lock was taken, and its bytes are kept.
             Ok(_) => Err(CreateFault::CannotOpen),
             Err(fault) => {
-                remove_made(rt, path, &made);
+                if there_still(rt, path, &made) == Some(0) {
+                    let _ = fs::remove_file(rt, path);
+                }
                 Err(fault)
             }
         }
     }
 
-    /// Removes the file, where this path leads to it.
+    /// Removes the file, whatever it holds, if this path leads to it.
     pub fn remove<R: Files<File = File>>(self, rt: &R, path: &str) {
-        remove_made(rt, path, &self.file.metadata());
+        if there_still(rt, path, &self.file.metadata()).is_some() {
+            let _ = fs::remove_file(rt, path);
+        }
     }
 
     // Takes the lock of a file that was just made, and has its name on the device.
@@ -191,16 +196,18 @@ fn open_folder<R: Files<File = File>>(rt: &R, path: &str) -> io::Result<File> {
     File::open(rt, folder)
 }
 
-// Removes a file, where a path leads to it still: another program may have put one of its own there.
-fn remove_made<R: Files<File = File>>(rt: &R, path: &str, made: &io::Result<Metadata>) {
-    let Ok(made) = made else {
-        return;
-    };
-    let Ok(there) = fs::symlink_metadata(rt, path) else {
-        return;
-    };
+// The length of a file, if a path leads to it still: another program may have put one of its own there.
+fn there_still<R: Files<File = File>>(
+    rt: &R,
+    path: &str,
+    made: &io::Result<Metadata>,
+) -> Option<u64> {
+    let made = made.as_ref().ok()?;
+    let there = fs::symlink_metadata(rt, path).ok()?;
     if made.ino() == there.ino() && made.dev() == there.dev() {
-        let _ = fs::remove_file(rt, path);
+        Some(there.len())
+    } else {
+        None
     }
 }
 

@@ -56,7 +56,7 @@ returns-then-count-eq0-clause-bad g c guest bad = absurd (none_there guest bad.j
 
 pub returns-in-Err-clause-bad : goal.returns-in-Err-clause-bad
 returns-in-Err-clause-bad g c guest bad =
-    ((refl, refl), bad_told SessionReport c.args.jobs.items guest c.in-Err.fault (subst (λ l. RefusesJobs l c.in-Err.fault) c.deref.ensures.value c.in-Err.ensures.refused) bad)
+    ((refl, refl), bad_told SessionReport c.args.log c.args.jobs.items guest c.in-Err.fault (subst (λ l. RefusesJobs l c.in-Err.fault) c.deref.ensures.value c.in-Err.ensures.refused) bad)
 
 pub returns-clause-bad : goal.returns-clause-bad
 returns-clause-bad g c guest bad = absurd (none_is_bad c.args.jobs.items guest (search rules) bad)
