@@ -1,4 +1,6 @@
 //! Checkpoints of a guest: parts that, put onto the state of their base, give the state that they were made of.
+//!
+//! Tests: guest_tests, replay_cases.
 #![tactic(auto)]
 
 mod applying;

@@ -1,4 +1,6 @@
 //! The command line of `rrv`: its commands and their arguments, and the seed of random bytes.
+//!
+//! Tests: program_tests.
 #![tactic(auto)]
 
 mod builder;

@@ -1,4 +1,6 @@
 //! What the lines of the program do.
+//!
+//! Tests: program_tests.
 #![tactic(auto)]
 
 mod choosing;

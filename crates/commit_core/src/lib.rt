@@ -1,5 +1,7 @@
 //! The world of a recording: recorders, queue, words, flusher and disk, and what holds of it over every list of events.
 //! Nothing runs here: each law is the contract of a function that does nothing.
+//!
+//! Tests: none, since nothing runs; `byte_leaves` and the other examples are proved.
 #![tactic(auto)]
 
 ghost use Rattle.std.specs.Prelude.{◌≡◌, ◌<◌, ◌++◌, ℕ, List, [], ◌∷◌, length, Some};

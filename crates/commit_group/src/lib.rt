@@ -3,6 +3,8 @@
 //!
 //! The words of a group of n guests: 0 to n - 1 are the durable counts, n the halt word, and from n + 1 on stands one more than
 //! a guest sent once it has left, else 0.
+//!
+//! Tests: group_tests.
 #![tactic(auto)]
 
 mod body;

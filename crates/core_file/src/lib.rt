@@ -1,4 +1,6 @@
 //! A core file of a guest: its threads and its memory, for a debugger.
+//!
+//! Tests: none; `tools/core_cases` runs the program.
 #![tactic(auto)]
 
 mod core_file;

@@ -1,4 +1,6 @@
 //! Static ELF32 executables for RISC-V: the image that a guest starts from, or why there is none.
+//!
+//! Tests: machine_tests, machine_cases.
 #![tactic(auto)]
 
 mod elf_file;

@@ -1,4 +1,6 @@
 //! The lines that tell how a guest ended.
+//!
+//! Tests: none; `tools/turn_cases` and `tools/program_lines` run the program.
 #![tactic(auto)]
 
 mod end_lines;

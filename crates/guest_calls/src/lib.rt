@@ -1,4 +1,6 @@
 //! A guest: its opening state, its instructions and its calls.
+//!
+//! Tests: guest_tests, guest_cases.
 #![tactic(auto)]
 
 mod asking;

@@ -1,4 +1,6 @@
 //! The opening of a guest: the memory and the thread with which it starts.
+//!
+//! Tests: machine_tests.
 #![tactic(auto)]
 
 mod opening;

@@ -1,4 +1,6 @@
 //! A guest's address space: whole pages, each with its permissions, and snapshots of them.
+//!
+//! Tests: machine_tests.
 #![tactic(auto)]
 
 mod access;

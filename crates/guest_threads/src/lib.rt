@@ -1,4 +1,6 @@
 //! The threads of a guest: by tid, with the waiting order and the next tid.
+//!
+//! Tests: machine_tests.
 #![tactic(auto)]
 
 mod by_tid;

@@ -1,4 +1,6 @@
 //! What a recorded guest gets from the host: its input, its random bytes, the time, and the streams that its output goes to.
+//!
+//! Tests: program_tests.
 #![tactic(auto)]
 
 mod clocks;

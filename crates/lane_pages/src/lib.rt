@@ -1,5 +1,7 @@
 //! The lines of a page, 64 bytes each, by vectors of as many lanes: which of them differ from another page's, whether all are
 //! zero, and those that a mask names, replaced. None of these takes memory.
+//!
+//! Tests: machine_tests.
 #![tactic(auto)]
 
 ghost use Rattle.std.specs.Prelude.{◌≡◌, ◌↔◌, ◌+◌, ◌*◌, ◌<◌, ◌≤◌, ℕ, IsTrue, count_ones, length, slice_index};

@@ -1,4 +1,6 @@
 //! Pages of a guest under two-level tables that share them: a page is counted, and copied before it is written where it is shared.
+//!
+//! Tests: machine_tests, through guest_pages.
 #![tactic(auto)]
 
 mod entries;

@@ -1,4 +1,6 @@
 //! The line that shows how far a command is, on standard error.
+//!
+//! Tests: none; `tools/progress_cases` runs the program.
 #![tactic(auto)]
 
 mod clearing;

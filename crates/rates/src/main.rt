@@ -12,6 +12,8 @@
 //!   many bytes its records take.
 //!
 //! Without further words it is done with a small program of this one's own, and without any word each does so, one after the other.
+//!
+//! Tests: none; the gate compares what it prints with `stdout`.
 #![tactic(auto)]
 
 mod checkpoints;

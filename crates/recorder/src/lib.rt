@@ -1,4 +1,6 @@
 //! A guest's recorder: runs it slice by slice, sends its records to be committed, and puts out what durable records put out.
+//!
+//! Tests: group_tests, session_tests.
 #![tactic(auto)]
 
 mod checkpoints;

@@ -1,5 +1,7 @@
 //! Replays guests: reads the records of one, verifies each against what the guest's state makes of it, and goes to any
 //! place of a verified recording.
+//!
+//! Tests: replay_cases, session_tests, program_tests.
 #![tactic(auto)]
 
 mod fault;

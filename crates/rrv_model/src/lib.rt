@@ -1,4 +1,6 @@
 //! The machine and its recordings: the types, the limits, and the definitions of `specs/`.
+//!
+//! Tests: none; worked examples are computed in `proofs/`, and tests of the crates above go by these definitions.
 #![tactic(auto)]
 
 pub mod fields;

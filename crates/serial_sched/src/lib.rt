@@ -1,4 +1,6 @@
 //! Slices of a guest: one thread at a time, each slice a frame.
+//!
+//! Tests: slice_tests, slice_cases.
 #![tactic(auto)]
 
 mod chooser;

@@ -1,5 +1,7 @@
 //! A session: records several guests at once, each by a worker in a thread of its own, and commits all that they send by one
 //! flusher.
+//!
+//! Tests: session_tests, program_tests.
 #![tactic(auto)]
 
 mod copying;

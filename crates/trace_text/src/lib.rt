@@ -1,4 +1,6 @@
 //! The lines that are printed of records and of states, and the digest of a memory.
+//!
+//! Tests: program_tests, replay_cases.
 #![tactic(auto)]
 
 mod fault_names;
