@@ -19,13 +19,13 @@
 //!
 //! # The world, in reading order
 //!
-//! `safe_always` and `sessions_always` (`crates/commit_core/src/lib.rt`) are theorems about these definitions; so is
-//! `failure_is_last` (after a call of the disk that failed no call of the disk follows, and the disk stays). That their
-//! premises can be met is proved beside them: `byte_leaves` (a start, and events after which a byte has left), `crash_in_gate`
-//! (the same run stopped within the write of the gate, where any byte may stand), `calls_fail` (each of the four calls of its
-//! commit can fail, a write leaving any bytes in its range), `two_guests` (one body has records of two guests, and of each a
-//! byte has left), `sessions_follow` (a second session that finds all records) and `repair_follows` (one that closes a torn
-//! gate, cuts off what stands behind it, and finds the records before it). In `crates/rrv_model/specs`:
+//! `safe_always` and `sessions_always` are theorems about these definitions; so is `failure_is_last` (after a call of the disk
+//! that failed no call of the disk follows, and the disk stays). That their premises can be met is proved beside them:
+//! `byte_leaves` (a start, and events after which a byte has left), `crash_in_gate` (the same run stopped within the write of
+//! the gate, where any byte may stand), `calls_fail` (each of the four calls of its commit can fail, a write leaving any bytes
+//! in its range), `two_guests` (one body has records of two guests, and of each a byte has left), `sessions_follow` (a second
+//! session that finds all records) and `repair_follows` (one that closes a torn gate, cuts off what stands after it, and finds
+//! the records before it). In `crates/rrv_model/specs`:
 //!
 //! | File | What it says |
 //! |---|---|
@@ -62,10 +62,11 @@
 //! and "wherever the machine stops" is "after any list of events".
 //!
 //! What the theorems don't say: that any event ever happens; that running threads perform just these events (each call of the
-//! group is tied to its events, and no theorem composes them: "The headline" above); anything of a disk that is not as the
-//! crash model; that a digest tells all damage (nothing rests on digests but their length). In the examples one or two guests
-//! write a byte, one exits, and a later session finds what the first left. Checkpoints, frames that end otherwise than by a
-//! call, and a session that records behind what another left stand in none, so that their guards can be met is seen by reading.
+//! group is tied to its events, and no theorem composes them: docs/PROOFS.md, "The headline"); anything of a disk that is not
+//! as the crash model; that a digest tells all damage (nothing rests on digests but their length). In the examples one or two
+//! guests write a byte, one exits, and a later session finds what the first left. Checkpoints, frames that end otherwise than
+//! by a call, and a session that records after what another left stand in none, so that their guards can be met is seen by
+//! reading.
 //!
 //! A session may also end with the process alone. Then the next one reads what the disk holds and not what a crash leaves.
 //! `sessions_always` says of that content too that it can be opened, and that what the session left is recovered from it.
