@@ -4,8 +4,6 @@
 //!
 //! # Contracts
 //!
-//! Choices of threads, as a text, a chooser and those of a recording.
-//!
 //! - `choices_in`: Ok exactly of the choices that the text says; else its first line that says none. `bad_texts_say_nothing`:
 //!   such a text says none.
 //! - `Schedule`: a chooser that takes a list while its choices fit, and then turns, or nothing. `schedules_are_lists`: so it is

@@ -5,8 +5,6 @@
 //!
 //! # Contracts
 //!
-//! The world of recorders, queue, words, flusher and disk.
-//!
 //! - `safe_always`: over every list of events and every crash. README has it in words.
 //! - `sessions_always`: over any list of sessions, each stopped anywhere, within its opening too, with the machine or the
 //!   process alone. No reported record is lost, and a body that was there and was not reported does not come back: what each

@@ -4,8 +4,6 @@
 //!
 //! # Contracts
 //!
-//! ELF files.
-//!
 //! - `parse`: the image of the file, else the lowest refusal that applies.
 #![tactic(auto)]
 

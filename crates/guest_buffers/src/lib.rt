@@ -4,10 +4,8 @@
 //!
 //! # Contracts
 //!
-//! Lists of buffers in an address space.
-//!
 //! - `list_buffers`, `total_len`: the buffers of a list that can be read, and the sum of their lengths.
-//! - `join_buffers`: the first 65,536 bytes of them, one behind another, exactly where these can be read.
+//! - `join_buffers`: the first 65,536 bytes of them, one after another, exactly if these can be read.
 #![tactic(auto)]
 
 mod lists;

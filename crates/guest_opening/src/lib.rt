@@ -4,8 +4,6 @@
 //!
 //! # Contracts
 //!
-//! What a guest starts with.
-//!
 //! - `open_space`, `opening_thread`: the memory and the first thread of the opening state of an image.
 //! - `opening_keeps_rules`: the opening state of every accepted file meets the rules of a state.
 #![tactic(auto)]

@@ -4,8 +4,6 @@
 //!
 //! # Contracts
 //!
-//! What a recorded guest gets from the host.
-//!
 //! - `Machine`: an environment. Input is read in order, as much as there is and is asked for, and each guest reads it from its
 //!   start. Random bytes are the next ones of a stream that seed and guest determine: the SHA-256 of the two and a counter, for
 //!   each counter in turn. The monotonic clock never goes back. That a clock tells the right time is in no contract.

@@ -5,9 +5,7 @@
 //!
 //! # Contracts
 //!
-//! Lines of a page. None of these takes memory.
-//!
-//! - `changed`: bit i is set exactly where some byte of line i differs, which is bytes 64i to 64i + 63.
+//! - `changed`: bit i is set exactly if some byte of line i differs, which is bytes 64i to 64i + 63.
 //! - `is_zero`: whether all bytes are zero.
 //! - `merge`: the lines of the set bits are replaced, in order, and no other byte. That there are as many lines as set bits is
 //!   the caller's condition.

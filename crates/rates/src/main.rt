@@ -17,11 +17,9 @@
 //!
 //! # Contracts
 //!
-//! For measuring.
-//!
 //! - `record_frames`: the frames that it keeps lead from the state before to the one after, in which the guest has ended, or
 //!   there are a million.
-//! - `follow_all`: Ok only where the frames lead on from the state, and then to the new one.
+//! - `follow_all`: Ok only if the frames lead on from the state, and then to the new one.
 #![tactic(auto)]
 
 mod checkpoints;

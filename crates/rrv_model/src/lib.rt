@@ -18,13 +18,13 @@
 //! - `one_recovery`: bodies give one list of recovered records at most.
 //! - `beginnings_are_recovered`: the first of some bodies give a beginning of what all of them give.
 //! - `limits_are_these`: each limit is its number.
-//! - `highest_free_is_found`: the search for a free place finds the highest, and none only where there is none.
+//! - `highest_free_is_found`: the search for a free place finds the highest, and none only if there is none.
 //! - `openings_are_states`: a guest starts in a state, with all rules that hold of every state.
 //! - `frames_keep_states`: a frame from a state leads to a state, whatever was answered.
 //! - `recorded_states_are_states`: at each count of its instructions a recorded guest was in a state.
 //! - `checkpoints_exist`: a state that runs and has no reservation is described, against any state with its opening break, by
 //!   parts that have a text.
-//! - `Item::into_opening`: the opening that an item is; None exactly where it is another. `Opening::into_name`: its name.
+//! - `Item::into_opening`: the opening that an item is; None exactly if it is another. `Opening::into_name`: its name.
 #![tactic(auto)]
 
 pub mod fields;

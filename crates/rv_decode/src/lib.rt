@@ -5,9 +5,7 @@
 //!
 //! # Contracts
 //!
-//! Words and instructions.
-//!
-//! - `decode`: the instruction exactly where the table relates it to the word, else None.
+//! - `decode`: the instruction exactly if the table relates it to the word, else None.
 //! - `encode`: a word of that instruction. It is the word that was read, save for FENCE and FENCE.I.
 //! - `one_answer`: a word has one answer, an instruction that it stands for or none.
 //! - `decode_encoded`: decoding what was encoded gives the instruction back.

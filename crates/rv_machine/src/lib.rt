@@ -5,11 +5,9 @@
 //!
 //! # Contracts
 //!
-//! One instruction of a hart, or several.
-//!
 //! - `step`: the plain step of RV32I, Zifencei, M and A on every input. A fault leaves registers, memory and reservation as
 //!   they were.
-//! - `run_hart`: so many of these steps, and what ended them.
+//! - `run_hart`: n of these steps, and what ended them.
 //! - `CodeSpace`: an address space that keeps pages of instructions decoded. Its model is the space's own, so `run_hart` and
 //!   its methods have the clauses that they have of a space, but for which pages a `fill` leaves its own, and none speaks of a
 //!   decoded page. What holds of it between calls is its invariant: each decoded page of some number has 1,024 instructions,

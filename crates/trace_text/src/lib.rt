@@ -4,8 +4,6 @@
 //!
 //! # Contracts
 //!
-//! Printed lines.
-//!
 //! - `RecordLine`, `VerifyLine`, `ListLine`, `ReportLine`, `EndText`: the exact text of each line.
 //! - `StateLines`: the exact lines of a guest's state at a place: its end, its break, its reservation, its threads by rising
 //!   tid with their registers, and the digest of its pages. `digest_of`: SHA-256 of all mapped pages by rising number, each as

@@ -4,8 +4,6 @@
 //!
 //! # Contracts
 //!
-//! Records with what a replay tells of them.
-//!
 //! - `PlacesLine`, `EventText`: the exact text of a record's places and of its trace event.
 //! - `call_numbers_are_kept`: the number by which an event names a call is the one that was in a7 when the call was made.
 #![tactic(auto)]
