@@ -18,9 +18,9 @@
 //!   are read from the disk one at a time. `NoSuchGuest` comes exactly if the store has none of that number, and other refusals
 //!   are those of `verify_source`. This and what follows of printed records is said of an honest disk on which the records
 //!   stand; a file isn't one.
-//! - `print_turns`: if it returns Ok, a writer that tells its bytes got the text of each record by the instructions before and
-//!   up to its end and the state there, which its records end in, and what ends a list of events. A refusal names the first
-//!   record that doesn't follow.
+//! - `print_turns` (private): if it returns Ok, a writer that tells its bytes got the text of each record by the instructions
+//!   before and up to its end and the state there, which its records end in, and what ends a list of events. A refusal names
+//!   the first record that doesn't follow.
 //! - `print_guests`, `print_records`, `print_told`, `print_back`, `print_last`, `print_reports` (private): if they return Ok, a
 //!   writer that tells its bytes got just these lines of trace_text: a line for each guest of the store, by rising number; for
 //!   each record of the guest; of the number of records and instructions of the recording, its end and, if asked for, what
