@@ -1,4 +1,20 @@
 //! Checkpoints of a guest: parts that, put onto the state of their base, give the state that they were made of.
+//!
+//! Tests: guest_tests, replay_cases.
+//!
+//! # Contracts
+//!
+//! - `apply`: after Ok the parts describe the guest's new state, against the state that it had. `BadPart` comes exactly if they
+//!   describe no state, the limit on its pages aside; `TooManyPages` only if the state that they describe has more pages than a
+//!   guest may have; `Memory` only if they describe a state, that limit aside. After `BadPart` the guest is as before. Its
+//!   snapshots and its count of steps stay.
+//! - `make`: parts that have a text, and that describe the guest's state against each state that has the memory of the snapshot
+//!   and the guest's opening break, if the guest has not ended and holds no reservation. They name exactly the pages that
+//!   differ from the snapshot's in bytes, in permissions or in being mapped. A page that is mapped has the line mask of its
+//!   bytes against the snapshot's, or against zeros if that has no such page; another one is named as not mapped, with the mask
+//!   0.
+//! - `recorder` makes checkpoints by it, and `replayer` puts them onto a guest. Rows of `replay_cases` and `session_tests` see
+//!   both.
 #![tactic(auto)]
 
 mod applying;

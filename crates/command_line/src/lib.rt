@@ -1,4 +1,20 @@
 //! The command line of `rrv`: its commands and their arguments, and the seed of random bytes.
+//!
+//! Tests: program_tests.
+//!
+//! # Contracts
+//!
+//! - `program`: each command with its arguments, in their order, as the table in `specs/Commands.antt` has them. For these the
+//!   kit's parser says exactly what it finds in words, and which kinds of error they give.
+//! - `line`: Ok of some words exactly names what the parser found: the command, its texts, and its numbers, each within its
+//!   bounds (`Asks`, a row a command). It is Ok only if the parser takes the words. An error has one of the kinds that the
+//!   words give; or is out of memory; or is a bad value, which comes only if the parser takes the words and no request asks for
+//!   what it found. No word at all is the demonstration.
+//! - Numbers: decimal digits, with a plus before them or none, as a number of 64 bits or within the bounds of the argument; an
+//!   address is 1 to 8 hexadecimal digits, with `0x` before them or not. A place is a number or `end`. A range of memory is an
+//!   address, a colon and a length, and none is asked for without a place. Files of choices are none, one, or as many as
+//!   programs. Each value that is refused fits no request.
+//! - `seed`: Ok exactly for 32 hexadecimal digits, with the 16 bytes that they write.
 #![tactic(auto)]
 
 mod builder;

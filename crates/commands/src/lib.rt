@@ -1,4 +1,44 @@
 //! What the lines of the program do.
+//!
+//! Tests: program_tests.
+//!
+//! # Contracts
+//!
+//! - `try_image` (private; that `run` calls it and prints what it returns is tested): if it returns Ok, the records are a
+//!   recording of this image, name and random bytes; the report of its session tells their number, and that the guest ended as
+//!   the replayed one ended; what was verified keeps just the records that were read back, and their replay ends where they
+//!   end; the bytes collected, each with its descriptor, are that recording's output. It is refused for want of memory, which
+//!   may be the disk's or the sink's, and as `StoreFull` where the guest has as many records as it may have, or the store is as
+//!   long as it may be. What the contract can't exclude is that its gate held the guest: it lets every step be made.
+//! - `jobs_of` of `demonstration` (private): one job, of this image, name and random bytes, whose threads take turns by this
+//!   quantum from the first on. `Silence`: input is empty, random bytes and clocks are zero.
+//! - `opened` (private): a store and its records as `recover::open` has them, for any disk; a refusal is the one that the bytes
+//!   have, failures aside.
+//! - `guest_in`, `verified_in`, `end_in` (private): the guest of a number, and its records, or where they end, verified as they
+//!   are read from the disk one at a time. `NoSuchGuest` comes exactly if the store has none of that number, and other refusals
+//!   are those of `verify_source`. This and what follows of printed records is said of an honest disk on which the records
+//!   stand; a file isn't one.
+//! - `print_turns` (private): if it returns Ok, a writer that tells its bytes got the text of each record by the instructions
+//!   before and up to its end and the state there, which its records end in, and what ends a list of events. A refusal names
+//!   the first record that doesn't follow.
+//! - `print_guests`, `print_records`, `print_told`, `print_back`, `print_last`, `print_reports` (private): if they return Ok, a
+//!   writer that tells its bytes got just these lines of trace_text: a line for each guest of the store, by rising number; for
+//!   each record of the guest; of the number of records and instructions of the recording, its end and, if asked for, what
+//!   ended the guest; the state n instructions before a place; the state before the last change of a byte, or `unchanged`; and
+//!   for each reported guest and, unless its last thread exited, what ended it. A place outside is refused as `PastEnd` or
+//!   `BeforeStart`. That each command calls its own of these, over a buffer of blocks, is tested. So is what is reported of the
+//!   guests beside one whose output failed.
+//! - `jobs_of` of `jobs` (private): the jobs of a recording are those of the programs, in the order of the line: its file, its
+//!   name, the random bytes of its place, the input from its start, and turns of the quantum. That `record` reads the files and
+//!   hands these jobs on is tested.
+//! - `lasts_of`, `misfits_of` (private): of each job the thread that its schedule chose last, and the first choice that didn't
+//!   fit.
+//! - `read_program`: all bytes of the file, and at most 2,097,152, else `CannotReadFile` or out of memory.
+//! - `verified`, `verified_end` (private): the record that they report as unreadable is one that the source says it withheld.
+//!   `StoredGuest`, the source over a store, says so of the place that it was last asked for and did not give.
+//! - `print_put` (private): bytes for descriptor 2 are appended to the errors, all others to the output, whole.
+//! - `run`: status 2 only for a bad line, and 0 never for one. A call of help ends with 0 or 1: no contract says that its
+//!   output failed.
 #![tactic(auto)]
 
 mod choosing;

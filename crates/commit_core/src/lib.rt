@@ -1,5 +1,77 @@
 //! The world of a recording: recorders, queue, words, flusher and disk, and what holds of it over every list of events.
 //! Nothing runs here: each law is the contract of a function that does nothing.
+//!
+//! Tests: none, since nothing runs; `byte_leaves` and the other examples are proved.
+//!
+//! # Contracts
+//!
+//! - `safe_always`: over every list of events and every crash. README has it in words.
+//! - `sessions_always`: over any list of sessions, each stopped anywhere, within its opening too, with the machine or the
+//!   process alone. No reported record is lost, and a body that was there and was not reported does not come back: what each
+//!   later report adds, and the disk at the end, was sent by guests of sessions since then. Of each session that ran they have
+//!   every record of which an output byte has left, whatever openings were stopped in between. Each crash leaves what can be
+//!   opened, and so does what a read gives.
+//! - `failure_is_last`: after a call of the disk that failed none follows.
+//! - `byte_leaves`, `crash_in_gate`, `calls_fail`, `two_guests`, `sessions_follow`, `repair_follows`: the premises of these can
+//!   be met.
+//!
+//! # The world, in reading order
+//!
+//! `safe_always` and `sessions_always` are theorems about these definitions; so is `failure_is_last` (after a call of the disk
+//! that failed no call of the disk follows, and the disk stays). That their premises can be met is proved beside them:
+//! `byte_leaves` (a start, and events after which a byte has left), `crash_in_gate` (the same run stopped within the write of
+//! the gate, where any byte may stand), `calls_fail` (each of the four calls of its commit can fail, a write leaving any bytes
+//! in its range), `two_guests` (one body has records of two guests, and of each a byte has left), `sessions_follow` (a second
+//! session that finds all records) and `repair_follows` (one that closes a torn gate, cuts off what stands after it, and finds
+//! the records before it). In `crates/rrv_model/specs`:
+//!
+//! | File | What it says |
+//! |---|---|
+//! | State, Step, Calls, FrameStep | a guest's state, one instruction, a call, and how a frame leads from one state to the next |
+//! | Opening, Recording | the state that a guest starts in, and what a list of records has to be to be a recording |
+//! | StateAt, Output | the state at a count of instructions, and the bytes that the calls of a recording put out |
+//! | LineMask | which lines of two pages differ, and lines that are merged into a page |
+//! | Checkpoint | the state that the parts of a checkpoint describe against a base |
+//! | Limits | the number of each limit, which a law binds |
+//! | RecordText | the bytes of a record |
+//! | CrashModel, DiskCalls | what a disk holds, what each call does to it, and what a crash may leave |
+//! | StoreText | which bytes hold which bodies, and when they are sound |
+//! | StoreCalls | the calls of a disk by which a store is opened and a body committed, and the disk at a moment within them |
+//! | Recovered | which records are recovered from bodies |
+//!
+//! In `crates/commit_core/specs`:
+//!
+//! | File | What it says |
+//! |---|---|
+//! | Runs | the output and the states of the records of one guest, as the two files above have them |
+//! | World | what each recorder, the queue, the words, the flusher and the disk hold, and how it begins |
+//! | Events | what may happen, one event at a time, when, and what it does: each effect is a function of its holder's part |
+//! | Facts | the six facts that hold after every event, and what recovery gives of any content that a crash leaves |
+//! | Sessions | sessions one after another: each opens the store, runs events or none, and is stopped anywhere, within its opening too; how what one `open` reported grows |
+//! | Headline | what each session that ran has at each of its moments, and what later sessions find of it |
+//! | FailedCalls | which events are calls of the disk, which of them fail, and what it is that none follows |
+//! | Example | a guest of seven instructions that writes a byte and exits, and the events after which its byte has left |
+//! | ExampleFailures | the events up to each of the four calls of its commit, which fails |
+//! | ExampleGroup | two such guests, and the events after which a byte of each has left |
+//! | ExampleRepair | a session stopped in the write of its second gate, which is torn; one stopped within its opening; and one that begins with the repair |
+//!
+//! A crash is no event. The model needs no call in progress. From its start a write may have changed any byte of its range;
+//! until it returns, a sync has synced nothing. So a crash inside a write is one after it, a crash inside a sync one before it,
+//! and "wherever the machine stops" is "after any list of events".
+//!
+//! What the theorems don't say: that any event ever happens; that running threads perform just these events (each call of the
+//! group is tied to its events, and no theorem composes them: docs/PROOFS.md, "The headline"); anything of a disk that is not
+//! as the crash model; that a digest tells all damage (nothing rests on digests but their length). In the examples one or two
+//! guests write a byte, one exits, and a later session finds what the first left. Checkpoints, frames that end otherwise than
+//! by a call, and a session that records after what another left stand in none, so that their guards can be met is seen by
+//! reading.
+//!
+//! A session may also end with the process alone. Then the next one reads what the disk holds and not what a crash leaves.
+//! `sessions_always` says of that content too that it can be opened, and that what the session left is recovered from it.
+//!
+//! A guest of which no record was recovered has no number that is kept, unless a guest with a greater number has one: a later
+//! session may give it to another guest. Of such a guest no byte had left. Under each number up to the greatest of which a
+//! session left a record, every later session finds just what that one left.
 #![tactic(auto)]
 
 ghost use Rattle.std.specs.Prelude.{◌≡◌, ◌<◌, ◌++◌, ℕ, List, [], ◌∷◌, length, Some};

@@ -3,6 +3,61 @@
 //!
 //! The words of a group of n guests: 0 to n - 1 are the durable counts, n the halt word, and from n + 1 on stands one more than
 //! a guest sent once it has left, else 0.
+//!
+//! Tests: group_tests.
+//!
+//! # Contracts
+//!
+//! The queue, the words and the seats of a group that records at once, and the flusher's turn.
+//!
+//! - `Group::make`: the seats of 1 to 16 recorders, which sent nothing, and that of the flusher.
+//! - `try_submit`: puts the item into the queue as the guest's next record, or gives it back: `Left` after `leave`, `Halted`
+//!   once a halt was seen, `Full`. At `Full` there are 256 records that the group's guests may have sent after what was
+//!   received: each has a text, those of each guest are in order, and those of this one are what it sent. That the queue held
+//!   just these isn't said.
+//! - `lone_guests_fill_the_queue`: so the only guest of a group has sent 256 records at `Full`.
+//! - `submit`: the same, but it waits while the queue is full and never returns `Full`.
+//! - `look`, `look_halt`, `leave`: a recorder's words. The seen count never goes back, and is at most what was sent.
+//! - `turn`: receives records, of which at most 64 then wait, commits the first of them to the log, as many as fit into a body
+//!   of 8,388,608 bytes, and publishes each guest's count. What it returns says what changed in the seat and in the log:
+//!   - `Committed(n)`: the log has gained one body, the text of the first n records that waited, and n is as great as the body
+//!     allows. What is recovered from the log grows by just these n. The log's next guest is raised past theirs. All counts
+//!     that are published are those of committed records.
+//!   - `Idle`, `Done`: no record waits, and the log is as before. Leave words were loaded from guest 0 on, up to the first that
+//!     isn't one more than what is committed of its guest, or of all. `Done` comes only if all have left and all that they sent
+//!     is committed, and `Idle` only if the leave words that were loaded don't say so.
+//!   - `DeviceFailed`: one of the commit's calls failed, none was made after it, and the group is halted. `TooLong`: nothing
+//!     was written, since the store would pass a limit, and the group is halted. `Memory`: nothing was written. In all three
+//!     what was received waits.
+//!   - `Halted`: the group was halted earlier, and nothing changed.
+//!   - A crash at any moment of a turn leaves the bodies that the log had, or these and the next.
+//! - `publish`, `look_left`, `halt`: the flusher's words. A published count is that of the records that the flusher counted as
+//!   committed.
+//! - `waits_in_order`: a law. With the first ones of what waits in one body more, they are recovered after what is committed.
+//! - `end`: what each recorder sent and saw, and how many of its records were committed; seen is at most committed, and
+//!   committed at most sent. What is committed is the first of what was sent, also with what waits after it.
+//! - `turns_are_events`: let seat and log stand for the flusher of a world of `commit_core`, before a turn that commits. Then
+//!   some schedule of its events, guards included, leads to a world for whose flusher they stand after the turn. Its queue has
+//!   lost just what was received.
+//! - `failures_are_events`: the same of a turn that a failed call of the disk stopped. The flusher is then at its broken stage
+//!   and has halted.
+//! - `shortages_are_events`: one that returns `Memory` is just the receiving of its records. The seat and the log stand for the
+//!   flusher after it.
+//! - `limits_are_events`: one that returns `TooLong` receives its records and halts. The refused batch may not be written in
+//!   that world either.
+//! - `halted_turns_are_no_events`: one that returns `Halted` is no event. The world's flusher has halted, and all stands as
+//!   before.
+//! - `idle_turns_are_events`, `last_turns_are_events`: one that returns `Idle` or `Done` looks at leave words, one guest after
+//!   another, and the totals of the seat are then the world's. After `Done` all guests were looked at, and each word is one
+//!   more than what is committed. After `Idle` that isn't so. The words that were loaded are taken to stand in the world as the
+//!   turn begins.
+//! - `recorder_calls_are_events`, `flusher_calls_are_events`: so is each other call of a seat, as one event.
+//!
+//! That a turn receives anything is in no contract: a body that always returns `Idle` or `Memory` fails the tests alone.
+//!
+//! `look`, `look_halt`, `leave`, `publish`, `look_left` and `halt` take no handle to wait with (`Wait`), and nothing in the kit
+//! locks, pushes or pops without one. So a body that puts a lock round queue and words doesn't pass the type checker, and no
+//! edit is needed.
 #![tactic(auto)]
 
 mod body;

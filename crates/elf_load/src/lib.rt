@@ -1,4 +1,10 @@
 //! Static ELF32 executables for RISC-V: the image that a guest starts from, or why there is none.
+//!
+//! Tests: machine_tests, machine_cases.
+//!
+//! # Contracts
+//!
+//! - `parse`: the image of the file, else the lowest refusal that applies.
 #![tactic(auto)]
 
 mod elf_file;

@@ -1,4 +1,13 @@
-//! The lines that tell how a guest ended.
+//! The lines that say how a guest ended.
+//!
+//! Tests: none; `tools/turn_cases` and `tools/program_lines` run the program.
+//!
+//! # Contracts
+//!
+//! - `EndLines`: the exact lines, over the state at the end, the place and the thread that ran last.
+//! - `faults_are_told`: after a slice that ends in a fault, the reported thread is there. For a load or a store one of the
+//!   bytes that the instruction takes from the reported address on may not be read or written. For a fetch one of four may not
+//!   be executed. A misaligned address is no multiple of 4.
 #![tactic(auto)]
 
 mod end_lines;

@@ -1,4 +1,21 @@
 //! A guest: its opening state, its instructions and its calls.
+//!
+//! Tests: guest_tests, guest_cases.
+//!
+//! # Contracts
+//!
+//! A guest. Its state meets the rules of a state at all times.
+//!
+//! - `Guest::open`: the opening state.
+//! - `run_thread`, `step_thread`: n plain steps, and what ended them.
+//! - `call`: a row of the call relation, with an answer that the environment gave to the row's question. The environment is
+//!   asked once at most, and not if the row doesn't ask. At a refusal it was not asked.
+//! - `put_out`: the output of the call.
+//! - `take_back`: the state before the ECALL.
+//! - `snapshot`, `drop_snapshot`: the memory is kept, and let go. The state stays.
+//! - `set_page`: the memory with that page as given. Refused exactly if no state has such a page or too many would be mapped,
+//!   out of memory aside.
+//! - `set_rest`: the state with the rest of a checkpoint. Refused exactly if no state comes of it, out of memory aside.
 #![tactic(auto)]
 
 mod asking;

@@ -1,4 +1,11 @@
 //! The opening of a guest: the memory and the thread with which it starts.
+//!
+//! Tests: machine_tests.
+//!
+//! # Contracts
+//!
+//! - `open_space`, `opening_thread`: the memory and the first thread of the opening state of an image.
+//! - `opening_keeps_rules`: the opening state of every accepted file meets the rules of a state.
 #![tactic(auto)]
 
 mod opening;

@@ -1,4 +1,17 @@
 //! The threads of a guest: by tid, with the waiting order and the next tid.
+//!
+//! Tests: machine_tests.
+//!
+//! # Contracts
+//!
+//! The threads of a guest. Its invariant is the rules of a state: at most 16 live, no tid used again, each waiting thread once
+//! in the waiting order.
+//!
+//! - `spawn`, `wait`, `wake`, `exit`: the changes of the definitions. Each refusal comes exactly if it applies, out of memory
+//!   aside.
+//! - `from_parts`: the threads that a checkpoint has. Refused exactly if no state has such threads, out of memory aside.
+//! - `to_parts`: the threads as a checkpoint has them; `from_parts` of them gives the same threads.
+//! - `running`, `has_running`: the tids of the threads that run, and whether one does.
 #![tactic(auto)]
 
 mod by_tid;

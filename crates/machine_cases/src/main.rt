@@ -26,6 +26,12 @@
 //! - `load INDEX KIND OFFSET ADDRESS FILE MEMORY FLAGS`: one of these.
 //! - `mutate COPIES SEED`: this many copies with wrong bytes are each an image, or refused by the fault that a plain reading of them
 //!   finds.
+//!
+//! # What they show
+//!
+//! - Instructions: worked examples of the manual; 362 words with operands and results that an assembler and qemu-riscv32 gave;
+//!   a guest of every instruction.
+//! - ELF files: cut, changed byte by byte, and ten thousand mutated ones against a plain restatement of the refusals.
 #![tactic(auto)]
 
 mod files;

@@ -1,4 +1,10 @@
 //! The line that shows how far a command is, on standard error.
+//!
+//! Tests: none; `tools/progress_cases` runs the program.
+//!
+//! # Contracts
+//!
+//! The line that shows how far a command is. It has no contract: `tools/progress_cases` looks at it.
 #![tactic(auto)]
 
 mod clearing;

@@ -12,6 +12,14 @@
 //!   many bytes its records take.
 //!
 //! Without further words it is done with a small program of this one's own, and without any word each does so, one after the other.
+//!
+//! Tests: none; the gate compares what it prints with `stdout`.
+//!
+//! # Contracts
+//!
+//! - `record_frames`: the frames that it keeps lead from the state before to the one after, in which the guest has ended, or
+//!   there are a million.
+//! - `follow_all`: Ok only if the frames lead on from the state, and then to the new one.
 #![tactic(auto)]
 
 mod checkpoints;

@@ -1,4 +1,35 @@
-//! A guest's recorder: runs it slice by slice, sends its records to be committed, and puts out what durable records put out.
+//! A guest's recorder: runs it slice by slice, sends its records to be committed, and releases the output of durable records.
+//!
+//! Tests: group_tests, session_tests.
+//!
+//! # Contracts
+//!
+//! - `Outputs`: the output of records that aren't known to be durable. `release` puts the output of the records below a count
+//!   into a sink, in order. What the sink took is a beginning of what was left, and of those records alone. What any sink took
+//!   is said here and in the crates above of those that tell it (`Sink::tells`). If the sink refuses, the rest is kept, from
+//!   the first byte not taken on. It returns how many bytes left, and false only if the sink refused.
+//! - `MemSink`: a sink that keeps all that it takes. That it refuses only what finds no memory is in no contract.
+//! - `Recorder::new`, of any opening: its only record is that opening. `BadOpening` comes only if no guest starts so. `Memory`
+//!   comes only if the name is a guest's, the file is within its limit, and none of the first twelve refusals applies to it.
+//! - `step`: one record more, of the frame that is the slice of the choice, and after it the parts of a checkpoint or none.
+//!   What was made is again a recording, which ends in the guest's state, so that the parts describe just that state. It
+//!   returns `Kept` or `LeftOut` exactly if a checkpoint is due: the guest has not ended, and has run as many instructions as
+//!   were asked for since the last checkpoint or the start. At `Kept` all parts of one were made, at `LeftOut` and `NotDue`
+//!   none. The parts name exactly the pages that differ from those of the last complete checkpoint, or of the start, each with
+//!   the lines that do. That `LeftOut` comes only for want of memory or of indexes is in no contract; a test sees the parts.
+//!   `Full` comes only if a record waits to be sent, `TooManyRecords` only at 4,294,967,295 of them, and what `slice` refuses
+//!   only if it does. After each of them what was made, the output that waits, the guest's state and the environment are as
+//!   before.
+//! - `send`: sends what waits, in order, until the queue is reported to be full (see `try_submit`). It looks for a halt, also
+//!   if nothing waits: `Halted` comes only if one was seen, and Ok only if none was.
+//! - `release`: what the sink took is, after what had left before, a beginning of the output of the records that are seen to be
+//!   durable. `SinkFailed` says how many bytes left, and the next call goes on at the first byte that wasn't taken.
+//! - `settle`: after Ok all that was made is sent and durable, and all its output has left. Its refusals are those of `send`
+//!   and `release`; at `Halted` the output of all that it saw to be durable has left.
+//! - `leave`: the seat, which has left.
+//! - `output_is_of_durable_records`, `steps_are_events`, `releases_are_events`: what has left is output of durable records. A
+//!   step is as many slices of the world of `commit_core` as it makes records, guards included, and a release is a look and
+//!   what the sink takes.
 #![tactic(auto)]
 
 mod checkpoints;

@@ -15,6 +15,14 @@
 //! last change of the byte at an address. Of a state is told its `place`, its `lines`, their `digest`, or whether it
 //! took no more instructions than `within` says; behind `follow NAME` this may be left out. A line that begins with `#`
 //! says what follows.
+//!
+//! # What they show
+//!
+//! - Recordings with checkpoints, which a restatement in Python writes: the lines of the state at places of them, as it has
+//!   them too; the refusals of wrong ones by the record that is wrong; and eleven thousand mutated lists, each refused by name,
+//!   with a recording before the record that is named, or taken, with the states to which its frames alone lead. At the limits:
+//!   1,024 changed pages are made one part, and 1,025 two; of a guest with 16,384 pages a checkpoint that names all is taken,
+//!   and one that maps another is refused by its last part.
 #![tactic(auto)]
 
 mod followed;

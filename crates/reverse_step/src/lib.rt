@@ -1,4 +1,22 @@
 //! A cursor over a verified recording, which goes back and forward, and to the last change of a byte.
+//!
+//! Tests: replay_cases, program_tests.
+//!
+//! # Contracts
+//!
+//! - A `Cursor` is known by its value: the recording, the place, and the guest, which is in the state there, by the definition
+//!   (`guest`). The place is at most the total (`place`).
+//! - `Cursor::new` stands at the start, where nothing ran. `seek`, `back` and `forward` go to a place. `BeforeStart` and
+//!   `PastEnd` come exactly outside 0 and the total, and after each refusal the cursor is as before.
+//! - `executed`: what ran for the guest at the place. After each call that moves the cursor that is at most what `state_at` may
+//!   run.
+//! - `last_change`: the greatest place below this one whose instruction changes the byte at an address, or whether there is
+//!   one; the cursor then stands there, and stays if there is none. It goes back from checkpoint to checkpoint and runs each
+//!   instruction below the place once at most, and then seeks the place found; that cost is in no contract.
+//! - Each move opens the guest anew, `forward` too, puts every checkpoint before its place onto the opening, one after the
+//!   other, and runs on from there. To go back through K checkpoints puts K * K / 2 of them, and each has the lines that
+//!   changed since the one before it.
+//! - `replay --at`, `back` and `last` call these. `replay_cases` has rows of them.
 #![tactic(auto)]
 
 mod cursor;

@@ -1,4 +1,30 @@
 //! The machine and its recordings: the types, the limits, and the definitions of `specs/`.
+//!
+//! Tests: none; worked examples are computed in `proofs/`, and tests of the crates above go by these definitions.
+//!
+//! # Contracts
+//!
+//! The definitions, and laws above them. Each law is a public function with an empty body (`src/laws.rt`).
+//!
+//! - `one_row`: a word stands in one row of the instruction table at most.
+//! - `one_state_after_call`: a state, a thread and a call's record leave one state after.
+//! - `one_state_after_frame`: a state and a frame leave one state after.
+//! - `one_spelling`, `one_reading`: a record has one text. Bytes that begin with a record's text determine the record and the
+//!   rest.
+//! - `beginnings_are_recordings`: a beginning of a recording that isn't empty is a recording.
+//! - `one_end`: items leave one state after all their frames.
+//! - `frames_append`: a frame that goes on from a recording's end lengthens the recording.
+//! - `one_batch`: a body is the text of one list of records at most.
+//! - `one_recovery`: bodies give one list of recovered records at most.
+//! - `beginnings_are_recovered`: the first of some bodies give a beginning of what all of them give.
+//! - `limits_are_these`: each limit is its number.
+//! - `highest_free_is_found`: the search for a free place finds the highest, and none only if there is none.
+//! - `openings_are_states`: a guest starts in a state, with all rules that hold of every state.
+//! - `frames_keep_states`: a frame from a state leads to a state, whatever was answered.
+//! - `recorded_states_are_states`: at each count of its instructions a recorded guest was in a state.
+//! - `checkpoints_exist`: a state that runs and has no reservation is described, against any state with its opening break, by
+//!   parts that have a text.
+//! - `Item::into_opening`: the opening that an item is; None exactly if it is another. `Opening::into_name`: its name.
 #![tactic(auto)]
 
 pub mod fields;

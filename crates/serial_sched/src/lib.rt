@@ -1,4 +1,16 @@
 //! Slices of a guest: one thread at a time, each slice a frame.
+//!
+//! Tests: slice_tests, slice_cases.
+//!
+//! # Contracts
+//!
+//! - `slice`: a frame by which the old state leads to the new one, within the choice. A preempt is cut short only if the next
+//!   instruction may take memory. The refusals come in their order. A call's frame has an answer that the environment gave.
+//! - `follow`: Ok exactly if the frame leads on from the state, out of memory aside. Then the guest has the state after.
+//! - `steps`: n plain steps of a thread, likewise.
+//! - `Chooser`: a relation says what it chooses of the runnable threads and what it becomes, and each `next` keeps it.
+//!   `RoundRobin`, `Listed`: which thread comes next, while a list has choices. `AreChosen` says of frames that each is the
+//!   slice of what a chooser chose in the state before it.
 #![tactic(auto)]
 
 mod chooser;

@@ -1,4 +1,13 @@
 //! The lines that are printed of records and of states, and the digest of a memory.
+//!
+//! Tests: program_tests, replay_cases.
+//!
+//! # Contracts
+//!
+//! - `RecordLine`, `VerifyLine`, `ListLine`, `ReportLine`, `EndText`: the exact text of each line.
+//! - `StateLines`: the exact lines of a guest's state at a place: its end, its break, its reservation, its threads by rising
+//!   tid with their registers, and the digest of its pages. `digest_of`: SHA-256 of all mapped pages by rising number, each as
+//!   its number, its permissions and its bytes. `replay --at`, `back` and `last` print these.
 #![tactic(auto)]
 
 mod fault_names;
