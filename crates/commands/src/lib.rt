@@ -22,15 +22,17 @@
 //!   before and up to its end and the state there, which its records end in, and what ends a list of events. A refusal names
 //!   the first record that doesn't follow.
 //! - `print_guests`, `print_records`, `print_told`, `print_back`, `print_last`, `print_reports` (private): if they return Ok, a
-//!   writer that tells its bytes got just these lines of trace_text: a line for each guest of the store, by rising number; for
-//!   each record of the guest; of the number of records and instructions of the recording, its end and, if asked for, what
-//!   ended the guest; the state n instructions before a place; the state before the last change of a byte, or `unchanged`; and
-//!   for each reported guest and, unless its last thread exited, what ended it. A place outside is refused as `PastEnd` or
-//!   `BeforeStart`. That each command calls its own of these, over a buffer of blocks, is tested. So is what is reported of the
-//!   guests beside one whose output failed.
+//!   writer that tells its bytes got just these lines of trace_text and end_text: a line for each guest of the store, by rising
+//!   number; for each record of the guest; of the number of records and instructions of the recording, its end and, if asked
+//!   for, what ended the guest; the state n instructions before a place (none for `replay --at`), or before the last change of
+//!   a byte, each with the bytes of memory that are asked for; `unchanged` if there is no change; and for each reported guest
+//!   and, unless its last thread exited, what ended it. A place outside is refused as `PastEnd` or `BeforeStart`. That each
+//!   command calls its own of these, over a buffer of blocks, is tested. So is what is reported of the guests beside one whose
+//!   output failed.
 //! - `jobs_of` of `jobs` (private): the jobs of a recording are those of the programs, in the order of the line: its file, its
-//!   name, the random bytes of its place, the input from its start, and turns of the quantum. That `record` reads the files and
-//!   hands these jobs on is tested.
+//!   name, the random bytes of its place, the input from its start, how far apart its checkpoints are, and its plan: the
+//!   choices of its list, and then turns of the quantum, or nothing. That `record` reads the files and hands these jobs on is
+//!   tested.
 //! - `lasts_of`, `misfits_of` (private): of each job the thread that its schedule chose last, and the first choice that didn't
 //!   fit.
 //! - `read_program`: all bytes of the file, and at most 2,097,152, else `CannotReadFile` or out of memory.

@@ -200,7 +200,7 @@ fn record_images<
     })
 }
 
-/// Prints both in blocks.
+/// Prints how each guest ended, and which choices didn't fit, in blocks.
 fn tell<E: Write>(alloc: Global, recorded: &Recorded, err: &mut E) -> Result<(), Refusal> {
     let mut err = in_blocks(alloc, err)?;
     print_reports(

@@ -23,9 +23,10 @@
 //!   - `Committed(n)`: the log has gained one body, the text of the first n records that waited, and n is as great as the body
 //!     allows. What is recovered from the log grows by just these n. The log's next guest is raised past theirs. All counts
 //!     that are published are those of committed records.
-//!   - `Idle`, `Done`: no record waits, and the log is as before. Leave words were loaded from guest 0 on, up to the first that
-//!     isn't one more than what is committed of its guest, or of all. `Done` comes only if all have left and all that they sent
-//!     is committed, and `Idle` only if the leave words that were loaded don't say so.
+//!   - `Idle`, `Done`: no record waits, and the log is as before. Leave words were loaded from guest 0 on. The last that was
+//!     loaded is the first that isn't one more than what is committed of its guest; if there is none, all were loaded. `Done`
+//!     comes only if all have left and all that they sent is committed, and `Idle` only if the leave words that were loaded
+//!     don't say so.
 //!   - `DeviceFailed`: one of the commit's calls failed, none was made after it, and the group is halted. `TooLong`: nothing
 //!     was written, since the store would pass a limit, and the group is halted. `Memory`: nothing was written. In all three
 //!     what was received waits.

@@ -10,7 +10,7 @@
 //! - `run_thread`, `step_thread`: n plain steps, and what ended them.
 //! - `call`: a row of the call relation, with an answer that the environment gave to the row's question. The environment is
 //!   asked once at most, and not if the row doesn't ask. At a refusal it was not asked.
-//! - `put_out`: the output of the call.
+//! - `put_out`, `take_put`: the output of the last call; the second leaves none in its place, and the recorder uses it.
 //! - `take_back`: the state before the ECALL.
 //! - `snapshot`, `drop_snapshot`: the memory is kept, and let go. The state stays.
 //! - `set_page`: the memory with that page as given. Refused exactly if no state has such a page or too many would be mapped,

@@ -13,8 +13,8 @@ use rrv_model::refusal::Memory;
 use rv_machine::{Run, RunEnd, Stepped, run_hart};
 
 impl Guest {
-    /// Runs up to `limit` instructions of a running thread: it stops behind a call's ECALL, before a fault, and before
-    /// an instruction that finds no memory.
+    /// Runs up to `limit` instructions of a running thread. It stops after a call's ECALL; at a fault, which is counted and where `pc`
+    /// stays; and before an instruction that finds no memory, which isn't counted.
     pub fn run_thread(&mut self, tid: u32, limit: u32) -> Run
         requires { IsRunning (thread_at (state_of self.old) tid) }
         ensures runs { Runs limit tid (state_of self.old) result (state_of self.new) }

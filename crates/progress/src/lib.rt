@@ -4,7 +4,8 @@
 //!
 //! # Contracts
 //!
-//! The line that shows how far a command is. It has no contract: `tools/progress_cases` looks at it.
+//! The line that shows how far a command is, and `Clearing`, a stream that clears that line before it writes: a recording's
+//! output and errors go through it to the standard streams. Neither has a contract: `tools/progress_cases` looks at both.
 #![tactic(auto)]
 
 mod clearing;

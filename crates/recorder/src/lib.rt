@@ -26,7 +26,7 @@
 //!   durable. `SinkFailed` says how many bytes left, and the next call goes on at the first byte that wasn't taken.
 //! - `settle`: after Ok all that was made is sent and durable, and all its output has left. Its refusals are those of `send`
 //!   and `release`; at `Halted` the output of all that it saw to be durable has left.
-//! - `leave`: the seat, which has left.
+//! - `finish`: the seat, which has left, and the guest, as it is after all records. `leave`: the seat alone.
 //! - `output_is_of_durable_records`, `steps_are_events`, `releases_are_events`: what has left is output of durable records. A
 //!   step is as many slices of the world of `commit_core` as it makes records, guards included, and a release is a look and
 //!   what the sink takes.

@@ -35,7 +35,8 @@
 //!   state and has as many instructions as its total. A record that is refused is refused as `verify` refuses the list up to
 //!   it. `VerifiedEnd::last` is the thread that ran last.
 //! - The demonstration calls `verify`, `state_at` at the total and `output`. `verify` on the line calls `verify_source_end`,
-//!   and each other command that replays a guest calls `verify_source_watched` first.
+//!   and `dump --places` and `--trace-events` use `Following`. Each other command that replays a guest calls
+//!   `verify_source_watched` first.
 //! - `read_guest`: on an honest disk on which they stand, the records of a guest; else a failed device or want of memory. On
 //!   any disk: as many records as the guest has, each of that guest and numbered in order; or one of them is named; and one
 //!   more call has failed exactly where the answer is `DeviceFailed`. The disk is only read.

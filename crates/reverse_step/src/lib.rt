@@ -13,8 +13,8 @@
 //! - `last_change`: the greatest place below this one whose instruction changes the byte at an address, or whether there is
 //!   one; the cursor then stands there, and stays if there is none. It goes back from checkpoint to checkpoint and runs each
 //!   instruction below the place once at most, and then seeks the place found; that cost is in no contract.
-//! - Each move opens the guest anew, `forward` too, puts every checkpoint before its place onto the opening, one after the
-//!   other, and runs on from there. To go back through K checkpoints puts K * K / 2 of them, and each has the lines that
+//! - Each move opens the guest anew, `forward` too, puts every checkpoint at or before its place onto the opening, one after
+//!   the other, and runs on from there. To go back through K checkpoints puts K * K / 2 of them, and each has the lines that
 //!   changed since the one before it.
 //! - `replay --at`, `back` and `last` call these. `replay_cases` has rows of them.
 #![tactic(auto)]

@@ -112,7 +112,7 @@ writev_row s t =
 
 -- ---- threads
 
--- exactly the tids of this list that wait at a
+-- the thread of this tid waits at a
 abbrev pub waits_at : State → ℕ → ℕ → Bool
 waits_at s a tid = is_at a (thread_at s tid) where
   is_at : ℕ → Option Thread → Bool

@@ -8,12 +8,14 @@
 //! - `step`: the plain step of RV32I, Zifencei, M and A on every input. A fault leaves registers, memory and reservation as
 //!   they were.
 //! - `run_hart`: n of these steps, and what ended them.
-//! - `CodeSpace`: an address space that keeps pages of instructions decoded. Its model is the space's own, so `run_hart` and
-//!   its methods have the clauses that they have of a space, but for which pages a `fill` leaves its own, and none speaks of a
-//!   decoded page. What holds of it between calls is its invariant: each decoded page of some number has 1,024 instructions,
-//!   and each is decoded from the word that stands there in the memory, in four bytes that may be executed and that no store
-//!   may change. So whatever runs leaves it true, and what maps, protects, unmaps or puts in pages lets go those decoded pages
-//!   that it could change.
+//! - `CodeSpace`: an address space that keeps pages of instructions decoded. Contracts see the space alone: each method has
+//!   the clauses of the space's own, but that of `fill` which says whose pages stay its own. Its invariant: a decoded page has
+//!   1,024 instructions, each decoded from the word that stands there, in bytes that may be executed and that no store may
+//!   change. What maps, protects, unmaps or puts in pages lets their decoded pages go; a `fill` of bytes that no store may
+//!   change lets all go.
+//!
+//! An instruction is executed in two ways: `run_page` takes it from a decoded page (`perform`); `step` fetches and decodes it
+//! (`execute`), in a page that isn't kept decoded. Both go on in `compute`, `memory` and `atomic`.
 #![tactic(auto)]
 
 mod access;

@@ -203,8 +203,8 @@ impl CodeSpace {
     }
 }
 
-/// Does up to `limit` instructions from `pc` on: it stops behind a call's ECALL, before a fault, and before an instruction
-/// that finds no memory.
+/// Does up to `limit` instructions from `pc` on. It stops after a call's ECALL; at a fault, which is counted and where `pc` stays; and
+/// before an instruction that finds no memory, which isn't counted.
 pub fn run_hart(
     regs: &mut Regs,
     space: &mut CodeSpace,

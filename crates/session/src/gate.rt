@@ -5,11 +5,10 @@ pub trait Gate {
     /// Whether the guest may step. Its worker asks before each step.
     fn may_step(&self, guest: u32) -> bool;
 
-    /// The guest's worker has sent so many frames, where a part of a checkpoint counts as one. It tells this whenever it sent some.
+    /// The guest's worker has sent so many records after its opening. It tells this whenever it sent some.
     fn submitted(&self, guest: u32, frames: u32);
 
-    /// The guest's worker has sent so many records, and the guest has run so many instructions. It tells this whenever it sent some. An
-    /// impl that leaves it out does nothing.
+    /// The same count with the opening, one more, and how many instructions the guest has run. An impl that leaves it out does nothing.
     fn sent(&self, _guest: u32, _records: u32, _instructions: u64) {}
 }
 

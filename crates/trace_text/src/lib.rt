@@ -8,6 +8,7 @@
 //! - `StateLines`: the exact lines of a guest's state at a place: its end, its break, its reservation, its threads by rising
 //!   tid with their registers, and the digest of its pages. `digest_of`: SHA-256 of all mapped pages by rising number, each as
 //!   its number, its permissions and its bytes. `replay --at`, `back` and `last` print these.
+//! - `MemoryLines`: the exact lines of a range of memory, which `--memory` adds to the state.
 #![tactic(auto)]
 
 mod fault_names;
