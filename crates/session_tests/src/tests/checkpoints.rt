@@ -1,6 +1,6 @@
 //! Where checkpoints stand among the records of a guest.
 
-use super::programs::{HELLO, SPIN};
+use super::programs::SPIN;
 use super::same;
 use super::store::{Kind, Store, kind_of};
 use recorder::MemSink;
@@ -14,7 +14,7 @@ use std::sync::Wait;
 use std::test::Fail;
 use std::thread::Threads;
 use test_guests::bytes::bytes_of;
-use test_guests::files::{EXIT_FIVE, file_of};
+use test_guests::files::{EXIT_FIVE, HELLO, file_of};
 use test_guests::outsides::Nothing;
 use trace_disk::{Disk, MemDisk};
 use trace_log::Log;

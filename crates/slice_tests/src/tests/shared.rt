@@ -7,24 +7,8 @@ use serial_sched::{SliceFault, slice, steps};
 use std::alloc::Global;
 use std::process::Abort;
 use std::test::Fail;
-use test_guests::files::{file_of, guest_of_file};
+use test_guests::files::{HELLO, file_of, guest_of_file};
 use test_guests::outsides::Nothing;
-
-/// It stores `hi` and a newline below the stack pointer by its fourth instruction, writes these three bytes by its eighth, and
-/// exits with 0 by its eleventh.
-const HELLO: [u32; 11] = [
-    0xFF01_0593,
-    0x000A_7537,
-    0x9685_0513,
-    0x00A5_A023,
-    0x0010_0513,
-    0x0030_0613,
-    0x0400_0893,
-    0x0000_0073,
-    0x0000_0513,
-    0x05D0_0893,
-    0x0000_0073,
-];
 
 /// What a frame says: how many instructions it has, and what its call returned, if it ends with one.
 type Told = (u32, Option<u32>);
