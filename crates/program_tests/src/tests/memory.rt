@@ -232,12 +232,13 @@ fn finds_change(
     Ok(())
 }
 
-// The store at 197 is the last one before 200. No count passes 255, so the second byte never changes.
+// The store at 197 is the last one before 200. No count passes 255, so the second byte never changes. Verifying passes some
+// growths that are refused, so it is no building: it belongs to what is tested.
 #[test]
 fn a_cursor_finds_no_memory(rt: HostRuntime) -> Result<(), Fail> {
     let alloc = rt.alloc();
     let records = recording(alloc)?;
-    let verified = verify(alloc, &records)?;
+    let verified = verified_at_last(&rt, alloc, &records)?;
     let mut cursor = cursor_at_last(&rt, alloc, &verified)?;
     stands_at(&rt, &cursor, 0);
     seeks(&rt, alloc, &mut cursor, 0, 200)?;
