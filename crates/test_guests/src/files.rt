@@ -30,6 +30,30 @@ const TWO_LOADS: [u8; 116] = [
 /// `li a0, 5; li a7, 93; ecall`: exits with 5.
 pub const EXIT_FIVE: [u32; 3] = [0x0050_0513, 0x05D0_0893, 0x0000_0073];
 
+/// It stores `hi` and a newline below the stack pointer by its fourth instruction, writes these three bytes by its eighth, and
+/// exits with 0 by its eleventh.
+pub const HELLO: [u32; 11] = [
+    0xFF01_0593, // addi a1, sp, -16
+    0x000A_7537, // lui a0, 0xA7
+    0x9685_0513, // addi a0, a0, -1688
+    0x00A5_A023, // sw a0, 0(a1)
+    0x0010_0513, // li a0, 1
+    0x0030_0613, // li a2, 3
+    0x0400_0893, // li a7, 64
+    0x0000_0073, // ecall
+    0x0000_0513, // li a0, 0
+    0x05D0_0893, // li a7, 93
+    0x0000_0073, // ecall
+];
+
+/// It counts up in s0, and stores each count at 0x7FF00000, in the stack: each third instruction is a store.
+pub const COUNT_UP: [u32; 4] = [
+    0x7FF0_05B7, // lui a1, 0x7FF00
+    0x0014_0413, // addi s0, s0, 1
+    0x0085_A023, // sw s0, 0(a1)
+    0xFF9F_F06F, // j to the second
+];
+
 /// The bytes of headers and words, with the file's length at two places of the headers.
 fn joined(alloc: Global, headers: &[u8], words: &[u32]) -> Result<Vec<u8>, AllocError> {
     let mut elf = Vec::from_slice(alloc, headers)?;

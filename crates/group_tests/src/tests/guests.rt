@@ -1,7 +1,7 @@
 //! What is sent, committed and seen.
 
 use super::machine::Manner;
-use super::rows::{Row, play, play_to_end};
+use super::rows::{Row, play, play_behind, play_to_end};
 use super::same;
 use super::stores::{crashes_leave, has_bytes};
 use commit_group::{FlushFault, Report, SubmitFault, Turn};
@@ -127,6 +127,43 @@ fn failed_turn(rt: HostRuntime) -> Result<(), Fail> {
         }
     }
     Ok(())
+}
+
+// The log has as many segments as a store may have: the turn says so and halts the group, and nothing is told or written.
+#[test]
+fn turn_past_the_last_segment(rt: HostRuntime) -> Result<(), Fail> {
+    let alloc = rt.alloc();
+    let rows = [
+        Row::SendsAll(0, 1),
+        Row::LooksForHalt(0, false),
+        Row::Turn(Err(FlushFault::TooLong)),
+        Row::LooksForHalt(0, true),
+        Row::Looks(0, 0),
+        Row::NextGuest(0),
+        Row::Sends(0, Manner::Tries, Some(SubmitFault::Halted)),
+        Row::Turn(Err(FlushFault::Halted)),
+    ];
+    let mut disk = play_behind(&rt, alloc, u32::MAX, &rows)?;
+    has_bytes(&rt, &mut disk, 17, &[(16, 0)])?;
+    crashes_leave(&rt, alloc, &disk, &[])
+}
+
+// The log has one segment fewer than a store may have: what is in the last one is told, and stays so.
+#[test]
+fn turn_with_the_last_segment(rt: HostRuntime) -> Result<(), Fail> {
+    let alloc = rt.alloc();
+    let rows = [
+        Row::SendsAll(0, 1),
+        Row::Turn(Ok(Turn::Committed(1))),
+        Row::SendsAll(0, 1),
+        Row::Turn(Err(FlushFault::TooLong)),
+        Row::LooksForHalt(0, true),
+        Row::Looks(0, 1),
+        Row::NextGuest(1),
+        Row::Turn(Err(FlushFault::Halted)),
+    ];
+    let mut disk = play_behind(&rt, alloc, u32::MAX - 1, &rows)?;
+    has_bytes(&rt, &mut disk, 181, &[(16, 0xA5), (180, 0)])
 }
 
 // A group ends before all is committed, and before all that is committed was seen.

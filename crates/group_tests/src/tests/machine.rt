@@ -10,7 +10,7 @@ use rrv_model::record::Item;
 use std::alloc::Global;
 use std::sync::Wait;
 use std::test::Fail;
-use trace_disk::{FailOnce, MemDisk};
+use trace_disk::{Disk, FailOnce, MemDisk};
 use trace_log::Log;
 
 pub(crate) type Device = FailOnce<MemDisk>;
@@ -38,6 +38,29 @@ pub(crate) enum Manner {
     Long,
 }
 
+/// The log of a new store. Its disk fails at this call of those from here on, counted from 1; at none with 0. Within its room,
+/// which a small commit stays in, it takes no memory.
+fn new_log(alloc: Global, fails: u64) -> Result<Log<Device>, Fail>
+    ensures { IfOk result (λ log. log.is_broken ≡ false) }
+{
+    let disk = MemDisk::with_room(alloc, 2_000, 20)?;
+    let Ok(log) = Log::create(FailOnce::new(disk, fails)) else {
+        return Err(Fail::new("no store"));
+    };
+    Ok(log)
+}
+
+/// The log of a new store, which takes it to have so many segments.
+fn log_behind(alloc: Global, segments: u32) -> Result<Log<Device>, Fail>
+    ensures { IfOk result (λ log. log.is_broken ≡ false) }
+{
+    let disk = new_log(alloc, 0)?.close();
+    if disk.len() != 17 {
+        return Err(Fail::new("no empty store"));
+    }
+    Ok(Log::adopt(disk, 16, segments))
+}
+
 /// The seats of a group, and a log that takes a further commit unless the group has halted.
 #[derive(Drop)]
 pub(crate) struct Machine {
@@ -51,20 +74,28 @@ pub(crate) struct Machine {
 
 impl Machine {
     /// A group of so many guests and a new store, on a disk that fails at this call of those behind the store's making,
-    /// counted from 1; at none with 0. Within its room, which a small commit stays in, it takes no memory.
+    /// counted from 1; at none with 0.
     pub(crate) fn new(alloc: Global, guests: u32, fails: u64) -> Result<Machine, Fail> {
-        if guests == 0 || guests > 16 {
-            return Err(Fail::new("no such group"));
-        }
         let fails = if fails == 0 {
             0
         } else {
             fails.saturating_add(2)
         };
-        let disk = MemDisk::with_room(alloc, 2_000, 20)?;
-        let Ok(log) = Log::create(FailOnce::new(disk, fails)) else {
-            return Err(Fail::new("no store"));
-        };
+        Machine::over(alloc, guests, new_log(alloc, fails)?)
+    }
+
+    /// A group of one guest and a new store, whose log takes it to have so many segments.
+    pub(crate) fn behind(alloc: Global, segments: u32) -> Result<Machine, Fail> {
+        Machine::over(alloc, 1, log_behind(alloc, segments)?)
+    }
+
+    /// A group of so many guests over a log.
+    fn over(alloc: Global, guests: u32, log: Log<Device>) -> Result<Machine, Fail>
+        requires { log.is_broken ≡ false }
+    {
+        if guests == 0 || guests > 16 {
+            return Err(Fail::new("no such group"));
+        }
         let (seats, flusher) = Group::make(alloc, guests)?;
         Ok(Machine {
             seats,

@@ -108,6 +108,19 @@ pub(crate) fn play<R: Abort + Wait>(
     Ok(played(rt, alloc, guests, fails, rows)?.close())
 }
 
+/// Takes rows on a group of one guest, over a log that takes its new store to have so many segments, and gives the disk of the
+/// store.
+pub(crate) fn play_behind<R: Abort + Wait>(
+    rt: &R,
+    alloc: Global,
+    segments: u32,
+    rows: &[Row],
+) -> Result<MemDisk, Fail> {
+    let mut machine = Machine::behind(alloc, segments)?;
+    play_on(rt, alloc, &mut machine, rows)?;
+    Ok(machine.close())
+}
+
 /// Takes rows on a disk that never fails, and tells how the group ends.
 pub(crate) fn play_to_end<R: Abort + Wait>(
     rt: &R,

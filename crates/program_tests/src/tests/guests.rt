@@ -1,9 +1,9 @@
 //! Guests that are recorded by a line, and what the lines behind it tell of them.
 
 use super::kit::{Content, Step, done, play, play_recorded, refused};
-use super::programs::{HELLO, HELLO_TO_ERRORS, LOOP, OPENING_RANDOM, READ_THEN_RANDOM};
+use super::programs::{HELLO_TO_ERRORS, LOOP, OPENING_RANDOM, READ_THEN_RANDOM};
 use std::test::Fail;
-use test_guests::files::EXIT_FIVE;
+use test_guests::files::{EXIT_FIVE, HELLO};
 
 /// What is reported of a program that exits with 5, and of one that writes `hi`.
 const FIVE: (&[u8], &[u8]) = (b"", b"g0: end exited 5, records 2\n");

@@ -12,17 +12,9 @@ use rrv_model::sequence::Sequence;
 use std::alloc::{AllocError, Global};
 use std::process::Abort;
 use std::test::Fail;
-use test_guests::files::file_of;
+use test_guests::files::{COUNT_UP, file_of};
 
-/// It counts up in s0, and stores each count at 0x7FF00000, in the stack: each third instruction is a store.
-const COUNT_UP: [u32; 4] = [
-    0x7FF0_05B7, // lui a1, 0x7FF00
-    0x0014_0413, // addi s0, s0, 1
-    0x0085_A023, // sw s0, 0(a1)
-    0xFF9F_F06F, // j to the second
-];
-
-/// Where it stores.
+/// Where `COUNT_UP` stores.
 const STORED: u32 = 0x7FF0_0000;
 
 /// Its state after this many instructions: its pc, how far it has counted, and the count that it stored last.
@@ -240,12 +232,13 @@ fn finds_change(
     Ok(())
 }
 
-// The store at 197 is the last one before 200. No count passes 255, so the second byte never changes.
+// The store at 197 is the last one before 200. No count passes 255, so the second byte never changes. Verifying passes some
+// growths that are refused, so it is no building: it belongs to what is tested.
 #[test]
 fn a_cursor_finds_no_memory(rt: HostRuntime) -> Result<(), Fail> {
     let alloc = rt.alloc();
     let records = recording(alloc)?;
-    let verified = verify(alloc, &records)?;
+    let verified = verified_at_last(&rt, alloc, &records)?;
     let mut cursor = cursor_at_last(&rt, alloc, &verified)?;
     stands_at(&rt, &cursor, 0);
     seeks(&rt, alloc, &mut cursor, 0, 200)?;

@@ -1,12 +1,6 @@
-//! The programs that lines of tests record, beside the one that exits with 5.
+//! The programs that lines of tests record, beside those that tests share.
 
-/// It stores `hi` and a newline below the stack pointer, writes these three bytes, and exits with 0.
-pub(crate) const HELLO: [u32; 11] = [
-    0xFF010593, 0x000A7537, 0x96850513, 0x00A5A023, 0x00100513, 0x00300613, 0x04000893, 0x00000073,
-    0x00000513, 0x05D00893, 0x00000073,
-];
-
-/// It writes the same to descriptor 2.
+/// It writes `hi` and a newline as the one that tests share does, but to descriptor 2.
 pub(crate) const HELLO_TO_ERRORS: [u32; 11] = [
     0xFF010593, 0x000A7537, 0x96850513, 0x00A5A023, 0x00200513, 0x00300613, 0x04000893, 0x00000073,
     0x00000513, 0x05D00893, 0x00000073,

@@ -1,9 +1,8 @@
 //! The lines that print the state at a place of a recording.
 
 use super::kit::{done, play_recorded, refused};
-use super::programs::HELLO;
 use std::test::Fail;
-use test_guests::files::EXIT_FIVE;
+use test_guests::files::{EXIT_FIVE, HELLO};
 
 /// What is reported of a program that exits with 5, and of one that writes `hi`.
 const FIVE: (&[u8], &[u8]) = (b"", b"g0: end exited 5, records 2\n");

@@ -1,7 +1,6 @@
 //! Readers that fail, and writers that take parts.
 
 use super::kit::same;
-use super::programs::HELLO;
 use commands::{Refusal, read_program, report, report_unread, run};
 use std::alloc::{AllocError, Global};
 use std::fs;
@@ -13,7 +12,7 @@ use std::sync::Wait;
 use std::test::Fail;
 use std::thread::Threads;
 use std::time::Clock;
-use test_guests::files::{EXIT_FIVE, file_of};
+use test_guests::files::{EXIT_FIVE, HELLO, file_of};
 
 /// What is dumped of a guest that writes `hi`.
 const DUMP: &[u8] = b"0 opening name=g0 elf=128\n1 call tid=1 count=8 result=00000003 written=0\n\

@@ -1,8 +1,8 @@
 //! Where checkpoints stand among the records of a guest.
 
-use super::programs::{HELLO, SPIN};
+use super::programs::SPIN;
 use super::same;
-use super::store::{Kind, Store, kind_of};
+use super::store::{Kind, Store, contents, kind_of};
 use recorder::MemSink;
 use replayer::verify;
 use rrv_model::record::Choice;
@@ -14,9 +14,9 @@ use std::sync::Wait;
 use std::test::Fail;
 use std::thread::Threads;
 use test_guests::bytes::bytes_of;
-use test_guests::files::{EXIT_FIVE, file_of};
+use test_guests::files::{EXIT_FIVE, HELLO, file_of};
 use test_guests::outsides::Nothing;
-use trace_disk::{Disk, MemDisk};
+use trace_disk::MemDisk;
 use trace_log::Log;
 
 /// The store of a program by so many choices of 64 instructions, with checkpoints so far apart.
@@ -74,9 +74,7 @@ fn recorded<R: Abort + AllocGlobal + Threads + Wait + Sync>(
 /// How often these bytes, words of hex digits, stand in a disk.
 fn times_in(alloc: Global, disk: &mut MemDisk, text: &str) -> Result<u32, Fail> {
     let want = bytes_of(alloc, text).ok_or("no bytes")?;
-    let mut bytes = Vec::new(alloc);
-    bytes.resize(usize::try_from(disk.len())?, 0)?;
-    disk.read_at(0, &mut bytes)?;
+    let bytes = contents(alloc, disk)?;
     let mut times = 0u32;
     for place in 0..bytes.len() {
         if bytes[place..].starts_with(&want) {

@@ -4,7 +4,7 @@
 ghost use Rattle.std.specs.Prelude.{◌≡◌, false};
 
 use super::fail_sink::FailSink;
-use super::programs::{HELLO, SPIN};
+use super::programs::SPIN;
 use super::same;
 use super::store::{Kind, Store, kind_of};
 use guest_calls::Put;
@@ -16,7 +16,7 @@ use std::process::Abort;
 use std::sync::Wait;
 use std::test::Fail;
 use std::thread::Threads;
-use test_guests::files::{EXIT_FIVE, file_of};
+use test_guests::files::{EXIT_FIVE, HELLO, file_of};
 use test_guests::outsides::Nothing;
 use trace_disk::{FailOnce, MemDisk};
 use trace_log::Log;

@@ -6,7 +6,6 @@ ghost use Rattle.rrv_model.specs.Opening.{IsName};
 ghost use Rattle.rrv_model.specs.RecordText.{HasOpeningText};
 ghost use Rattle.commit_group.specs.Seats.{new_flusher_seat};
 
-use super::programs::{COUNT_UP, HELLO};
 use super::same;
 use commit_group::{FlusherSeat, Group, RecorderSeat, Turn};
 use guest_calls::Guest;
@@ -19,7 +18,7 @@ use std::alloc::Global;
 use std::process::Abort;
 use std::sync::Wait;
 use std::test::Fail;
-use test_guests::files::{file_of, guest_of_file};
+use test_guests::files::{COUNT_UP, HELLO, file_of, guest_of_file};
 use test_guests::outsides::Nothing;
 use trace_disk::MemDisk;
 use trace_log::Log;

@@ -1,11 +1,20 @@
-//! Sessions that are refused before a guest starts.
+//! Sessions that are refused before a guest starts, or by a full store.
 
-use super::jobs::jobs;
+use super::four::{Ended, listed_jobs, recorded};
+use super::jobs::{MemJob, jobs};
 use super::same;
-use super::store::Store;
-use session::{OpenGate, SessionFault, record_all};
+use super::store::{Store, contents};
+use recorder::MemSink;
+use serial_sched::RoundRobin;
+use session::{Job, OpenGate, SessionFault, record_all};
+use std::alloc::Global;
+use std::process::Abort;
+use std::sync::Wait;
 use std::test::Fail;
-use trace_disk::MemDisk;
+use std::thread::Threads;
+use test_guests::files::{EXIT_FIVE, HELLO, file_of};
+use test_guests::outsides::Nothing;
+use trace_disk::{Disk, FailOnce, MemDisk};
 use trace_log::Log;
 
 // All jobs come back.
@@ -42,5 +51,112 @@ fn a_job_that_starts_no_guest(rt: HostRuntime) -> Result<(), Fail> {
     );
     let store = Store::of(alloc, log.close())?;
     same(&rt, &"guests", store.guests(), 0);
+    Ok(())
+}
+
+/// A store with no bodies.
+const NO_BODIES: [u8; 17] = [
+    0x52, 0x52, 0x56, 0x54, 0x52, 0x43, 0x31, 0x0A, 0, 0, 0, 0, 0, 0, 0, 0, 0,
+];
+
+/// A job of each of these names. The files of those from this place on are cut short.
+fn named_jobs(alloc: Global, names: &[&[u8]], cut_from: usize) -> Result<Vec<MemJob>, Fail> {
+    let mut jobs = Vec::new(alloc);
+    for (place, name) in names.iter().enumerate() {
+        let mut elf = file_of(alloc, &EXIT_FIVE)?;
+        if cut_from <= place {
+            elf.truncate(40);
+        }
+        jobs.push(Job {
+            elf,
+            name: Vec::from_slice(alloc, name)?,
+            random: [3; 16],
+            every: 64,
+            chooser: RoundRobin::new(1000),
+            outside: Nothing,
+            sink: MemSink::new(alloc),
+        })?;
+    }
+    Ok(jobs)
+}
+
+/// A job is as one that was never recorded.
+fn is_untouched(rt: &impl Abort, found: &MemJob, want: &MemJob) {
+    same(rt, &"file", found.elf.as_slice(), want.elf.as_slice());
+    same(rt, &"name", found.name.as_slice(), want.name.as_slice());
+    same(rt, &"random", found.random, want.random);
+    same(rt, &"every", found.every, want.every);
+    let chooser = (found.chooser.quantum, found.chooser.last);
+    same(rt, &"chooser", chooser, (1000, 0));
+    same(rt, &"puts", found.sink.puts().len(), 0);
+}
+
+/// A session of such jobs is refused for the one at this place, and leaves its log and its jobs as they were.
+fn is_refused_for<R>(rt: &R, names: &[&[u8]], cut_from: usize, guest: u32) -> Result<(), Fail>
+where
+    R: Abort + AllocGlobal + Threads + Wait + Sync,
+{
+    let alloc = rt.alloc();
+    let mut log = Log::create(MemDisk::new(alloc)).ok().ok_or("not made")?;
+    log.raise_guest(7);
+    let given = named_jobs(alloc, names, cut_from)?;
+    let (log, back, result) = record_all(rt, alloc, log, given, &OpenGate);
+    let want = Some(SessionFault::BadOpening { guest });
+    same(rt, &guest, result.err(), want);
+    same(rt, &guest, back.len(), names.len());
+    let jobs = named_jobs(alloc, names, cut_from)?;
+    for (found, want) in back.iter().zip(&jobs) {
+        is_untouched(rt, found, want);
+    }
+    same(rt, &guest, log.next_guest(), 7);
+    let bytes = contents(alloc, &mut log.close())?;
+    same(rt, &guest, bytes.as_slice(), &NO_BODIES as &[u8]);
+    Ok(())
+}
+
+// A name has 1 to 32 bytes, each from 0x21 to 0x7E. The first bad job is told, whether its name is bad or its file.
+#[test]
+fn a_job_of_a_bad_name(rt: HostRuntime) -> Result<(), Fail> {
+    let rows: &[(&[&[u8]], usize, u32)] = &[
+        (&[b""], 1, 0),
+        (&[b"a b"], 1, 0),
+        (&[&[0x61; 33]], 1, 0),
+        (&[&[0x7F]], 1, 0),
+        (&[b"a", b""], 2, 1),
+        (&[b"a", b"b\n"], 2, 1),
+        (&[b"", b" "], 2, 0),
+        (&[b"", b"b"], 1, 0),
+        (&[b"a", b" ", b"c"], 2, 1),
+        (&[b"a", b"b", b""], 1, 1),
+    ];
+    for (names, cut_from, guest) in rows {
+        is_refused_for(&rt, names, *cut_from, *guest)?;
+    }
+    Ok(())
+}
+
+// The log has as many segments as a store may have: nothing is recorded, and nothing leaves.
+#[test]
+fn a_full_store(rt: HostRuntime) -> Result<(), Fail> {
+    let alloc = rt.alloc();
+    let made = Log::create(FailOnce::new(MemDisk::new(alloc), 0));
+    let disk = made.ok().ok_or("not made")?.close();
+    if disk.len() != 17 {
+        return Err(Fail::new("no empty store"));
+    }
+    let log = Log::adopt(disk, 16, u32::MAX);
+    let jobs = listed_jobs(alloc, &[&HELLO, &EXIT_FIVE], 10)?;
+    let Ended {
+        mut disk,
+        jobs,
+        fault,
+    } = recorded(&rt, log, jobs, &OpenGate);
+    same(&rt, &"fault", fault, Some(SessionFault::StoreFull));
+    same(&rt, &"jobs", jobs.len(), 2);
+    for job in &jobs {
+        same(&rt, &"puts", job.sink.puts().len(), 0);
+    }
+    let bytes = contents(alloc, &mut disk)?;
+    same(&rt, &"bytes", bytes.as_slice(), &NO_BODIES as &[u8]);
     Ok(())
 }

@@ -33,6 +33,14 @@ pub(super) fn kind_of(record: &Record) -> Kind {
     }
 }
 
+/// All the bytes of a disk.
+pub(super) fn contents(alloc: Global, disk: &mut MemDisk) -> Result<Vec<u8>, Fail> {
+    let mut bytes = Vec::new(alloc);
+    bytes.resize(usize::try_from(disk.len())?, 0)?;
+    disk.read_at(0, &mut bytes)?;
+    Ok(bytes)
+}
+
 /// What a store has of a guest, as it is replayed.
 #[derive(Drop)]
 pub(super) struct Kept {

@@ -3,27 +3,25 @@
 use super::trial::same;
 use guest_calls::Guest;
 use rrv_model::record::{Choice, End, Frame};
-use serial_sched::{SliceFault, slice, steps};
+use serial_sched::{SliceFault, slice};
 use std::alloc::Global;
 use std::process::Abort;
 use std::test::Fail;
-use test_guests::files::{file_of, guest_of_file};
+use test_guests::files::{HELLO, file_of, guest_of_file};
 use test_guests::outsides::Nothing;
 
-/// It stores `hi` and a newline below the stack pointer by its fourth instruction, writes these three bytes by its eighth, and
-/// exits with 0 by its eleventh.
-const HELLO: [u32; 11] = [
-    0xFF01_0593,
-    0x000A_7537,
-    0x9685_0513,
-    0x00A5_A023,
-    0x0010_0513,
-    0x0030_0613,
-    0x0400_0893,
-    0x0000_0073,
-    0x0000_0513,
-    0x05D0_0893,
-    0x0000_0073,
+/// It stores the stack pointer below where that points by its first instruction, writes these four bytes by its sixth, and exits
+/// with 0 by its ninth.
+const STORE_FIRST: [u32; 9] = [
+    0xFE21_2823, // sw sp, -16(sp)
+    0xFF01_0593, // addi a1, sp, -16
+    0x0010_0513, // li a0, 1
+    0x0040_0613, // li a2, 4
+    0x0400_0893, // li a7, 64
+    0x0000_0073, // ecall
+    0x0000_0513, // li a0, 0
+    0x05D0_0893, // li a7, 93
+    0x0000_0073, // ecall
 ];
 
 /// What a frame says: how many instructions it has, and what its call returned, if it ends with one.
@@ -37,9 +35,9 @@ fn told(frame: &Frame) -> Told {
     (frame.count, value)
 }
 
-/// The guest of these instructions.
-fn hello(alloc: Global) -> Result<Guest, Fail> {
-    let elf = file_of(alloc, &HELLO)?;
+/// The guest of a program, which has run nothing: a step might pass a growth that is refused.
+fn started(alloc: Global, program: &[u32]) -> Result<Guest, Fail> {
+    let elf = file_of(alloc, program)?;
     Ok(guest_of_file(alloc, &elf, 0).ok_or("no guest")?)
 }
 
@@ -85,50 +83,44 @@ fn frames_of(
     Ok(frames)
 }
 
-/// The frames of a run: undisturbed, cut before its fourth instruction, and cut before its eighth.
-const RUNS: [[Told; 4]; 3] = [
-    [(8, Some(3)), (3, Some(0)), (0, None), (0, None)],
-    [(3, None), (5, Some(3)), (3, Some(0)), (0, None)],
-    [(7, None), (1, Some(3)), (3, Some(0)), (0, None)],
-];
-
-/// The guest after this many steps.
-fn hello_after(alloc: Global, count: u32) -> Result<Guest, Fail> {
-    let mut guest = hello(alloc)?;
-    steps(&mut guest, 1, count)?;
-    Ok(guest)
-}
-
-/// Runs a guest to its end from this step on, over pages that a snapshot shares, and another over its own. Both come to the same
-/// end, the first by such frames.
+/// Runs the guest of a program to its end, over pages that a snapshot shares, and another over its own. Both come to the same end
+/// after this many instructions, the first by such frames.
 fn ends_the_same(
     rt: &impl Abort,
     alloc: Global,
-    count: u32,
+    program: &[u32],
+    count: u64,
     runs: &[[Told; 4]],
 ) -> Result<(), Fail> {
-    let before = hello_after(alloc, count)?;
-    let mut own = hello_after(alloc, count)?;
-    let mut shared = hello_after(alloc, count)?;
+    let before = started(alloc, program)?;
+    let mut own = started(alloc, program)?;
+    let mut shared = started(alloc, program)?;
     let _snapshot = shared.snapshot()?;
     let frames = frames_of(rt, alloc, &mut shared, &before)?;
     same(rt, &frames, runs.contains(&frames), true);
     frames_of(rt, alloc, &mut own, &before)?;
-    same(rt, &frames, (shared.ran(), shared.same(&own)), (11, true));
+    let found = (shared.ran(), shared.same(&own));
+    same(rt, &frames, found, (count, true));
     Ok(())
 }
 
+// Undisturbed, cut before its fourth instruction, and cut before its eighth.
 #[test]
 fn a_slice_to_a_shared_page_finds_no_memory(rt: HostRuntime) -> Result<(), Fail> {
-    ends_the_same(&rt, rt.alloc(), 0, &RUNS)
+    let runs = [
+        [(8, Some(3)), (3, Some(0)), (0, None), (0, None)],
+        [(3, None), (5, Some(3)), (3, Some(0)), (0, None)],
+        [(7, None), (1, Some(3)), (3, Some(0)), (0, None)],
+    ];
+    ends_the_same(&rt, rt.alloc(), &HELLO, 11, &runs)
 }
 
-// Three instructions have run, so the first of the slice is the one that stores.
+// Undisturbed, also where the slice is made again, and cut before its sixth instruction.
 #[test]
 fn a_first_store_to_a_shared_page_finds_no_memory(rt: HostRuntime) -> Result<(), Fail> {
     let runs = [
-        [(5, Some(3)), (3, Some(0)), (0, None), (0, None)],
-        [(4, None), (1, Some(3)), (3, Some(0)), (0, None)],
+        [(6, Some(4)), (3, Some(0)), (0, None), (0, None)],
+        [(5, None), (1, Some(4)), (3, Some(0)), (0, None)],
     ];
-    ends_the_same(&rt, rt.alloc(), 3, &runs)
+    ends_the_same(&rt, rt.alloc(), &STORE_FIRST, 9, &runs)
 }

@@ -12,15 +12,15 @@ use std::process::Abort;
 use std::test::Fail;
 use trace_disk::Disk;
 
-/// The bytes of a store with both records, in one body or in two.
-fn bytes_in(alloc: Global, bodies: usize) -> Result<Vec<u8>, Fail> {
+/// The bytes of a store with both records, in one body or in two. Each body is committed.
+fn bytes_in(rt: &impl Abort, alloc: Global, bodies: usize) -> Result<Vec<u8>, Fail> {
     let mut machine = Machine::new(alloc, new_disk(alloc)?, 0);
-    machine.create()?;
+    same(rt, &"store", machine.create()?, None);
     machine.put(&OPENING)?;
     if bodies == 2 {
-        machine.commit(alloc)?;
+        same(rt, &"first body", machine.commit(alloc)?, None);
     }
-    machine.commit_of(alloc, &CALL)?;
+    same(rt, &"last body", machine.commit_of(alloc, &CALL)?, None);
     machine.close()?;
     bytes_of(alloc, machine.device()?)
 }
@@ -83,14 +83,14 @@ fn finds(rt: &impl Abort, alloc: Global, bytes: &[u8], records: u32) -> Result<(
 
 #[test]
 fn an_opening_of_one_body_finds_no_memory(rt: HostRuntime) -> Result<(), Fail> {
-    let bytes = bytes_in(rt.alloc(), 1)?;
+    let bytes = bytes_in(&rt, rt.alloc(), 1)?;
     same(&rt, &"bytes", bytes.len(), 218);
     finds(&rt, rt.alloc(), &bytes, 2)
 }
 
 #[test]
 fn an_opening_of_two_bodies_finds_no_memory(rt: HostRuntime) -> Result<(), Fail> {
-    let bytes = bytes_in(rt.alloc(), 2)?;
+    let bytes = bytes_in(&rt, rt.alloc(), 2)?;
     same(&rt, &"bytes", bytes.len(), 259);
     finds(&rt, rt.alloc(), &bytes, 2)
 }
@@ -98,7 +98,7 @@ fn an_opening_of_two_bodies_finds_no_memory(rt: HostRuntime) -> Result<(), Fail>
 // The gate before the second body is neither open nor closed: opening closes it, and cuts that body off.
 #[test]
 fn an_opening_of_a_torn_gate_finds_no_memory(rt: HostRuntime) -> Result<(), Fail> {
-    let mut bytes = bytes_in(rt.alloc(), 2)?;
+    let mut bytes = bytes_in(&rt, rt.alloc(), 2)?;
     *bytes.get_mut(188).ok_or("no gate")? = 0x37;
     finds(&rt, rt.alloc(), &bytes, 1)
 }

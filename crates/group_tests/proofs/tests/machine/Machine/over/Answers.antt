@@ -1,6 +1,6 @@
 use Rattle.std.proofs.Common.{ap}
 use Rattle.commit_group.specs.Seats.{RecorderValue}
-use Rattle.group_tests.proofs.tests.machine.Machine.new.Goals as goal
+use Rattle.group_tests.proofs.tests.machine.Machine.over.Goals as goal
 
 pub invariant_of-result-clause-all : goal.invariant_of-result-clause-all
 invariant_of-result-clause-all c k r there =
