@@ -23,8 +23,11 @@ fn check_job<C: Chooser + Drop, O: Outside + Drop, S: Sink + Drop>(
     ensures starts { OnOk result (StartsGuest job.now) }
     ensures refused { IfErr result (λ fault. RefusesJob place job.now fault) }
 {
+    if !is_name(&job.name) {
+        return Err(SessionFault::BadOpening { guest: place });
+    }
     // Whatever else is wrong with a file past its limit, no memory is wanted to refuse it.
-    if !is_name(&job.name) || job.elf.len() > MAX_ELF as usize {
+    if job.elf.len() > MAX_ELF as usize {
         return Err(SessionFault::BadOpening { guest: place });
     }
     match parse(alloc, &job.elf) {
