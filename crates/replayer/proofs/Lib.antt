@@ -8,3 +8,4 @@ pub mod Placed
 pub mod Last
 pub mod Putting
 pub mod Behind
+pub mod Gone

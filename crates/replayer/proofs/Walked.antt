@@ -4,6 +4,7 @@ use Rattle.std.specs.Prelude.{slice_get}
 use Rattle.std.proofs.Math.Seq.{take-suc}
 use Rattle.std.proofs.lemmas.List.{length-take-le, take_all}
 use Rattle.std.specs.Prelude.{IsSomeAnd}
+use Rattle.rrv_model.specs.declared.limits.TheConstants.{MAX_ELF}
 use Rattle.rrv_model.specs.declared.record.Item.{Item}
 use Rattle.rrv_model.specs.declared.record.Item.TheVariants as items
 use Rattle.rrv_model.specs.declared.record.Opening.{Opening}
@@ -12,6 +13,7 @@ use Rattle.rrv_model.specs.declared.record.Record.{Record}
 use Rattle.rrv_model.specs.State.{State}
 use Rattle.rrv_model.specs.Opening.{Opens}
 use Rattle.rrv_model.specs.Recording.{EndsIn, IsNumbered, IsRecording, Starts, items_of}
+use Rattle.elf_load.proofs.Accepted.{accepted, file_limit}
 use Rattle.rrv_model.proofs.RecordingLaws.{beginnings_are_recordings}
 use Rattle.rrv_model.proofs.RunLaws.{items-append, numbered-append}
 use Rattle.replayer.specs.declared.fault.VerifyFault.{VerifyFault}
@@ -153,7 +155,11 @@ refused_opening (faults.Unreadable index) r o zero_is is refuses = absurd refuse
 
 -- what opened took memory
 pub opened : (r : Record) (o : Opening) (s : State) → r.index ≡ 0 → r.item ≡ items.Opening o → Opens o.elf o.name o.random s → TakesMemory r
-opened r o s zero_is is opens = (zero_is, (o, is, (opens.is_name, λ n low some. let bad : None ≡ Some n = sym opens.accepted ∙ some in cc)))
+opened r o s zero_is is opens = (zero_is, (o, is, (opens.is_name, (λ n low some. let bad : None ≡ Some n = sym opens.accepted ∙ some in cc), file_limit o.elf (accepted o.elf opens.accepted))))
+
+-- no guest starts from a file past its limit
+pub too_long : (file name random : List ℕ) (s : State) → MAX_ELF < length file → Opens file name random s → ⊥
+too_long file name random s long opens = omega (arith, file_limit file (accepted file opens.accepted))
 
 -- ---- of a recording
 

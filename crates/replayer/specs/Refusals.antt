@@ -1,5 +1,6 @@
 -- What a refused verification says.
-use Rattle.std.specs.Prelude.{◌≡◌, ℕ, ◌+◌, ◌<◌, List, [], ◌∷◌, ◌++◌, length, take, slice_get, IsSomeAnd, IsSome}
+use Rattle.std.specs.Prelude.{◌≡◌, ℕ, ◌+◌, ◌<◌, ◌≤◌, List, [], ◌∷◌, ◌++◌, length, take, slice_get, IsSomeAnd, IsSome}
+use Rattle.rrv_model.specs.declared.limits.TheConstants.{MAX_ELF}
 use Rattle.rrv_model.specs.declared.record.Part.{Part}
 use Rattle.rrv_model.specs.declared.record.Item.{Item}
 use Rattle.rrv_model.specs.declared.record.Item.TheVariants as items
@@ -15,11 +16,11 @@ use Rattle.elf_load.specs.Refusals.{IsPastRefusal}
 use Rattle.replayer.specs.declared.fault.VerifyFault.{VerifyFault}
 use Rattle.replayer.specs.declared.fault.VerifyFault.TheVariants as faults
 
--- An opening is refused where no state is its opening state. Memory is taken for it only where its name is one, and its
--- file is refused by none of the first twelve tests.
+-- An opening is refused if no state is its opening state. Memory is taken for it only if its name is one, and its file is
+-- refused by none of the first twelve tests and is within its limit.
 abbrev pub RefusesOpening : VerifyFault → Opening → Type 0
 RefusesOpening faults.BadOpening o = (s : State) → Opens o.elf o.name o.random s → ⊥
-RefusesOpening faults.Memory o = IsName o.name × IsPastRefusal 12 o.elf
+RefusesOpening faults.Memory o = IsName o.name × IsPastRefusal 12 o.elf × (length o.elf ≤ MAX_ELF)
 RefusesOpening (faults.Mismatch index) o = ⊥
 RefusesOpening (faults.BadCheckpoint index) o = ⊥
 RefusesOpening (faults.Unreadable index) o = ⊥

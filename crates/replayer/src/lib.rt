@@ -8,8 +8,9 @@
 //! - `verify`: a list that it accepts is a recording, and what it returns keeps just these records. Else exactly one fault with
 //!   one index, beside `Memory`, fits the list: `BadOpening` if its first record is no recording, `Mismatch` and
 //!   `BadCheckpoint` at the first record that doesn't follow from those before it, `BadCheckpoint` exactly if that is the last
-//!   part of a checkpoint. `Memory` comes only if the first record is an opening that takes memory. A checkpoint is never
-//!   trusted: its parts are put onto the state of its base, and the outcome is compared.
+//!   part of a checkpoint. `Memory` comes only if the first record is an opening that takes memory: its name is one, none of
+//!   the first twelve refusals of a file applies, and the file is within its limit. A checkpoint is never trusted: its parts
+//!   are put onto the state of its base, and the outcome is compared.
 //! - A `Verified` is known by its value: the opening, the frames, the places of the complete checkpoints, and the number of
 //!   records of some recording (`VerifiedValue`, `Keeps`); its fields are in no contract, and none asks where it comes from.
 //!   `len` and `total` are the numbers of records and of instructions. A place is in the list exactly if the last part of a
@@ -27,7 +28,8 @@
 //!   withheld a record (`Source::withheld`), and those before it are a recording. It names that one, of a source that says
 //!   which (`Source::withheld_at`), as the program's own over a store does. So if none is withheld it returns what `verify`
 //!   returns, but that `Memory` may come for any record. Of a source that isn't honest, what it returns is of some recording of
-//!   as many records. `verify_source_watched` does the same; what it reports to its watch stands in no clause.
+//!   as many records. `verify_source_watched` does the same; what it reports to its watch stands in no clause:
+//!   `tools/progress_cases` sees it at each record.
 //! - `verify_source_end` verifies in the same way, with the same refusals, and returns how many records and instructions there
 //!   are, and the guest in the state that the records end in. That it holds the opening, one record more and the parts of one
 //!   checkpoint at a time is seen in the code alone.
@@ -38,8 +40,10 @@
 //!   and `dump --places` and `--trace-events` use `Following`. Each other command that replays a guest calls
 //!   `verify_source_watched` first.
 //! - `read_guest`: on an honest disk on which they stand, the records of a guest; else a failed device or want of memory. On
-//!   any disk: as many records as the guest has, each of that guest and numbered in order; or one of them is named; and one
-//!   more call has failed exactly where the answer is `DeviceFailed`. The disk is only read.
+//!   any honest disk `Unreadable` names the first of the guest's records that doesn't stand at its spot: at that spot is no text
+//!   of a record of that guest and index, and at each spot before it there is one (`NamesFirstGone`). On any disk: as many
+//!   records as the guest has, each of that guest and numbered in order; or one of them is named; and one more call has failed
+//!   exactly if `DeviceFailed` is returned. The disk is only read.
 #![tactic(auto)]
 
 mod fault;

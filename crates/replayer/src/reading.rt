@@ -4,7 +4,7 @@ ghost use Rattle.std.specs.Prelude.{◌≡◌, ◌⊎◌, ◌↔◌, ◌≤◌, 
 ghost use Rattle.rrv_model.specs.Recording.{IsNumbered};
 ghost use Rattle.rrv_model.specs.Recovered.{of_guest};
 ghost use Rattle.recover.specs.Spots.{records_of, StandOn};
-ghost use Rattle.replayer.specs.Told.{NamesOneOf, failures_after_guest};
+ghost use Rattle.replayer.specs.Told.{NamesFirstGone, NamesOneOf, failures_after_guest};
 
 use crate::fault::ReadGuestFault;
 use recover::Lists;
@@ -12,8 +12,8 @@ use rrv_model::record::Record;
 use std::alloc::Global;
 use trace_disk::Disk;
 
-/// The records of a guest of a store, read from its disk. `DeviceFailed` where a call of the disk fails, `Unreadable`
-/// where the store no longer holds a record, and `Memory` where a growth is refused.
+/// The records of a guest of a store, read from its disk. `DeviceFailed` is a call of the disk that failed, and `Memory` a
+/// growth that was refused. `Unreadable` names the first of the guest's records that the store no longer holds.
 pub fn read_guest<D: Disk>(
     alloc: Global,
     lists: &Lists,
@@ -29,6 +29,8 @@ pub fn read_guest<D: Disk>(
     ensures numbered { IfOk result (λ records. IsNumbered guest 0 records.items) }
     ensures len { IfOk result (λ records. length records.items ≡ length (of_guest guest (records_of lists.now))) }
     ensures named { IfErr result (NamesOneOf (length (of_guest guest (records_of lists.now)))) }
+    ensures gone { D.honest disk.old
+        → IfErr result (NamesFirstGone (D.state disk.old).content guest lists.now) }
     ensures some { OnErr result (1 ≤ length (of_guest guest (records_of lists.now))) }
     ensures state { D.honest disk.old → D.state disk.new ≡ D.state disk.old }
     ensures honest { D.honest disk.new ↔ D.honest disk.old }
