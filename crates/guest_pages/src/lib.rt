@@ -14,9 +14,10 @@
 //! - `fill_unshared`: a `fill` of pages that are there, in a space with no snapshot, which needs no `prepare`.
 //! - `live`: how many pages there are in all, those of the space and of its live snapshots, a shared one counted once. That is
 //!   as many as are mapped at the least, and just as many if no snapshot is live. Each call says what it adds or frees, exactly
-//!   but for `drop_snapshot`: `map`, `prepare` and the stores a page for each number whose page isn't the space's own, `cover`
-//!   one if none is mapped, `set_page` one or none, `unmap` frees those that are the space's own; `snapshot`, `protect` and a
-//!   `fill` change nothing. `drop_snapshot` adds none, and the last one leaves the pages that are mapped.
+//!   but for `drop_snapshot`: `map`, `prepare` and the stores add a page for each number whose page isn't the space's own,
+//!   `cover` one if none is mapped; `set_page` adds one or none, or frees one; `unmap` frees those that are the space's own;
+//!   `snapshot`, `protect` and a `fill` change nothing. `drop_snapshot` adds none, and the last one leaves the pages that are
+//!   mapped.
 //! - `set_page`: puts a page as `page` reads one in place of what was there, or unmaps it.
 //! - `snapshot`: its memory stays, whatever is stored, mapped, unmapped or protected later.
 //! - `changed_since`: exactly the pages that differ from a snapshot.

@@ -39,7 +39,8 @@
 //!   sink refused. A guest whose worker met none is recorded to its end, also if another's fault is reported, unless the
 //!   session met others.
 //! - Not in its contract: that the gate held if it says so, and that `Memory` comes only if an allocation failed. So a list of
-//!   faults that names one of these for a worker, or `Memory` for the session, is believed.
+//!   faults that names one of these for a worker, `Memory` for the session, or some fault of the session beside the reported
+//!   one, is believed.
 //!
 //! That threads run at once, that one could not be made, and that a worker ever ends is in no contract. Tests record 16 guests
 //! of a thousand records each, ten times, and replay what they find; two guests of which one waits for the other's frames, and
