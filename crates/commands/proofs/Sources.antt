@@ -4,7 +4,9 @@ use Rattle.rrv_model.specs.declared.record.Record.{Record}
 use Rattle.rrv_model.specs.CrashModel.{DiskState}
 use Rattle.recover.specs.declared.fault.ReadFault.{ReadFault}
 use Rattle.recover.specs.declared.fault.ReadFault.TheVariants as disk_faults
+use Rattle.recover.specs.declared.fault.OpenFault.{OpenFault}
 use Rattle.recover.specs.declared.spot.Spot.{Spot}
+use Rattle.recover.specs.Opened.{IsFailure}
 use Rattle.recover.specs.Spots.{StandIn, StandOn}
 use Rattle.replayer.specs.declared.fault.ReadGuestFault.{ReadGuestFault}
 use Rattle.replayer.specs.declared.fault.VerifyFault.{VerifyFault}
@@ -13,7 +15,7 @@ use Rattle.replayer.specs.Sourced.{RefusesSource}
 use Rattle.replayer.specs.Told as replayer
 use Rattle.commands.specs.declared.refusal.Refusal.{Refusal}
 use Rattle.commands.specs.Stores.{IsFailed, RefusesGuest}
-use Rattle.commands.specs.Told.{read_told, verify_told}
+use Rattle.commands.specs.Told.{open_told, read_told, verify_told}
 
 -- a disk that was only read
 pub still_on : {D : Type 0} (honest : D → Type 0) (state : D → DiskState) (old new : D) (spots : List Spot) → (honest old → state new ≡ state old) → (honest old → honest new) → StandOn honest state old spots
@@ -47,3 +49,10 @@ pub guest_refused : {T : Type 0} (result : Result T Refusal) (records : List Rec
     → IfErr result (λ e. RefusesGuest e records)
 guest_refused (Ok x) records some refused = tt
 guest_refused (Err e) records some refused = source_refused e refused.0 records some refused.1 refused.2
+
+-- a store that was not opened, or not read
+pub failure_told : (e : Refusal) (fault : OpenFault) → e ≡ open_told fault → IsFailure fault → IsFailed e
+failure_told e fault is failure = elim failure [
+  | inl device ↦ inl (is ∙ ap open_told device)
+  | inr memory ↦ inr (is ∙ ap open_told memory)
+]

@@ -1,61 +1,57 @@
--- What is listed of a guest, record by record.
-use Rattle.std.proofs.Common.{◌≡◌, ℕ, ◌+◌, List, [], ◌∷◌, ◌++◌, length, Some, arith, refl, ap, sym, length-append, ◌∙◌}
-use Rattle.std.specs.Prelude.{slice_get, take}
-use Rattle.std.proofs.lemmas.List.{append-nil, map-append}
-use Rattle.std.proofs.lemmas.List.Sums.{sum_by-append}
-use Rattle.rrv_model.specs.declared.record.Frame.{Frame}
+-- The name of a guest, which is that of its first record.
+use Rattle.std.proofs.Common.{◌≡◌, ◌==◌, ℕ, ◌+◌, ◌≤◌, Bool, true, false, cond, List, [], ◌∷◌, length, Some, refl, sym, ◌∙◌, ap, arith}
+use Rattle.std.specs.List.{AllByRecursion}
+use Rattle.std.specs.Prelude.{slice_get}
+use Rattle.std.proofs.lemmas.List.{nil_from_length}
 use Rattle.rrv_model.specs.declared.record.Item.{Item}
 use Rattle.rrv_model.specs.declared.record.Item.TheVariants as items
+use Rattle.rrv_model.specs.declared.record.Opening.{Opening}
 use Rattle.rrv_model.specs.declared.record.Record.{Record}
-use Rattle.rrv_model.specs.Recording.{frames_of, items_of}
-use Rattle.rrv_model.specs.StateAt.{total}
-use Rattle.commands.specs.Printed.{AddsItem, IsSummary, name_in}
-use Rattle.commands.proofs.Texts.{take_next}
+use Rattle.rrv_model.specs.Recording.{IsNumbered, items_of}
+use Rattle.rrv_model.specs.Recovered.{AreInOrder, IsOpening, OpensAtZero, of_guest}
+use Rattle.commands.specs.Printed.{name_in}
 
-name_behind : (name : List ℕ) (its : List Item) (i : Item) → name_in name (its ++ i ∷ []) ≡ name_in (name_in name its) (i ∷ [])
-name_behind name [] i = refl
-name_behind name (items.Opening o ∷ rest) i = name_behind o.name rest i
-name_behind name (items.Frame f ∷ rest) i = name_behind name rest i
-name_behind name (items.Part p ∷ rest) i = name_behind name rest i
+pub no_name : (records : List Record) → length records ≡ 0 → [] ≡ name_in [] (items_of records)
+no_name records none = sym (ap (λ (l : List Record). name_in [] (items_of l)) (nil_from_length records none))
 
-frames_behind : (its : List Item) (i : Item) → frames_of (its ++ i ∷ []) ≡ frames_of its ++ frames_of (i ∷ [])
-frames_behind [] i = refl
-frames_behind (items.Opening o ∷ rest) i = frames_behind rest i
-frames_behind (items.Frame f ∷ rest) i = ap (λ (l : List Frame). f ∷ l) (frames_behind rest i)
-frames_behind (items.Part p ∷ rest) i = frames_behind rest i
+-- an item that is no opening names nothing
+passed_by : (name : List ℕ) (i : Item) (rest : List Item) → (IsOpening i → ⊥) → name_in name (i ∷ rest) ≡ name_in name rest
+passed_by name (items.Opening o) rest other = absurd (other tt)
+passed_by name (items.Frame f) rest other = refl
+passed_by name (items.Part p) rest other = refl
 
-total_behind : (frames : List Frame) (f : Frame) → total (frames ++ f ∷ []) ≡ total frames + f.count
-total_behind frames f = let e = sum_by-append (λ (x : Frame). x.count) frames (f ∷ []) in e ∙ ap (λ (n : ℕ). total frames + n) (omega arith)
+-- past the first record there is none
+none_after : (guest index : ℕ) (name : List ℕ) (records : List Record) → 1 ≤ index → IsNumbered guest index records → AllByRecursion OpensAtZero records → name_in name (items_of records) ≡ name
+none_after guest index name [] some numbered opened = refl
+none_after guest index name (r ∷ records) some numbered opened =
+    passed_by name r.item (items_of records) (λ opening. omega (arith, some, sym numbered.1 ∙ opened.0.1 opening))
+    ∙ none_after guest (index + 1) name records (omega arith) numbered.2 opened.1
 
-pub no_summary : IsSummary [] [] 0 0
-no_summary = record { name_is = refl; frames_are = refl; instructions_are = refl }
+first_of : (guest : ℕ) (i : Item) (records : List Record) → IsNumbered guest 1 records → AllByRecursion OpensAtZero records → name_in [] (i ∷ []) ≡ name_in [] (i ∷ items_of records)
+first_of guest (items.Opening o) records numbered opened = sym (none_after guest 1 o.name records (omega arith) numbered opened)
+first_of guest (items.Frame f) records numbered opened = sym (none_after guest 1 [] records (omega arith) numbered opened)
+first_of guest (items.Part p) records numbered opened = sym (none_after guest 1 [] records (omega arith) numbered opened)
 
-behind : (its : List Item) (item : Item) (n : List ℕ) (f t : ℕ) (n' : List ℕ) (f' t' : ℕ)
-    → n ≡ name_in [] its → f ≡ length (frames_of its) → t ≡ total (frames_of its) → AddsItem n f t item n' f' t'
-    → (n' ≡ name_in [] (its ++ item ∷ [])) × (f' ≡ length (frames_of (its ++ item ∷ []))) × (t' ≡ total (frames_of (its ++ item ∷ [])))
-behind its (items.Opening o) n f t n' f' t' name frames steps adds =
-    let same = frames_behind its (items.Opening o) ∙ append-nil (frames_of its) in
-    (adds.0 ∙ sym (name_behind [] its (items.Opening o)), adds.1 ∙ frames ∙ ap length (sym same), adds.2 ∙ steps ∙ ap total (sym same))
-behind its (items.Frame frame) n f t n' f' t' name frames steps adds =
-    let more = frames_behind its (items.Frame frame) in
-    let count : length (frames_of its ++ frame ∷ []) ≡ length (frames_of its) + 1 = length-append (frames_of its) (frame ∷ []) in
-    let sum = total_behind (frames_of its) frame in (
-      adds.0 ∙ name ∙ sym (name_behind [] its (items.Frame frame)),
-      adds.1 ∙ ap (λ (k : ℕ). k + 1) frames ∙ sym count ∙ ap length (sym more),
-      adds.2 ∙ ap (λ (k : ℕ). k + frame.count) steps ∙ sym sum ∙ ap total (sym more),
-    )
-behind its (items.Part p) n f t n' f' t' name frames steps adds =
-    let same = frames_behind its (items.Part p) ∙ append-nil (frames_of its) in
-    (adds.0 ∙ name ∙ sym (name_behind [] its (items.Part p)), adds.1 ∙ frames ∙ ap length (sym same), adds.2 ∙ steps ∙ ap total (sym same))
+opened_by : (b : Bool) (r : Record) (qs : List Record) → OpensAtZero r → AllByRecursion OpensAtZero qs → AllByRecursion OpensAtZero (cond b (r ∷ qs) qs)
+opened_by true r qs h k = (h, k)
+opened_by false r qs h k = k
 
--- the summary of the first records, and of one more
-pub summary_on : (records : List Record) (i : ℕ) (r : Record) (n : List ℕ) (f t : ℕ) (n' : List ℕ) (f' t' : ℕ) → slice_get records i ≡ Some r
-    → IsSummary (take i records) n f t → AddsItem n f t r.item n' f' t' → IsSummary (take (i + 1) records) n' f' t'
-summary_on records i r n f t n' f' t' is s adds =
-    let b = behind (items_of (take i records)) r.item n f t n' f' t' s.name_is s.frames_are s.instructions_are adds in
-    let its : items_of (take (i + 1) records) ≡ items_of (take i records) ++ r.item ∷ [] = ap items_of (take_next records i r is) ∙ map-append (λ (x : Record). x.item) (take i records) (r ∷ []) in
-    record {
-      name_is = b.0 ∙ ap (name_in []) (sym its);
-      frames_are = b.1 ∙ ap (λ (l : List Item). length (frames_of l)) (sym its);
-      instructions_are = b.2 ∙ ap (λ (l : List Item). total (frames_of l)) (sym its);
-    }
+opened_of : (g : ℕ) (records : List Record) → AllByRecursion OpensAtZero records → AllByRecursion OpensAtZero (of_guest g records)
+opened_of g [] h = tt
+opened_of g (r ∷ records) h = opened_by (r.guest == g) r (of_guest g records) h.0 (opened_of g records h.1)
+
+named : (guest : ℕ) (records : List Record) (r : Record) → IsNumbered guest 0 records → AllByRecursion OpensAtZero records → slice_get records 0 ≡ Some r → name_in [] (r.item ∷ []) ≡ name_in [] (items_of records)
+named guest [] r numbered opened is = cc
+named guest (q ∷ records) r numbered opened is =
+    let same : q ≡ r = cc in
+    ap (λ (x : Record). name_in [] (x.item ∷ [])) (sym same) ∙ first_of guest q.item records numbered.2 opened.1
+
+-- a guest is named by its first record
+pub first_names : (guest : ℕ) (records : List Record) (r : Record) → AreInOrder records → slice_get (of_guest guest records) 0 ≡ Some r → name_in [] (r.item ∷ []) ≡ name_in [] (items_of (of_guest guest records))
+first_names guest records r order = named guest (of_guest guest records) r (order.numbered guest) (opened_of guest records order.opened)
+
+-- a record that is no opening names nothing
+pub nameless : (i : Item) → ((o : Opening) → i ≡ items.Opening o → ⊥) → [] ≡ name_in [] (i ∷ [])
+nameless (items.Opening o) other = absurd (other o refl)
+nameless (items.Frame f) other = refl
+nameless (items.Part p) other = refl

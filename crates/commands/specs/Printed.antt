@@ -1,5 +1,5 @@
 -- What the lines print of stores and of guests.
-use Rattle.std.specs.Prelude.{◌≡◌, ◌↔◌, ℕ, ◌+◌, ◌≤◌, List, [], ◌∷◌, ◌++◌, Option, Some, None, length, flat_map, codes, Contains}
+use Rattle.std.specs.Prelude.{◌≡◌, ◌↔◌, ℕ, ◌≤◌, List, [], ◌∷◌, ◌++◌, Option, Some, None, length, flat_map, codes, Contains}
 use Rattle.std.specs.Fmt.{decimal}
 use Rattle.std.specs.List.Sorted.{IsStrictlyIncreasing}
 use Rattle.command_line.specs.declared.request.MemoryRange.{MemoryRange}
@@ -29,21 +29,6 @@ name_in name [] = name
 name_in name (items.Opening o ∷ rest) = name_in o.name rest
 name_in name (items.Frame f ∷ rest) = name_in name rest
 name_in name (items.Part p ∷ rest) = name_in name rest
-
--- what is listed of a guest with these records: its name, how many frames there are, and how many instructions these ran
-pub record IsSummary (records : List Record) (name : List ℕ) (frames instructions : ℕ) : Type 0 where
-  pub name_is : name ≡ name_in [] (items_of records)
-  pub frames_are : frames ≡ length (frames_of (items_of records))
-  pub instructions_are : instructions ≡ total (frames_of (items_of records))
-
--- an item changes the name, the number of frames and that of instructions so
-abbrev pub AddsItem : (name : List ℕ) → (frames instructions : ℕ) → Item → (name' : List ℕ) → (frames' instructions' : ℕ) → Type 0
-AddsItem name frames instructions (items.Opening o) name' frames' instructions' =
-    (name' ≡ o.name) × (frames' ≡ frames) × (instructions' ≡ instructions)
-AddsItem name frames instructions (items.Frame f) name' frames' instructions' =
-    (name' ≡ name) × (frames' ≡ frames + 1) × (instructions' ≡ instructions + f.count)
-AddsItem name frames instructions (items.Part p) name' frames' instructions' =
-    (name' ≡ name) × (frames' ≡ frames) × (instructions' ≡ instructions)
 
 -- the line of a guest with these records
 abbrev pub guest_line : ℕ → List Record → List ℕ

@@ -5,7 +5,7 @@ use crate::refusal::Refusal;
 use crate::reports::print_report;
 use crate::store::{Store, opened};
 use crate::stored::StoredGuest;
-use crate::verifying::verified_end;
+use crate::verifying::{extent_of, verified_end};
 use guest_calls::Outside;
 use rrv_model::sink::Sink;
 use serial_sched::Chooser;
@@ -84,7 +84,7 @@ pub(crate) fn tell_ended<R: Clock, D: Disk + Drop, E: Write>(
     finish(&mut err)
 }
 
-/// Prints how the guest at this place of the recording ended, if it did, and hands the store back.
+/// Prints how the guest at this place of the recording ended, if it did and can be replayed, and hands the store back.
 fn print_ended<R: Clock, D: Disk + Drop, W: Write>(
     rt: &R,
     alloc: Global,
@@ -96,20 +96,23 @@ fn print_ended<R: Clock, D: Disk + Drop, W: Write>(
     let Store { lists, disk } = store;
     let guest = first.saturating_add(u32::try_from(place).unwrap_or(u32::MAX));
     let records = lists.len(guest);
+    let all = extent_of(&lists, guest);
     let mut source = StoredGuest {
         lists,
         disk,
         guest,
         withheld: None,
     };
-    let end = verified_end(rt, alloc, &mut source, false, &mut io::sink())?;
-    let report = GuestReport {
-        number: guest,
-        records,
-        end: end.guest.ended(),
-    };
-    if report.end.is_some() {
-        print_report(alloc, place, &report, &end.guest, end.last, out)?;
+    let end = verified_end(rt, alloc, &mut source, all, false, &mut io::sink());
+    if let Ok(end) = end {
+        let report = GuestReport {
+            number: guest,
+            records,
+            end: end.guest.ended(),
+        };
+        if report.end.is_some() {
+            print_report(alloc, place, &report, &end.guest, end.last, out)?;
+        }
     }
     let StoredGuest { lists, disk, .. } = source;
     Ok(Store { lists, disk })

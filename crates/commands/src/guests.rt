@@ -1,10 +1,11 @@
 //! The list of a store's guests, and of a guest's records.
 
-ghost use Rattle.std.specs.Prelude.{◌≡◌, ◌+◌, ◌-◌, ◌^◌, ◌<◌, ◌≤◌, IfErr, IfOk, List, OnOk, length, ℕ};
+ghost use Rattle.std.specs.Prelude.{◌≡◌, ◌≤◌, [], IfErr, IfOk, List, OnOk, length, ℕ};
 ghost use Rattle.std.specs.Io.KnownBytes.{Appends};
+ghost use Rattle.rrv_model.specs.Recording.{items_of};
 ghost use Rattle.rrv_model.specs.Recovered.{of_guest};
 ghost use Rattle.recover.specs.Spots.{records_of, StandOn};
-ghost use Rattle.commands.specs.Printed.{AddsItem, IsList, IsSummary, dump_lines, guest_line, with_newline};
+ghost use Rattle.commands.specs.Printed.{IsList, dump_lines, guest_line, name_in, with_newline};
 ghost use Rattle.commands.specs.Stores.{IsFailed, RefusesDump, RefusesList};
 
 use crate::printing::{finish, in_blocks, print_line};
@@ -13,69 +14,31 @@ use crate::store::{Store, guest_in, record_in};
 use crate::turns::print_turns;
 use command_line::DumpForm;
 use recover::Lists;
-use rrv_model::record::{Item, Record};
 use std::alloc::Global;
 use std::io::Write;
 use trace_disk::Disk;
 use trace_text::{ListLine, RecordLine};
 
-/// What is listed of a guest.
-#[derive(Drop)]
-struct Summary {
-    name: Vec<u8>,
-    frames: u64,
-    instructions: u64,
-}
-
-impl Summary {
-    /// With a record more.
-    fn with(self, entry: Record) -> Summary
-        requires frames { self.frames < 2 ^ 32 }
-        requires instructions { self.instructions < 2 ^ 64 - 2 ^ 32 }
-        ensures adds { AddsItem self.name.items self.frames self.instructions entry.item
-            result.name.items result.frames result.instructions }
-        ensures frames { result.frames ≤ self.frames + 1 }
-        ensures instructions { result.instructions ≤ self.instructions + 2 ^ 32 }
-    {
-        if let Item::Frame(frame) = &entry.item {
-            return Summary {
-                frames: self.frames + 1,
-                instructions: self.instructions + u64::from(frame.count),
-                ..self
-            };
-        }
-        match entry.item.into_opening() {
-            Some(opening) => Summary {
-                name: opening.into_name().into_vec(),
-                ..self
-            },
-            None => self,
-        }
-    }
-}
-
-/// The summary of a guest. One record of it is held at a time.
-fn summary_of<D: Disk>(
+/// The name in a guest's opening: none where it has no records.
+fn name_of<D: Disk>(
     alloc: Global,
     lists: &Lists,
     disk: &mut D,
     guest: u32,
-) -> Result<Summary, Refusal>
-    ensures summary { StandOn D.honest D.state disk.old lists.now → IfOk result (λ s.
-        IsSummary (of_guest guest (records_of lists.now)) s.name.items s.frames s.instructions) }
+) -> Result<Vec<u8>, Refusal>
+    ensures name { StandOn D.honest D.state disk.old lists.now → IfOk result (λ name.
+        name.items ≡ name_in [] (items_of (of_guest guest (records_of lists.now)))) }
     ensures refused { StandOn D.honest D.state disk.old lists.now → IfErr result IsFailed }
     ensures on { StandOn D.honest D.state disk.old lists.now → StandOn D.honest D.state disk.new lists.now }
 {
-    let mut summary = Summary {
-        name: Vec::new(alloc),
-        frames: 0,
-        instructions: 0,
-    };
-    for index in 0..lists.len(guest) {
-        let entry = record_in(alloc, lists, disk, guest, index)?;
-        summary = summary.with(entry);
+    if lists.len(guest) == 0 {
+        return Ok(Vec::new(alloc));
     }
-    Ok(summary)
+    let entry = record_in(alloc, lists, disk, guest, 0)?;
+    match entry.item.into_opening() {
+        Some(opening) => Ok(opening.into_name().into_vec()),
+        None => Ok(Vec::new(alloc)),
+    }
 }
 
 /// Prints a guest's line.
@@ -92,14 +55,15 @@ fn print_guest<D: Disk, W: Write>(
     ensures refused { StandOn D.honest D.state disk.old lists.now → IfErr result RefusesList }
     ensures on { StandOn D.honest D.state disk.old lists.now → StandOn D.honest D.state disk.new lists.now }
 {
-    let summary = summary_of(alloc, lists, disk, guest)?;
+    let name = name_of(alloc, lists, disk, guest)?;
     let records = u64::from(lists.len(guest));
+    let count = lists.count(guest);
     let line = ListLine::new(
         guest,
-        summary.name.as_slice(),
+        name.as_slice(),
         records,
-        summary.frames,
-        summary.instructions,
+        count.frames,
+        count.instructions,
     );
     print_line(out, &line)
 }

@@ -12,8 +12,8 @@
 //!   long as it may be. What the contract can't exclude is that its gate held the guest: it lets every step be made.
 //! - `jobs_of` of `demonstration` (private): one job, of this image, name and random bytes, whose threads take turns by this
 //!   quantum from the first on. `Silence`: input is empty, random bytes and clocks are zero.
-//! - `opened` (private): a store and its records as `recover::open` has them, for any disk; a refusal is the one that the bytes
-//!   have, failures aside.
+//! - `opened`, `looked` (private): a store and its records as `recover::open` or `recover::read` has them, for any disk; a refusal
+//!   is the one that the bytes have, failures aside. That a store is read alone if it can't be written or locked is tested.
 //! - `guest_in`, `verified_in`, `end_in` (private): the guest of a number, and its records, or where they end, verified as they
 //!   are read from the disk one at a time. `NoSuchGuest` comes exactly if the store has none of that number, and other refusals
 //!   are those of `verify_source`. This and what follows of printed records is said of an honest disk on which the records

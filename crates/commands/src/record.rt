@@ -186,7 +186,9 @@ fn record_images<
     let first = log.next_guest();
     let (log, jobs, result) = record_all(rt, rt.alloc(), log, jobs, &gate);
     if let Err(SessionFault::SinkFailed { .. }) = &result {
-        let stopped = Stopped::new(rt.alloc(), log, first, &jobs)?;
+        let Ok(stopped) = Stopped::new(rt.alloc(), log, first, &jobs) else {
+            return Err(Unreported::Refused(Refusal::OutputFailed));
+        };
         return Err(Unreported::Stopped(stopped));
     }
     let report = result?;

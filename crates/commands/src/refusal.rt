@@ -16,7 +16,7 @@ use std::alloc::{AllocError, AllocFailed};
 use std::io;
 use std::io::ErrorKind;
 use thiserror::Error;
-use trace_disk::{CannotOpen, CreateFault};
+use trace_disk::{CannotOpen, CreateFault, DiskFailed};
 
 /// Why a line was refused. The text is what the program prints behind `rrv: `.
 #[derive(Debug, Drop, Error)]
@@ -119,6 +119,14 @@ impl From<CannotOpen> for Refusal {
 
     fn from(_: CannotOpen) -> Self {
         Refusal::CannotOpenStore
+    }
+}
+
+impl From<DiskFailed> for Refusal {
+    ghost from_gives = { λ _ e. e ≡ refusals.DeviceFailed };
+
+    fn from(_: DiskFailed) -> Self {
+        Refusal::DeviceFailed
     }
 }
 

@@ -38,8 +38,8 @@ const NAME: &[u8] = b"g0";
 const QUANTUM: u32 = 50_000;
 
 /// Does what a line of words asks for, which are those after the program's name, and returns the exit status: 0 done
-/// (also for a call of help), 1 refused, 2 a line that is none. What is asked for goes to `out`. A refusal's text,
-/// behind `rrv: `, and the text of a bad line go to `err`, each in one write.
+/// (also for a call of help), 1 refused, 2 an invalid line. What is asked for goes to `out`. A refusal's text,
+/// after `rrv: `, and the text of a bad line go to `err`, each in one write.
 pub fn run<
     R: Files<File = File> + AllocGlobal + Input + Threads + Wait + Sync + Clock,
     S: AsStr,

@@ -4,12 +4,12 @@ ghost use Rattle.std.specs.Prelude.{◌≡◌, ◌<◌, ◌≤◌, [], IfErr, If
 ghost use Rattle.rrv_model.specs.Recovered.{IsRecovered, of_guest};
 ghost use Rattle.rrv_model.specs.StoreText.{IsStore};
 ghost use Rattle.rrv_model.specs.declared.record.Record.{Record};
-ghost use Rattle.recover.specs.Opened.{IsOpened, IsReady};
+ghost use Rattle.recover.specs.Opened.{IsOpened, IsRead, IsReady};
 ghost use Rattle.recover.specs.Spots.{records_of, StandOn};
 ghost use Rattle.commands.specs.Stores.{IsFailed, RefusesStore};
 
 use crate::refusal::Refusal;
-use recover::{Lists, open};
+use recover::{Lists, open, read, settle};
 use replayer::ReadGuestFault;
 use rrv_model::record::Record;
 use std::alloc::Global;
@@ -64,17 +64,44 @@ pub(crate) fn open_log<R: Files<File = File> + AllocGlobal>(
     Ok(log)
 }
 
-/// Opens the store in a file to read it.
+/// Opens the store in a file to read it. It is repaired if it may be written, and no other process holds it; else it is read as it is.
 pub(crate) fn open_store<R: Files<File = File> + AllocGlobal>(
     rt: &R,
     path: &str,
 ) -> Result<Store<FileDisk>, Refusal> {
-    let disk = FileDisk::open(rt, path)?;
+    let Ok(disk) = FileDisk::open(rt, path) else {
+        return look_at(rt, path);
+    };
     let (log, lists) = opened(rt.alloc(), disk)?;
     Ok(Store {
         lists,
         disk: log.close(),
     })
+}
+
+/// What a store holds that is only read.
+fn looked<D: Disk>(alloc: Global, disk: &mut D) -> Result<Lists, Refusal>
+    ensures read { D.honest disk.old → IfOk result (IsRead (D.state disk.old).content) }
+    ensures refused { D.honest disk.old → IfErr result (RefusesStore (D.state disk.old).content) }
+    ensures sound { (bodies : List (List ℕ)) (records : List Record) → D.honest disk.old
+        → IsStore (D.state disk.old).content bodies → IsRecovered bodies records → IfErr result IsFailed }
+    ensures state { D.honest disk.old → D.state disk.new ≡ D.state disk.old }
+{
+    match read(alloc, disk) {
+        Ok(lists) => Ok(lists),
+        Err(fault) => Err(Refusal::from(fault)),
+    }
+}
+
+// What a store in a file has committed. No byte of it is written, and another process may be writing to it.
+fn look_at<R: Files<File = File> + AllocGlobal>(
+    rt: &R,
+    path: &str,
+) -> Result<Store<FileDisk>, Refusal> {
+    let mut disk = FileDisk::open_to_read(rt, path)?;
+    settle(&mut disk)?;
+    let lists = looked(rt.alloc(), &mut disk)?;
+    Ok(Store { lists, disk })
 }
 
 /// The guest of this number.

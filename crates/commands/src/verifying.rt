@@ -1,7 +1,9 @@
 //! The verification of a guest's records.
 
-ghost use Rattle.std.specs.Prelude.{◌≡◌, ◌<◌, ◌↔◌, IfErr, IfOk, length};
+ghost use Rattle.std.specs.Prelude.{◌≡◌, IfErr, IfOk, length};
+ghost use Rattle.rrv_model.specs.Recording.{frames_of, items_of};
 ghost use Rattle.rrv_model.specs.Recovered.{of_guest};
+ghost use Rattle.rrv_model.specs.StateAt.{total};
 ghost use Rattle.recover.specs.Spots.{records_of, StandOn};
 ghost use Rattle.replayer.specs.declared.fault.VerifyFault.{VerifyFault};
 ghost use Rattle.replayer.specs.Sourced.{IsEndOf, NamesWithheld, RefusesSource};
@@ -13,67 +15,31 @@ use crate::refusal::Refusal;
 use crate::store::{Store, guest_in};
 use crate::stored::StoredGuest;
 use progress::{Count, VerifyProgress};
+use recover::Lists;
 use replayer::{Source, Verified, VerifiedEnd, verify_source_end, verify_source_watched};
-use rrv_model::record::Item;
 use std::alloc::Global;
 use std::io::Write;
 use std::sync::atomic::AtomicBool;
 use std::time::Clock;
 use trace_disk::Disk;
 
-/// The instructions that the record at a place of a source counts: none where it isn't given, or is no frame.
-fn instructions_at<S: Source>(alloc: Global, source: &mut S, index: usize) -> u64
-    ensures records { S.records source.new ≡ S.records source.old }
-    ensures honest { S.honest source.new ↔ S.honest source.old }
+/// How many records a guest of a store has, and how many instructions these count.
+pub(crate) fn extent_of(lists: &Lists, guest: u32) -> Count
+    ensures records { result.records ≡ length (of_guest guest (records_of lists.now)) }
+    ensures instructions { result.instructions ≡ total (frames_of (items_of (of_guest guest (records_of lists.now)))) }
 {
-    if index >= source.len() {
-        return 0;
-    }
-    let Ok(entry) = source.item(alloc, index) else {
-        return 0;
-    };
-    match &entry.item {
-        Item::Frame(frame) => u64::from(frame.count),
-        _ => 0,
-    }
-}
-
-/// The instructions that the frames of a source count.
-fn instructions_of<S: Source>(alloc: Global, source: &mut S) -> u64
-    ensures records { S.records source.new ≡ S.records source.old }
-    ensures honest { S.honest source.new ↔ S.honest source.old }
-{
-    let mut instructions = 0u64;
-    for index in 0..source.len() {
-        let count = instructions_at(alloc, source, index);
-        instructions = instructions.saturating_add(count);
-    }
-    instructions
-}
-
-/// How many records a source has and, where it is shown how far their verification is, how many instructions they count: then
-/// each record is asked for twice.
-fn count_of<S: Source>(alloc: Global, source: &mut S, is_shown: bool) -> Count
-    ensures records { S.records source.new ≡ S.records source.old }
-    ensures honest { S.honest source.new ↔ S.honest source.old }
-{
-    let records = source.len() as u64;
-    let instructions = if is_shown {
-        instructions_of(alloc, source)
-    } else {
-        0
-    };
     Count {
-        records,
-        instructions,
+        records: u64::from(lists.len(guest)),
+        instructions: lists.count(guest).instructions,
     }
 }
 
-/// The recording that a source's records are. How far it is goes to `err`, where `is_shown` says so.
+/// The recording that a source's records are. How far it is, of `all`, goes to `err`, where `is_shown` says so.
 fn verified<R: Clock, S: Source, E: Write + Drop>(
     rt: &R,
     alloc: Global,
     source: &mut S,
+    all: Count,
     is_shown: bool,
     err: &mut E,
 ) -> Result<Verified, Refusal>
@@ -83,7 +49,6 @@ fn verified<R: Clock, S: Source, E: Write + Drop>(
     ensures names { IfErr result (λ e.
         (fault : VerifyFault) × (e ≡ verify_told fault) × NamesWithheld S.withheld_at source.new fault) }
 {
-    let all = count_of(alloc, source, is_shown);
     let line = AtomicBool::new(false);
     let mut progress = VerifyProgress::new(rt, err, &line, all, is_shown);
     let result = verify_source_watched(alloc, source, &mut progress);
@@ -91,11 +56,12 @@ fn verified<R: Clock, S: Source, E: Write + Drop>(
     Ok(result?)
 }
 
-/// Where the recording that a source's records are ends. How far it is goes to `err`, where `is_shown` says so.
+/// Where the recording that a source's records are ends. How far it is, of `all`, goes to `err`, where `is_shown` says so.
 pub(crate) fn verified_end<R: Clock, S: Source, E: Write + Drop>(
     rt: &R,
     alloc: Global,
     source: &mut S,
+    all: Count,
     is_shown: bool,
     err: &mut E,
 ) -> Result<VerifiedEnd, Refusal>
@@ -105,7 +71,6 @@ pub(crate) fn verified_end<R: Clock, S: Source, E: Write + Drop>(
     ensures names { IfErr result (λ e.
         (fault : VerifyFault) × (e ≡ verify_told fault) × NamesWithheld S.withheld_at source.new fault) }
 {
-    let all = count_of(alloc, source, is_shown);
     let line = AtomicBool::new(false);
     let mut progress = VerifyProgress::new(rt, err, &line, all, is_shown);
     let result = verify_source_end(alloc, source, &mut progress);
@@ -129,13 +94,14 @@ pub(crate) fn verified_in<R: Clock, D: Disk + Drop, E: Write + Drop>(
 {
     let Store { lists, disk } = store;
     let guest = guest_in(&lists, number)?;
+    let all = extent_of(&lists, guest);
     let mut source = StoredGuest {
         lists,
         disk,
         guest,
         withheld: None,
     };
-    verified(rt, alloc, &mut source, is_shown, err)
+    verified(rt, alloc, &mut source, all, is_shown, err)
 }
 
 /// Where the recording of the guest of this number of a store ends. Its records are read one at a time, and none is kept.
@@ -154,11 +120,12 @@ pub(crate) fn end_in<R: Clock, D: Disk + Drop, E: Write + Drop>(
 {
     let Store { lists, disk } = store;
     let guest = guest_in(&lists, number)?;
+    let all = extent_of(&lists, guest);
     let mut source = StoredGuest {
         lists,
         disk,
         guest,
         withheld: None,
     };
-    verified_end(rt, alloc, &mut source, is_shown, err)
+    verified_end(rt, alloc, &mut source, all, is_shown, err)
 }

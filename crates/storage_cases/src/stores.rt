@@ -1,7 +1,7 @@
 //! Stores as text.
 
 use crate::changes::Change;
-use recover::{Lists, OpenFault, open};
+use recover::{Lists, OpenFault, open, read};
 use std::alloc::Global;
 use trace_disk::{Disk, MemDisk};
 
@@ -42,12 +42,34 @@ fn refused_text(alloc: Global, disk: MemDisk, fault: OpenFault, bytes: &[u8]) ->
     format!(in alloc; "{fault:?}").ok()
 }
 
-/// What opening the bytes gives.
-fn store_text(alloc: Global, bytes: &[u8]) -> Option<String> {
-    match open(alloc, disk_of(alloc, bytes)?) {
-        Ok((log, lists)) => opened_text(alloc, log.close(), &lists),
-        Err((disk, fault)) => refused_text(alloc, disk, fault, bytes),
+/// How many guests and records of guest 0 a store has, or why its bytes are refused, and whether they stay, if they are only read.
+fn read_text(alloc: Global, bytes: &[u8]) -> Option<String> {
+    let mut disk = disk_of(alloc, bytes)?;
+    let seen = read(alloc, &mut disk);
+    if bytes_on(alloc, &mut disk)?.as_slice() != bytes {
+        return format!(in alloc; "read, and other bytes are left").ok();
     }
+    match seen {
+        Ok(lists) => {
+            let guests = lists.guests().len();
+            let records = lists.len(0);
+            format!(in alloc; "guests {guests} records {records} ").ok()
+        }
+        Err(fault) => format!(in alloc; "{fault:?}").ok(),
+    }
+}
+
+/// What opening the bytes gives, if reading them gives the same.
+fn store_text(alloc: Global, bytes: &[u8]) -> Option<String> {
+    let opened = match open(alloc, disk_of(alloc, bytes)?) {
+        Ok((log, lists)) => opened_text(alloc, log.close(), &lists)?,
+        Err((disk, fault)) => refused_text(alloc, disk, fault, bytes)?,
+    };
+    let seen = read_text(alloc, bytes)?;
+    if !opened.starts_with(seen.as_str()) {
+        return format!(in alloc; "{opened}, and if it is only read {seen}").ok();
+    }
+    Some(opened)
 }
 
 /// What is wanted where opening the bytes gives it after each of the changes; else what it gives first.

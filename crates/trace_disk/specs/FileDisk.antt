@@ -2,17 +2,28 @@
 use Rattle.std.specs.Prelude.{◌≡◌, ℕ, Bool, true, false, Result, IsErr}
 use Rattle.rrv_model.specs.Failures.{IsCounted}
 
--- Its length in bytes, how many calls have failed, and whether a sync was among them.
+-- Its length in bytes, how many calls have failed, whether a sync was among them, and whether the file is read alone.
 pub record HostFile : Type 0 where
   pub size : ℕ
   pub faults : ℕ
   pub is_broken : Bool
+  pub is_read_only : Bool
 
 -- a file that was just opened, or made with no bytes
 abbrev pub opened_file : ℕ → HostFile
-opened_file size = record { size = size; faults = 0; is_broken = false }
+opened_file size = record { size = size; faults = 0; is_broken = false; is_read_only = false }
+
+-- a file that was just opened to be read alone
+abbrev pub file_to_read : ℕ → HostFile
+file_to_read size = record (opened_file size) { is_read_only = true }
 
 -- One call: it is counted if it fails, and after a failed sync it does.
 pub record IsFileCall {T E : Type 0} (old new : HostFile) (result : Result T E) : Type 0 where
   pub counted : IsCounted result old.faults new.faults
   pub broken : old.is_broken ≡ true → IsErr result
+
+-- One call that may change the file: it fails if the file is read alone.
+pub record IsFileChange {T E : Type 0} (old new : HostFile) (result : Result T E) : Type 0 where
+  pub call : IsFileCall old new result
+  pub refused : old.is_read_only ≡ true → IsErr result
+  pub access : new.is_read_only ≡ old.is_read_only

@@ -2,7 +2,7 @@
 
 ghost use Rattle.std.specs.Prelude.{◌≡◌, ◌≤◌, ◌+◌, max, length, IfOk, OnOk, OnErr, IsTrue, true, false};
 ghost use Rattle.rrv_model.specs.Failures.{one_more, IsCounted};
-ghost use Rattle.trace_disk.specs.FileDisk.{opened_file, IsFileCall};
+ghost use Rattle.trace_disk.specs.FileDisk.{file_to_read, opened_file, IsFileCall, IsFileChange};
 
 use crate::{Disk, DiskFailed};
 use std::fs::{File, Metadata, OpenOptions};
@@ -51,7 +51,7 @@ impl From<CannotOpen> for CreateFault {
     }
 }
 
-/// A disk in a file of the host, open for reading and writing.
+/// A disk in a file of the host, open for reading and writing, or to be read alone.
 ///
 /// Its length and its failures are promised. That its file is a disk as `Disk` has it is a premise: no file is `honest`.
 ///
@@ -60,12 +60,18 @@ impl From<CannotOpen> for CreateFault {
 /// call changes it, and a sync fails.
 ///
 /// After a sync that failed each device call fails, since the host may have dropped what was written, and tells it once at most.
+///
+/// One that is read alone takes no lock, and no call of it changes its file: each write, cut and sync fails. Another program may be
+/// writing to that file, so it has the length that the file had when it was opened, and may be ended before that.
 #[derive(Drop)]
 pub struct FileDisk {
     file: File,
     len: u64,
     failures: u64,
     is_broken: bool,
+    is_read_only: bool,
+    // What is read as the last byte, whatever the file has there.
+    last: Option<u8>,
 }
 
 impl Model for FileDisk {
@@ -73,7 +79,12 @@ impl Model for FileDisk {
 
     ghost Value = { HostFile };
 
-    ghost view = { λ f. record { size = f.len; faults = f.failures; is_broken = f.is_broken } };
+    ghost view = { λ f. record {
+      size = f.len;
+      faults = f.failures;
+      is_broken = f.is_broken;
+      is_read_only = f.is_read_only;
+    } };
 }
 
 impl FileDisk {
@@ -124,11 +135,17 @@ impl FileDisk {
     pub fn open<R: Files<File = File>>(rt: &R, path: &str) -> Result<FileDisk, CannotOpen>
         ensures { IfOk result (λ disk. disk ≡ opened_file disk.size) }
     {
-        // To open a device or a pipe can do something to it, or wait.
-        if !fs::metadata(rt, path)?.is_file() {
-            return Err(CannotOpen);
-        }
-        FileDisk::locking(OpenOptions::new().read(true).write(true).open(rt, path)?)
+        FileDisk::locking(open_file(rt, path, true)?)
+    }
+
+    /// Opens a file that is there to read it alone. A link leads to the file that it names.
+    ///
+    /// It may be a file that may not be written, and one that is open as a disk, here or in another program. Refused are a folder
+    /// and anything else that is no file, and a file that may not be read.
+    pub fn open_to_read<R: Files<File = File>>(rt: &R, path: &str) -> Result<FileDisk, CannotOpen>
+        ensures { IfOk result (λ disk. disk ≡ file_to_read disk.size) }
+    {
+        FileDisk::over(above_streams(open_file(rt, path, false)?)?, true)
     }
 
     // Takes the lock, and then the length.
@@ -139,6 +156,13 @@ impl FileDisk {
         if file.try_lock().is_err() {
             return Err(CannotOpen);
         }
+        FileDisk::over(file, false)
+    }
+
+    // A disk in a file that was just opened, with the length that it has.
+    fn over(file: File, is_read_only: bool) -> Result<FileDisk, CannotOpen>
+        ensures { IfOk result (λ disk. disk ≡ record (opened_file disk.size) { is_read_only = is_read_only }) }
+    {
         let metadata = file.metadata()?;
         if !metadata.is_file() {
             return Err(CannotOpen);
@@ -148,13 +172,52 @@ impl FileDisk {
             len: metadata.len(),
             failures: 0,
             is_broken: false,
+            is_read_only,
+            last: None,
         })
     }
 
-    // Whether the file may be changed: no sync has failed, it has the length that the calls gave it, and a name leads to it still.
-    fn is_whole(&self) -> bool
-        ensures { IsTrue result → self.now.is_broken ≡ false }
+    /// Ends the disk after so many bytes, of which this is the last, whatever the file has there or gets. From then on it is read alone.
+    pub fn end_with(&mut self, count: u64, last: u8)
+        requires { (1 ≤ count) × (count ≤ self.old.size) }
+        ensures { self.new ≡ record self.old { size = count; is_read_only = true } }
     {
+        self.len = count;
+        self.last = Some(last);
+        self.is_read_only = true;
+    }
+
+    /// Whether the file is longer than the disk.
+    pub fn has_grown(&self) -> bool {
+        match self.file.metadata() {
+            Ok(metadata) => metadata.len() > self.len,
+            Err(_) => false,
+        }
+    }
+
+    // Puts the last byte, where a read from this place on has reached it.
+    fn put_last(&self, at: u64, into: &mut [u8])
+        requires { at + length into.old ≤ self.now.size }
+        ensures { length into.new ≡ length into.old }
+    {
+        let Some(last) = self.last else {
+            return;
+        };
+        let count = into.len();
+        if count > 0 && self.len - at == count as u64 {
+            into[count - 1] = last;
+        }
+    }
+
+    // Whether the file may be changed: it isn't read alone, no sync has failed, it has the length that the calls gave it, and a name
+    // leads to it still.
+    fn is_whole(&self) -> bool
+        ensures whole { IsTrue result → self.now.is_broken ≡ false }
+        ensures writable { IsTrue result → self.now.is_read_only ≡ false }
+    {
+        if self.is_read_only {
+            return false;
+        }
         if self.is_broken {
             return false;
         }
@@ -176,12 +239,30 @@ impl FileDisk {
     fn failed_in_part(&mut self) -> DiskFailed
         ensures faults { self.new.faults ≡ one_more self.old.faults }
         ensures broken { self.new.is_broken ≡ self.old.is_broken }
+        ensures access { self.new.is_read_only ≡ self.old.is_read_only }
     {
         if let Ok(metadata) = self.file.metadata() {
             self.len = metadata.len();
         }
         self.failed()
     }
+}
+
+// The file at a path, to be read, and to be written too. To open a device or a pipe can do something to it, or wait.
+fn open_file<R: Files<File = File>>(
+    rt: &R,
+    path: &str,
+    is_written: bool,
+) -> Result<File, CannotOpen> {
+    if !fs::metadata(rt, path)?.is_file() {
+        return Err(CannotOpen);
+    }
+    Ok(
+        OpenOptions::new()
+            .read(true)
+            .write(is_written)
+            .open(rt, path)?,
+    )
 }
 
 // The folder of a path, where it can be opened.
@@ -248,16 +329,18 @@ impl Disk for FileDisk {
         ensures call { IsFileCall self.old self.new result }
         ensures size { self.new.size ≡ self.old.size }
         ensures broken { self.new.is_broken ≡ self.old.is_broken }
+        ensures access { self.new.is_read_only ≡ self.old.is_read_only }
     {
         if self.is_broken || self.file.read_exact_at(into, at).is_err() {
             return Err(self.failed());
         }
+        self.put_last(at, into);
         Ok(())
     }
 
     fn write_at(&mut self, at: u64, bytes: &[u8]) -> Result<(), DiskFailed>
         requires { at ≤ self.old.size }
-        ensures call { IsFileCall self.old self.new result }
+        ensures call { IsFileChange self.old self.new result }
         ensures size { OnOk result (self.new.size ≡ max self.old.size (at + length bytes.now)) }
         ensures broken { self.new.is_broken ≡ self.old.is_broken }
     {
@@ -274,7 +357,7 @@ impl Disk for FileDisk {
 
     fn cut(&mut self, len: u64) -> Result<(), DiskFailed>
         requires { len ≤ self.old.size }
-        ensures call { IsFileCall self.old self.new result }
+        ensures call { IsFileChange self.old self.new result }
         ensures size { OnOk result (self.new.size ≡ len) }
         ensures broken { self.new.is_broken ≡ self.old.is_broken }
     {
@@ -289,7 +372,7 @@ impl Disk for FileDisk {
     }
 
     fn sync(&mut self) -> Result<(), DiskFailed>
-        ensures call { IsFileCall self.old self.new result }
+        ensures call { IsFileChange self.old self.new result }
         ensures size { self.new.size ≡ self.old.size }
         ensures breaks { OnErr result (self.new.is_broken ≡ true) }
         ensures whole { OnOk result (self.new.is_broken ≡ false) }

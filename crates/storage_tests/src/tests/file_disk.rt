@@ -15,6 +15,10 @@ enum FileRow {
     Make(&'static str),
     /// The one at a path is opened.
     Open(&'static str),
+    /// It is opened to be read alone.
+    OpenToRead(&'static str),
+    /// The same, and it is ended after so many bytes, of which this is the last.
+    OpenToEnd(&'static str, u64, u8),
     LetGo,
     /// A write from this place on, with its answer.
     Write(u64, &'static [u8], Result<(), DiskFailed>),
@@ -26,12 +30,16 @@ enum FileRow {
     ReadFails(u64, usize),
     Len(u64),
     Failures(u64),
+    /// Whether its file is longer than the disk.
+    HasGrown(bool),
     /// At this path no disk is opened.
     NotOpened(&'static str),
     /// At this path no disk is made.
     NotMade(&'static str),
     /// Neither.
     Refused(&'static str),
+    /// At this path no disk is opened to be read alone.
+    NotRead(&'static str),
     /// A file is written by another program.
     WriteFile(&'static str, &'static [u8]),
     /// A file is cut by another program.
@@ -40,6 +48,8 @@ enum FileRow {
     Link(&'static str, &'static str),
     /// The file at a path gets this name too.
     Name(&'static str, &'static str),
+    /// A disk that is opened at a path to be read alone, beside the open one, has these bytes, eight at most.
+    Beside(&'static str, &'static [u8]),
     /// A file has these bytes for all who read it.
     Holds(&'static str, &'static [u8]),
     Remove(&'static str),
@@ -85,6 +95,7 @@ fn call(rt: &impl Abort, disk: &mut FileDisk, place: usize, row: &FileRow) -> Re
         }
         FileRow::Len(want) => same(rt, &place, disk.len(), want),
         FileRow::Failures(want) => same(rt, &place, disk.failures(), want),
+        FileRow::HasGrown(want) => same(rt, &place, disk.has_grown(), want),
         _ => return Err(Fail::new("no row of an open disk")),
     }
     Ok(())
@@ -100,11 +111,27 @@ fn is_taken<R: Files<File = File>>(rt: &R, path: &str) -> bool {
     matches!(FileDisk::create(rt, path), Err(CreateFault::CannotOpen))
 }
 
+// Whether a path can't be opened as a disk that is read alone.
+fn is_unread<R: Files<File = File>>(rt: &R, path: &str) -> bool {
+    matches!(FileDisk::open_to_read(rt, path), Err(CannotOpen))
+}
+
+// A disk that is read alone, and ended.
+fn ended<R: Files<File = File>>(rt: &R, path: &str, len: u64, last: u8) -> Result<FileDisk, Fail> {
+    let mut disk = FileDisk::open_to_read(rt, path)?;
+    if len < 1 || disk.len() < len {
+        return Err(Fail::new("no end of this disk"));
+    }
+    disk.end_with(len, last);
+    Ok(disk)
+}
+
 // A row that says where there is no disk to be had.
 fn refuse<R: Abort + Files<File = File>>(rt: &R, place: usize, row: &FileRow) -> Result<(), Fail> {
     match *row {
         FileRow::NotOpened(path) => same(rt, &place, is_refused(rt, path), true),
         FileRow::NotMade(path) => same(rt, &place, is_taken(rt, path), true),
+        FileRow::NotRead(path) => same(rt, &place, is_unread(rt, path), true),
         FileRow::Refused(path) => {
             let found = (is_refused(rt, path), is_taken(rt, path));
             same(rt, &place, found, (true, true));
@@ -124,6 +151,21 @@ fn change<R: Files<File = File>>(rt: &R, row: &FileRow) -> Result<(), Fail> {
         FileRow::Remove(path) => fs::remove_file(rt, path)?,
         _ => return Err(Fail::new("no row of another program")),
     }
+    Ok(())
+}
+
+fn beside<R: Abort + Files<File = File>>(
+    rt: &R,
+    place: usize,
+    path: &str,
+    want: &[u8],
+) -> Result<(), Fail> {
+    let mut disk = FileDisk::open_to_read(rt, path)?;
+    call(rt, &mut disk, place, &FileRow::Len(want.len() as u64))?;
+    let mut room = [0; 8];
+    let found = room.get_mut(..want.len()).ok_or("a long read")?;
+    same(rt, &place, read(&mut disk, 0, found)?, Ok(()));
+    same(rt, &place, &*found, want);
     Ok(())
 }
 
@@ -147,6 +189,8 @@ fn take<R: Abort + AllocGlobal + Files<File = File>>(
     match *row {
         FileRow::Make(path) => *disk = Some(FileDisk::create(rt, path)?),
         FileRow::Open(path) => *disk = Some(FileDisk::open(rt, path)?),
+        FileRow::OpenToRead(path) => *disk = Some(FileDisk::open_to_read(rt, path)?),
+        FileRow::OpenToEnd(path, len, last) => *disk = Some(ended(rt, path, len, last)?),
         FileRow::LetGo => *disk = None,
         FileRow::Write(..)
         | FileRow::Cut(..)
@@ -154,8 +198,9 @@ fn take<R: Abort + AllocGlobal + Files<File = File>>(
         | FileRow::Read(..)
         | FileRow::ReadFails(..)
         | FileRow::Len(_)
-        | FileRow::Failures(_) => call(rt, disk.as_mut().ok_or("no disk")?, place, row)?,
-        FileRow::NotOpened(_) | FileRow::NotMade(_) | FileRow::Refused(_) => {
+        | FileRow::Failures(_)
+        | FileRow::HasGrown(_) => call(rt, disk.as_mut().ok_or("no disk")?, place, row)?,
+        FileRow::NotOpened(_) | FileRow::NotMade(_) | FileRow::Refused(_) | FileRow::NotRead(_) => {
             refuse(rt, place, row)?;
         }
         FileRow::WriteFile(..)
@@ -163,6 +208,7 @@ fn take<R: Abort + AllocGlobal + Files<File = File>>(
         | FileRow::Link(..)
         | FileRow::Name(..)
         | FileRow::Remove(_) => change(rt, row)?,
+        FileRow::Beside(path, want) => beside(rt, place, path, want)?,
         FileRow::Holds(path, want) => holds(rt, place, path, want)?,
     }
     Ok(())
@@ -245,6 +291,12 @@ fn what_is_no_file_is_refused(rt: HostRuntime) -> Result<(), Fail> {
         FileRow::Refused("file_disk_refuses/a\0b"),
         FileRow::Refused("/dev/zero"),
         FileRow::Refused(""),
+        FileRow::NotRead("file_disk_refuses"),
+        FileRow::NotRead("file_disk_refuses/nowhere"),
+        FileRow::NotRead("file_disk_refuses/none"),
+        FileRow::NotRead("file_disk_refuses/a\0b"),
+        FileRow::NotRead("/dev/zero"),
+        FileRow::NotRead(""),
         FileRow::NotOpened("file_disk_refuses/none"),
         FileRow::NotMade("file_disk_refuses/file"),
         FileRow::Holds("file_disk_refuses/file", b"kept"),
@@ -318,4 +370,84 @@ fn a_file_that_was_cut_fails_calls(rt: HostRuntime) -> Result<(), Fail> {
         FileRow::Remove(path),
     ];
     play(&rt, "file_disk_cut", &rows)
+}
+
+#[test]
+fn a_file_that_is_read_alone_stays(rt: HostRuntime) -> Result<(), Fail> {
+    let path = "file_disk_read/store";
+    let rows = [
+        FileRow::WriteFile(path, &[1, 2, 3, 4, 5, 6, 7, 8]),
+        FileRow::OpenToRead(path),
+        FileRow::Len(8),
+        FileRow::Read(3, &[4, 5, 6, 7, 8]),
+        FileRow::Write(8, &[9], Err(DiskFailed)),
+        FileRow::Cut(4, Err(DiskFailed)),
+        FileRow::Failures(2),
+        FileRow::Len(8),
+        FileRow::Read(0, &[1, 2]),
+        FileRow::Sync(Err(DiskFailed)),
+        FileRow::Failures(3),
+        FileRow::LetGo,
+        FileRow::Holds(path, &[1, 2, 3, 4, 5, 6, 7, 8]),
+        FileRow::Remove(path),
+    ];
+    play(&rt, "file_disk_read", &rows)
+}
+
+// It takes no lock, and none keeps it off.
+#[test]
+fn a_disk_is_read_beside_another(rt: HostRuntime) -> Result<(), Fail> {
+    let path = "file_disk_beside/store";
+    let rows = [
+        FileRow::Make(path),
+        FileRow::Beside(path, &[]),
+        FileRow::Write(0, &[1, 2, 3, 4], Ok(())),
+        FileRow::Beside(path, &[1, 2, 3, 4]),
+        FileRow::Cut(2, Ok(())),
+        FileRow::Sync(Ok(())),
+        FileRow::Beside(path, &[1, 2]),
+        FileRow::LetGo,
+        FileRow::OpenToRead(path),
+        FileRow::Beside(path, &[1, 2]),
+        FileRow::LetGo,
+        FileRow::Open(path),
+        FileRow::Beside(path, &[1, 2]),
+        FileRow::NotOpened(path),
+        FileRow::LetGo,
+        FileRow::Remove(path),
+    ];
+    play(&rt, "file_disk_beside", &rows)
+}
+
+// The last byte is the one that was said, whatever the file gets, and what stands behind it isn't read.
+#[test]
+fn a_disk_that_is_read_alone_is_ended(rt: HostRuntime) -> Result<(), Fail> {
+    let path = "file_disk_ended/store";
+    let rows = [
+        FileRow::WriteFile(path, &[1, 2, 3, 4, 5]),
+        FileRow::OpenToEnd(path, 5, 9),
+        FileRow::HasGrown(false),
+        FileRow::Read(0, &[1, 2, 3, 4, 9]),
+        FileRow::OpenToEnd(path, 3, 7),
+        FileRow::HasGrown(true),
+        FileRow::Len(3),
+        FileRow::Read(0, &[1, 2, 7]),
+        FileRow::Read(0, &[1, 2]),
+        FileRow::Read(2, &[7]),
+        FileRow::Read(3, &[]),
+        FileRow::WriteFile(path, &[5, 6, 8, 8, 8, 8]),
+        FileRow::Read(0, &[5, 6, 7]),
+        FileRow::CutFile(path, 2),
+        FileRow::HasGrown(false),
+        FileRow::ReadFails(0, 3),
+        FileRow::Failures(1),
+        FileRow::LetGo,
+        FileRow::OpenToRead(path),
+        FileRow::HasGrown(false),
+        FileRow::WriteFile(path, &[5, 6, 8]),
+        FileRow::HasGrown(true),
+        FileRow::LetGo,
+        FileRow::Remove(path),
+    ];
+    play(&rt, "file_disk_ended", &rows)
 }
