@@ -12,6 +12,7 @@ mod file_disk;
 mod guests;
 mod limits;
 mod logs;
+mod looks;
 mod machine;
 mod many;
 mod memory;
