@@ -55,7 +55,7 @@ impl From<CannotOpen> for CreateFault {
 ///
 /// Its length and its failures are promised. That its file is a disk as `Disk` has it is a premise: no file is `honest`.
 ///
-/// A lock keeps the file from each other `FileDisk`, in any program, until this one is let go. A program that doesn't ask for
+/// A lock keeps the file from each other `FileDisk` that may write it, in any program, until this one is let go. A program that doesn't ask for
 /// locks is not kept off: if the file has another length than the calls gave it, or it was removed or another was put in its place, no
 /// call changes it, and a sync fails.
 ///
@@ -130,8 +130,8 @@ impl FileDisk {
 
     /// Opens a file that is there, with the bytes that it has. A link leads to the file that it names.
     ///
-    /// Refused are a folder and anything else that is no file, a file that may not be read and written, and one that is open
-    /// as a disk already, here or in another program.
+    /// Refused are a folder and anything else that is no file, a file that may not be read and written, and one that another
+    /// disk may write, here or in another program.
     pub fn open<R: Files<File = File>>(rt: &R, path: &str) -> Result<FileDisk, CannotOpen>
         ensures { IfOk result (λ disk. disk ≡ opened_file disk.size) }
     {
@@ -188,10 +188,13 @@ impl FileDisk {
     }
 
     /// Whether the file is longer than the disk.
-    pub fn has_grown(&self) -> bool {
+    pub fn has_grown(&mut self) -> Result<bool, DiskFailed>
+        ensures size { self.new.size ≡ self.old.size }
+        ensures counted { IsCounted result self.old.faults self.new.faults }
+    {
         match self.file.metadata() {
-            Ok(metadata) => metadata.len() > self.len,
-            Err(_) => false,
+            Ok(metadata) => Ok(metadata.len() > self.len),
+            Err(_) => Err(self.failed()),
         }
     }
 

@@ -11,7 +11,7 @@
 //! - `MemDisk`, `FailOnce`: meet it. Within its room a memory disk never fails.
 //! - `FileDisk`: a file of the host. No file is honest, so nothing is promised of its contents. Its length and its failures
 //!   are: each call that fails is counted once, and after a sync that failed every call fails. If its file is read alone, each
-//!   write, cut and sync fails. Tests see that it keeps what calls did, refuses what is no file, is alone at its file, and fails
+//!   write, cut and sync fails. Tests see that it keeps what calls did, refuses what is no file, is alone in writing its file, and fails
 //!   if another program cut the file; and that one whose file is read alone leaves it as it is, is opened beside another, and
 //!   ends as `end_with` says.
 //! - `write_through`, `cut_through`: one call and its sync, and at a failure one of the two failed, and none was made after it.

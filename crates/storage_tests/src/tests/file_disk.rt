@@ -95,7 +95,7 @@ fn call(rt: &impl Abort, disk: &mut FileDisk, place: usize, row: &FileRow) -> Re
         }
         FileRow::Len(want) => same(rt, &place, disk.len(), want),
         FileRow::Failures(want) => same(rt, &place, disk.failures(), want),
-        FileRow::HasGrown(want) => same(rt, &place, disk.has_grown(), want),
+        FileRow::HasGrown(want) => same(rt, &place, disk.has_grown(), Ok(want)),
         _ => return Err(Fail::new("no row of an open disk")),
     }
     Ok(())

@@ -5,6 +5,7 @@ use super::worked::{CALL, OPENING};
 use recover::{OpenFault, read, settle};
 use std::alloc::Global;
 use std::fs::{self, File, OpenOptions};
+use std::os::unix::fs::FileExt;
 use std::process::Abort;
 use std::rt::Files;
 use std::test::Fail;
@@ -31,6 +32,8 @@ enum LookRow {
     Len(u64),
     /// Another program cuts the file.
     Cut(u64),
+    /// Another program writes bytes at a place of the file.
+    Write(u64, &'static [u8]),
 }
 
 // The record of this index is committed.
@@ -97,6 +100,10 @@ fn take_all<R: Abort + AllocGlobal + Files<File = File>>(
             }
             LookRow::Look => disk = Some(FileDisk::open_to_read(rt, path)?),
             LookRow::Cut(len) => OpenOptions::new().write(true).open(rt, path)?.set_len(len)?,
+            LookRow::Write(at, bytes) => OpenOptions::new()
+                .write(true)
+                .open(rt, path)?
+                .write_all_at(bytes, at)?,
             _ => look(rt, rt.alloc(), disk.as_mut().ok_or("no disk")?, place, row)?,
         }
     }
@@ -147,6 +154,35 @@ fn a_look_is_one_moment_of_the_store(rt: HostRuntime) -> Result<(), Fail> {
         LookRow::Finds(5),
     ];
     play(&rt, "looks_moment", "looks_moment/store", &rows)
+}
+
+// A look ends at the first gate that isn't open: behind it is what a commit has begun, or a crash left, and the gate may be torn.
+#[test]
+fn a_look_ends_before_what_is_not_committed(rt: HostRuntime) -> Result<(), Fail> {
+    let gate = 16 + 41 + 131;
+    let rows = [
+        LookRow::Commit,
+        LookRow::Write(gate + 1, &[29, 0, 0, 0, 1, 0, 0, 0, 0xE1]),
+        LookRow::Look,
+        LookRow::Len(gate + 10),
+        LookRow::Settle,
+        LookRow::Len(gate + 1),
+        LookRow::Finds(1),
+        LookRow::Write(gate, &[0x37]),
+        LookRow::Finds(1),
+        LookRow::Look,
+        LookRow::Settle,
+        LookRow::Len(gate + 1),
+        LookRow::Finds(1),
+        // The gate of a segment that isn't whole is open.
+        LookRow::Write(gate, &[0xA5]),
+        LookRow::Finds(1),
+        LookRow::Look,
+        LookRow::Settle,
+        LookRow::Len(gate + 10),
+        LookRow::Refused(OpenFault::Damaged { segment: 1 }),
+    ];
+    play(&rt, "looks_torn", "looks_torn/store", &rows)
 }
 
 // The file was cut behind its first segment, within the second.

@@ -6,7 +6,7 @@ use super::machine::{Machine, new_disk};
 use super::rows::{Row, play_on};
 use super::same;
 use super::worked::{CALL, OPENING};
-use recover::{Lists, OpenFault, ReadFault, open, open_in_pieces};
+use recover::{Lists, OpenFault, ReadFault, open, open_in_pieces, read};
 use rrv_model::record::{End, Item, Record};
 use std::alloc::Global;
 use std::process::Abort;
@@ -223,6 +223,20 @@ fn pieces_of_a_long_store(rt: HostRuntime) -> Result<(), Fail> {
     let Measured { disk: _, longest } = log.close();
     same(&rt, &"its guests", lists.guests().len(), 8);
     same(&rt, &"its longest read", longest, 65_536);
+    Ok(())
+}
+
+// The same, if it is only read.
+#[test]
+fn pieces_of_a_long_store_that_is_read(rt: HostRuntime) -> Result<(), Fail> {
+    let alloc = rt.alloc();
+    let mut measured = Measured {
+        disk: disk_of(alloc, &store_of(alloc, 1_048_296)?)?,
+        longest: 0,
+    };
+    let lists = read(alloc, &mut measured)?;
+    same(&rt, &"its guests", lists.guests().len(), 8);
+    same(&rt, &"its longest read", measured.longest, 65_536);
     Ok(())
 }
 
