@@ -126,9 +126,19 @@ fn a_store_of_another_program_is_left_alone(rt: HostRuntime) -> Result<(), Fail>
     let _ = fs::remove_file(&rt, "s");
     let disk = FileDisk::create(&rt, "s")?;
     let mut err = Vec::new(rt.alloc());
-    let status = run(&rt, &["list", "s"], &mut Vec::new(rt.alloc()), &mut err);
+    let status = run(
+        &rt,
+        &["record", "s", "f"],
+        &mut Vec::new(rt.alloc()),
+        &mut err,
+    );
     let want: &[u8] = b"rrv: cannot open store\n";
     same(&rt, &"locked", (status, err.as_slice()), (1, want));
+    // It is looked at, and has no bytes yet.
+    let mut err = Vec::new(rt.alloc());
+    let status = run(&rt, &["list", "s"], &mut Vec::new(rt.alloc()), &mut err);
+    let want: &[u8] = b"rrv: not a store\n";
+    same(&rt, &"looked at", (status, err.as_slice()), (1, want));
     drop(disk);
     fs::remove_file(&rt, "s")?;
     Ok(())
