@@ -9,7 +9,7 @@ use Rattle.rrv_model.specs.declared.record.Part.{Part}
 use Rattle.rrv_model.specs.Checkpoint.{Describes, DescribesWithoutLimit, EndsWithRest, IsPagePart, all_pages, described_state}
 use Rattle.rrv_model.specs.Memory.{IsMemory, page_count}
 use Rattle.rrv_model.specs.State.{IsStateWithoutLimit, State}
-use Rattle.rrv_model.proofs.Lists.{AllByRecursion-weaker}
+use Rattle.outcomes.proofs.Lists.{AllByRecursion-weaker}
 use Rattle.guest_calls.specs.Parts.{MakesState, with_rest}
 use Rattle.guest_calls.specs.declared.fault.SetRestFault.{SetRestFault}
 use Rattle.guest_calls.specs.declared.fault.SetRestFault.TheVariants as rest_faults

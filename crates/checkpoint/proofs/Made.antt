@@ -12,7 +12,7 @@ use Rattle.rrv_model.specs.Checkpoint.{mapped_as, patched_byte}
 use Rattle.rrv_model.specs.LineMask.{DifferInLine, IsLineMask, line_byte, merged_byte}
 use Rattle.rrv_model.specs.Memory.{Memory, Cell, IsMemory, byte_or_zero, is_mapped, page_bytes}
 use Rattle.rrv_model.specs.RecordText.{HasLineText}
-use Rattle.rrv_model.proofs.Lists.{AllByRecursion-push}
+use Rattle.outcomes.proofs.Lists.{AllByRecursion-push}
 use Rattle.guest_pages.specs.Snapshots.{DifferOn, IsNextPage, IsPageOf}
 use Rattle.guest_pages.specs.Space.{SpaceValue, memory_of, snapshots_of}
 use Rattle.guest_pages.specs.declared.page.PageView.{PageView}

@@ -8,7 +8,7 @@ use Rattle.rrv_model.specs.declared.record.PagePart.{PagePart}
 use Rattle.rrv_model.specs.Checkpoint.{IsPagePart, entry_of, patched, patched_cell}
 use Rattle.rrv_model.specs.Memory.{Memory, page_bytes}
 use Rattle.rrv_model.specs.RecordText.{HasPageText}
-use Rattle.rrv_model.proofs.Lists.{AllByRecursion-back, AllByRecursion-front}
+use Rattle.outcomes.proofs.Lists.{AllByRecursion-back, AllByRecursion-front}
 use Rattle.guest_pages.specs.Snapshots.{AreChanges}
 use Rattle.checkpoint.specs.Made.{IsChange, IsMade, Says}
 

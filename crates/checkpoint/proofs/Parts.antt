@@ -7,7 +7,7 @@ use Rattle.rrv_model.specs.declared.limits.TheConstants.{MAX_PART_PAGES}
 use Rattle.rrv_model.specs.declared.record.PagePart.{PagePart}
 use Rattle.rrv_model.specs.declared.record.Part.{Part}
 use Rattle.rrv_model.specs.Checkpoint.{all_pages}
-use Rattle.rrv_model.proofs.Lists.{AllByRecursion-append}
+use Rattle.outcomes.proofs.Lists.{AllByRecursion-append}
 use Rattle.checkpoint.specs.Fitting.{AreFit, Fits, HasBytes, PartsFit, next_number}
 use Rattle.checkpoint.proofs.Paged.{RiseFrom}
 

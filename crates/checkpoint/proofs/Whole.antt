@@ -13,7 +13,7 @@ use Rattle.rrv_model.specs.Checkpoint.{Describes, EndsWithRest, IsPagePart, all_
 use Rattle.rrv_model.specs.Memory.{Memory}
 use Rattle.rrv_model.specs.RecordText.{HasPartText, HasRestText}
 use Rattle.rrv_model.specs.State.{State, IsState}
-use Rattle.rrv_model.proofs.Lists.{AllByRecursion-append}
+use Rattle.outcomes.proofs.Lists.{AllByRecursion-append}
 use Rattle.guest_pages.specs.Snapshots.{AreChanges}
 use Rattle.checkpoint.specs.Made.{IsBaseOf, IsMade, IsRestOf, NamesChanges}
 use Rattle.checkpoint.proofs.Named.{changes_of, page_parts, patched_is, rise_back, rise_front, texts_of}

@@ -1,4 +1,3 @@
-pub mod Tried
 pub mod Sources
 pub mod Statuses
 pub mod Texts
@@ -9,3 +8,4 @@ pub mod MisfitLists
 pub mod ChoiceLists
 pub mod TurnTexts
 pub mod Lengths
+pub mod Recorded

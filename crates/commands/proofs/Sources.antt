@@ -1,18 +1,16 @@
 -- Records that are read from a disk, and what is told where one isn't.
 use Rattle.std.proofs.Common.{◌≡◌, ◌≢◌, inl, inr, ℕ, ◌≤◌, List, length, Result, Ok, Err, IfErr, refl, sym, ◌∙◌, ap, subst}
 use Rattle.rrv_model.specs.declared.record.Record.{Record}
-use Rattle.rrv_model.specs.CrashModel.{DiskState}
+use Rattle.store_model.specs.CrashModel.{DiskState}
 use Rattle.recover.specs.declared.fault.ReadFault.{ReadFault}
 use Rattle.recover.specs.declared.fault.ReadFault.TheVariants as disk_faults
 use Rattle.recover.specs.declared.fault.OpenFault.{OpenFault}
 use Rattle.recover.specs.declared.spot.Spot.{Spot}
 use Rattle.recover.specs.Opened.{IsFailure}
 use Rattle.recover.specs.Spots.{StandIn, StandOn}
-use Rattle.replayer.specs.declared.fault.ReadGuestFault.{ReadGuestFault}
 use Rattle.replayer.specs.declared.fault.VerifyFault.{VerifyFault}
 use Rattle.replayer.specs.declared.fault.VerifyFault.TheVariants as verify_faults
 use Rattle.replayer.specs.Sourced.{RefusesSource}
-use Rattle.replayer.specs.Told as replayer
 use Rattle.commands.specs.declared.refusal.Refusal.{Refusal}
 use Rattle.commands.specs.Stores.{IsFailed, RefusesGuest}
 use Rattle.commands.specs.Told.{open_told, read_told, verify_told}
@@ -32,10 +30,10 @@ was_on honest state old new spots same was on =
     record { is_honest = first; stand = subst (λ (s : DiskState). StandIn s.content spots) (same first) on.stand }
 
 -- a record that stands there is refused for the device or for memory alone
-pub read_failed : (e : Refusal) (told : ReadGuestFault) (index : ℕ) (fault : ReadFault) → e ≡ read_told told → told ≡ replayer.read_told index fault → fault ≢ disk_faults.Damaged → IsFailed e
-read_failed e told index disk_faults.DeviceFailed is told_is other = inl (is ∙ ap read_told told_is)
-read_failed e told index disk_faults.Damaged is told_is other = absurd (other refl)
-read_failed e told index disk_faults.Memory is told_is other = inr (is ∙ ap read_told told_is)
+pub read_failed : (e : Refusal) (index : ℕ) (fault : ReadFault) → e ≡ read_told index fault → fault ≢ disk_faults.Damaged → IsFailed e
+read_failed e index disk_faults.DeviceFailed is other = inl is
+read_failed e index disk_faults.Damaged is other = absurd (other refl)
+read_failed e index disk_faults.Memory is other = inr is
 
 source_refused : (e : Refusal) (fault : VerifyFault) (records : List Record) → 1 ≤ length records → e ≡ verify_told fault → RefusesSource fault records → RefusesGuest e records
 source_refused e verify_faults.BadOpening records some is refuses = subst (λ (r : Refusal). RefusesGuest r records) (sym is) (some, refuses)

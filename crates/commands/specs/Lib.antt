@@ -1,6 +1,4 @@
 pub mod Told
-pub mod Silent
-pub mod Tried
 pub mod Status
 pub mod Stores
 pub mod Printed
@@ -9,3 +7,4 @@ pub mod Cores
 pub mod Misfits
 pub mod Turns
 pub mod Reports
+pub mod Recorded

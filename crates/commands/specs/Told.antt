@@ -4,10 +4,10 @@ use Rattle.elf_load.specs.declared.fault.ElfFault.{ElfFault}
 use Rattle.elf_load.specs.declared.fault.ElfFault.TheVariants as elf_faults
 use Rattle.recover.specs.declared.fault.OpenFault.{OpenFault}
 use Rattle.recover.specs.declared.fault.OpenFault.TheVariants as open_faults
+use Rattle.recover.specs.declared.fault.ReadFault.{ReadFault}
+use Rattle.recover.specs.declared.fault.ReadFault.TheVariants as read_faults
 use Rattle.replayer.specs.declared.fault.OutputFault.{OutputFault}
 use Rattle.replayer.specs.declared.fault.OutputFault.TheVariants as output_faults
-use Rattle.replayer.specs.declared.fault.ReadGuestFault.{ReadGuestFault}
-use Rattle.replayer.specs.declared.fault.ReadGuestFault.TheVariants as read_faults
 use Rattle.replayer.specs.declared.fault.VerifyFault.{VerifyFault}
 use Rattle.replayer.specs.declared.fault.VerifyFault.TheVariants as verify_faults
 use Rattle.reverse_step.specs.declared.fault.SeekFault.{SeekFault}
@@ -46,10 +46,11 @@ abbrev pub output_told : OutputFault → Refusal
 output_told output_faults.SinkFailed = refusals.OutputFailed
 output_told output_faults.Memory = refusals.Memory
 
-abbrev pub read_told : ReadGuestFault → Refusal
-read_told read_faults.DeviceFailed = refusals.DeviceFailed
-read_told (read_faults.Unreadable index) = refusals.Unreadable index
-read_told read_faults.Memory = refusals.Memory
+-- of a guest's record
+abbrev pub read_told : ℕ → ReadFault → Refusal
+read_told index read_faults.DeviceFailed = refusals.DeviceFailed
+read_told index read_faults.Damaged = refusals.Unreadable index
+read_told index read_faults.Memory = refusals.Memory
 
 abbrev pub verify_told : VerifyFault → Refusal
 verify_told (verify_faults.Mismatch index) = refusals.Mismatch index

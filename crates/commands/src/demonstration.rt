@@ -1,80 +1,84 @@
-//! The recording of the demonstration: one guest, in a session of its own, to a disk in memory.
+//! The line of no words: what `record`, `dump` and `verify` do, over a disk in memory.
 
-ghost use Rattle.std.specs.Prelude.{◌≡◌, IfErr, IfOk};
-ghost use Rattle.std.specs.List.{AllByRecursion};
-ghost use Rattle.rrv_model.specs.Opening.{IsName};
-ghost use Rattle.serial_sched.specs.Slices.{IsQuantum};
-ghost use Rattle.recorder.specs.Recorded.{opening_of};
-ghost use Rattle.commands.specs.Tried.{IsOneJob, IsStored, RefusesTrial, TakesTurns};
-
+use crate::exit_five::EXIT_FIVE;
+use crate::files::image_of;
+use crate::guests::dump;
+use crate::jobs::Shared;
+use crate::record::record_images;
 use crate::refusal::Refusal;
-use crate::silence::Silence;
+use crate::replaying::tell;
+use crate::store::{Store, opened};
+use crate::verifying::end_in;
+use command_line::{DumpForm, Then};
 use elf_load::Image;
-use recorder::MemSink;
-use rrv_model::refusal::Memory;
-use serial_sched::RoundRobin;
-use session::{GuestReport, Job, OpenGate, record_all};
 use std::alloc::Global;
+use std::io::Write;
 use std::sync::Wait;
+use std::sync::atomic::AtomicBool;
 use std::thread::Threads;
+use std::time::{Clock, Instant};
 use trace_disk::MemDisk;
 use trace_log::Log;
 
-/// A guest whose threads take turns in a silent environment, and whose output stays in memory.
-type TrialJob = Job<RoundRobin, Silence, MemSink>;
+/// How many instructions a slice of the guest runs at most.
+const QUANTUM: u32 = 50_000;
 
-/// The one job of a trial.
-fn jobs_of(
-    alloc: Global,
-    image: Image,
-    name: &[u8],
-    random: [u8; 16],
-    quantum: u32,
-) -> Result<Vec<TrialJob>, Memory>
-    requires name { IsName name.now }
-    requires quantum { IsQuantum quantum }
-    ensures job { IfOk result (λ jobs. IsOneJob (opening_of 0 image name.now random) jobs.items) }
-    ensures turns { IfOk result (λ jobs. AllByRecursion (TakesTurns quantum) jobs.items) }
-{
-    let mut jobs = Vec::with_capacity(alloc, 1)?;
-    jobs.push_reserved(Job {
-        elf: image.into_file(),
-        name: Vec::from_slice(alloc, name)?,
-        random,
-        every: 0,
-        chooser: RoundRobin::new(quantum),
-        outside: Silence,
-        sink: MemSink::new(alloc),
-    });
-    Ok(jobs)
+/// The programs of the demonstration: one of three instructions.
+fn images(alloc: Global) -> Result<Vec<Image>, Refusal> {
+    let mut images = Vec::with_capacity(alloc, 1)?;
+    images.push_reserved(image_of(alloc, 0, &EXIT_FIVE)?);
+    Ok(images)
 }
 
-/// Records a program as guest 0 to a disk in memory, and answers the disk, and what is reported of the guest.
-/// `StoreFull` comes also where the guest has as many records as it may have.
-pub(crate) fn record_image<R: Threads + Wait + Sync>(
-    rt: &R,
-    alloc: Global,
-    image: Image,
-    name: &[u8],
-    random: [u8; 16],
-    quantum: u32,
-) -> Result<(MemDisk, GuestReport), Refusal>
-    requires name { IsName name.now }
-    requires quantum { IsQuantum quantum }
-    ensures stored { IfOk result (λ r. IsStored (opening_of 0 image name.now random) r.0 r.1) }
-    ensures refused { IfErr result (λ e. RefusesTrial e (opening_of 0 image name.now random)) }
-{
-    let Ok(log) = Log::create(MemDisk::new(alloc)) else {
+/// A store in memory, to which the program is recorded as guest 0. What it outputs goes to the two streams.
+fn recorded<
+    R: AllocGlobal + Threads + Wait + Sync + Clock,
+    O: Write + Drop + Send,
+    E: Write + Drop + Send,
+>(rt: &R, out: O, err: E) -> Result<Store<MemDisk>, Refusal> {
+    let start = Instant::now(rt).map_err(|_| Refusal::NoClock)?;
+    let images = images(rt.alloc())?;
+    let Ok(log) = Log::create(MemDisk::new(rt.alloc())) else {
         return Err(Refusal::DeviceFailed);
     };
-    let Ok(jobs) = jobs_of(alloc, image, name, random, quantum) else {
-        return Err(Refusal::Memory);
+    let shared = Shared {
+        rt,
+        start,
+        input: &[],
+        seed: [0; 16],
+        quantum: QUANTUM,
+        every: 0,
+        choices: &[],
+        then: Then::Turns,
     };
-    let (log, _jobs, result) = record_all(rt, alloc, log, jobs, &OpenGate);
-    let report = result?;
-    let recorded = report.guests[0];
-    if recorded.end.is_none() {
-        return Err(Refusal::StoreFull);
-    }
-    Ok((log.close(), recorded))
+    let line = AtomicBool::new(false);
+    let (log, _) = record_images(rt, log, &shared, images, out, err, &line, false)?;
+    let (log, lists) = opened(rt.alloc(), log.close())?;
+    Ok(Store {
+        lists,
+        disk: log.close(),
+    })
+}
+
+/// Prints a guest's records, and how it ends once they are verified.
+fn shown<R: AllocGlobal + Clock, O: Write, E: Write + Drop>(
+    rt: &R,
+    store: Store<MemDisk>,
+    out: &mut O,
+    err: &mut E,
+) -> Result<(), Refusal> {
+    let mut store = store;
+    dump(rt.alloc(), &mut store, 0, DumpForm::Lines, out)?;
+    let end = end_in(rt, rt.alloc(), store, 0, false, err)?;
+    tell(rt.alloc(), &end, false, out)
+}
+
+/// Records a small program, and prints its output, its records and its end. The disk lies in memory, so it fails only for want of that.
+pub(crate) fn demonstrate<
+    R: AllocGlobal + Threads + Wait + Sync + Clock,
+    O: Write + Drop + Send,
+    E: Write + Drop + Send,
+>(rt: &R, out: &mut O, err: &mut E) -> Result<(), Refusal> {
+    let store = recorded(rt, &mut *out, &mut *err).map_err(|refusal| refusal.in_memory())?;
+    shown(rt, store, out, err).map_err(|refusal| refusal.in_memory())
 }

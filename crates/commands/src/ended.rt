@@ -56,6 +56,15 @@ impl<D: Disk> From<Refusal> for Unreported<D> {
     }
 }
 
+impl<D: Disk + Drop> From<Unreported<D>> for Refusal {
+    fn from(unreported: Unreported<D>) -> Self {
+        match unreported {
+            Unreported::Refused(refusal) => refusal,
+            Unreported::Stopped(_) => Refusal::OutputFailed,
+        }
+    }
+}
+
 impl<D: Disk> From<SessionFault> for Unreported<D> {
     fn from(fault: SessionFault) -> Self {
         Unreported::Refused(Refusal::from(fault))

@@ -112,29 +112,27 @@ fn print_records<D: Disk, W: Write>(
 /// Prints the list of a store's guests in blocks.
 pub(crate) fn list<D: Disk + Drop, O: Write>(
     alloc: Global,
-    store: Store<D>,
+    store: &mut Store<D>,
     out: &mut O,
 ) -> Result<(), Refusal> {
-    let Store { lists, mut disk } = store;
     let mut out = in_blocks(alloc, out)?;
-    print_guests(alloc, &lists, &mut disk, &mut out)?;
+    print_guests(alloc, &store.lists, &mut store.disk, &mut out)?;
     finish(&mut out)
 }
 
 /// Prints the records of a guest in blocks. Where that takes a replay, those before a record that is refused are printed.
 pub(crate) fn dump<D: Disk + Drop, O: Write>(
     alloc: Global,
-    store: Store<D>,
+    store: &mut Store<D>,
     number: u64,
     form: DumpForm,
     out: &mut O,
 ) -> Result<(), Refusal> {
-    let Store { lists, mut disk } = store;
     let mut out = in_blocks(alloc, out)?;
     match form {
-        DumpForm::Lines => print_records(alloc, &lists, &mut disk, number, &mut out)?,
+        DumpForm::Lines => print_records(alloc, &store.lists, &mut store.disk, number, &mut out)?,
         DumpForm::Places | DumpForm::TraceEvents => {
-            print_turns(alloc, &lists, &mut disk, number, form, &mut out)?;
+            print_turns(alloc, &store.lists, &mut store.disk, number, form, &mut out)?;
         }
     }
     finish(&mut out)

@@ -4,14 +4,10 @@
 //!
 //! # Contracts
 //!
-//! - `try_image` (private; that `run` calls it and prints what it returns is tested): if it returns Ok, the records are a
-//!   recording of this image, name and random bytes; the report of its session tells their number, and that the guest ended as
-//!   the replayed one ended; what was verified keeps just the records that were read back, and their replay ends where they
-//!   end; the bytes collected, each with its descriptor, are that recording's output. It is refused for want of memory, which
-//!   may be the disk's or the sink's, and as `StoreFull` where the guest has as many records as it may have, or the store is as
-//!   long as it may be. What the contract can't exclude is that its gate held the guest: it lets every step be made.
-//! - `jobs_of` of `demonstration` (private): one job, of this image, name and random bytes, whose threads take turns by this
-//!   quantum from the first on. `Silence`: input is empty, random bytes and clocks are zero.
+//! - `record_images` (private): if it returns Ok, the log has more bodies behind those that it had, and of what is recovered
+//!   from all of these the records of each program are a recording that begins with its opening: its file, its name and its
+//!   random bytes. The program's report says how many records these are, and the end of the state that they end in. `record`
+//!   calls it over a file, and the line of no words over a disk in memory.
 //! - `opened`, `looked` (private): a store and its records as `recover::open` or `recover::read` has them, for any disk; a refusal
 //!   is the one that the bytes have, failures aside. That a store is read alone if it can't be written or locked is tested.
 //! - `guest_in`, `verified_in`, `end_in` (private): the guest of a number, and its records, or where they end, verified as they
@@ -59,12 +55,10 @@ mod refusal;
 mod replaying;
 mod reports;
 mod running;
-mod silence;
 mod states;
 mod store;
 mod stored;
 mod terminals;
-mod trial;
 mod turns;
 mod verifying;
 

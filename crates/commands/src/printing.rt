@@ -5,11 +5,9 @@ ghost use Rattle.std.specs.Io.KnownBytes.{Appends, Keeps};
 ghost use Rattle.commands.specs.Printed.{with_newline};
 
 use crate::refusal::Refusal;
-use crate::trial::Trial;
 use std::alloc::Global;
 use std::fmt::Display;
 use std::io::{BufWriter, Write};
-use trace_text::{RecordLine, VerifyLine};
 
 /// A writer that collects what it is given, and writes it in blocks.
 pub(crate) fn in_blocks<W: Write + Drop>(alloc: Global, out: W) -> Result<BufWriter<W>, Refusal> {
@@ -76,24 +74,4 @@ pub(crate) fn print_put<O: Write, E: Write>(
         return err.write_all(bytes).map_err(|_| Refusal::OutputFailed);
     }
     out.write_all(bytes).map_err(|_| Refusal::OutputFailed)
-}
-
-/// Prints the guest's output, the records and the end.
-pub(crate) fn print_trial<O: Write, E: Write>(
-    alloc: Global,
-    trial: &Trial,
-    out: &mut O,
-    err: &mut E,
-) -> Result<(), Refusal> {
-    let mut out = in_blocks(alloc, out)?;
-    for put in trial.output.puts() {
-        print_put(put.descriptor, put.bytes.as_slice(), &mut out, err)?;
-    }
-    for entry in &trial.records {
-        print_line(&mut out, &RecordLine::new(entry))?;
-    }
-    let records = trial.records.len() as u64;
-    let end = VerifyLine::new(records, trial.verified.total(), trial.replayed.ended());
-    print_line(&mut out, &end)?;
-    finish(&mut out)
 }

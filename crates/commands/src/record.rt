@@ -1,7 +1,11 @@
 //! The recording of programs.
 
-ghost use Rattle.std.specs.Prelude.{◌≡◌, false, length};
+ghost use Rattle.std.specs.Prelude.{◌≡◌, false, IfOk, List, length, ℕ};
+ghost use Rattle.rrv_model.specs.declared.record.Record.{Record};
 ghost use Rattle.serial_sched.specs.Slices.{IsQuantum};
+ghost use Rattle.session.specs.Sessions.{IsLeft};
+ghost use Rattle.commands.specs.Jobs.{terms_of};
+ghost use Rattle.commands.specs.Recorded.{HasRecorded};
 
 use crate::choosing::choices_in_files;
 use crate::ended::{Stopped, Unreported, tell_ended};
@@ -28,7 +32,7 @@ use std::sync::atomic::AtomicBool;
 use std::sync::{Mutex, Wait};
 use std::thread::Threads;
 use std::time::{Clock, Instant};
-use trace_disk::FileDisk;
+use trace_disk::{Disk, FileDisk};
 use trace_log::Log;
 
 /// The seed that a line gives, or zeros.
@@ -146,12 +150,13 @@ fn record_shown<
     let errors = Clearing::new(&mut *err, &line, true);
     let result = record_images(rt, log, &shared, images, output, errors, &line, is_on);
     Clearing::new(&mut *err, &line, true).clear();
-    result
+    let (_, recorded) = result?;
+    Ok(recorded)
 }
 
 /// How each guest of a recording ended, and which choices didn't fit, in the order of the line.
 #[derive(Drop)]
-struct Recorded {
+pub(crate) struct Recorded {
     reports: Vec<GuestReport>,
     /// Each guest, as it is then.
     guests: Vec<Guest>,
@@ -162,23 +167,28 @@ struct Recorded {
     ghost lasts_are: { length lasts.items ≡ length reports.items },
 }
 
-/// Records programs to a log, each as a guest. What they put out goes to the two streams. How far it is goes to the errors', where
-/// `is_on` says so, and `line` says whether it is shown.
-fn record_images<
+/// Records programs to a log, each as a guest, and returns the log too. What they output goes to the two streams. How far it is goes to
+/// the errors' if `is_on` says so, and `line` says whether it is shown.
+pub(crate) fn record_images<
     R: AllocGlobal + Threads + Wait + Sync + Clock,
+    D: Disk + Drop,
     O: Write + Drop + Send,
     E: Write + Drop + Send,
 >(
     rt: &R,
-    log: Log<FileDisk>,
+    log: Log<D>,
     shared: &Shared<'_, R>,
     images: Vec<Image>,
     out: O,
     err: E,
     line: &AtomicBool,
     is_on: bool,
-) -> Result<Recorded, Unreported<FileDisk>>
+) -> Result<(Log<D>, Recorded), Unreported<D>>
     requires { log.is_broken ≡ false }
+    ensures stored { (bodies : List (List ℕ)) (earlier : List Record) → IsLeft D.Disk log bodies earlier
+        → IfOk result (λ recorded. HasRecorded D.Disk (terms_of shared.now.input.now shared.now.seed
+        shared.now.quantum shared.now.every shared.now.choices.now shared.now.then) images.items
+        log recorded.0 recorded.1.reports.items bodies earlier) }
 {
     let streams = Mutex::new(Streams::new(out, err));
     let jobs = jobs_of(rt.alloc(), shared, &streams, images)?;
@@ -194,12 +204,13 @@ fn record_images<
     let report = result?;
     let lasts = lasts_of(rt.alloc(), &jobs)?;
     let misfits = misfits_of(rt.alloc(), &jobs)?;
-    Ok(Recorded {
+    let recorded = Recorded {
         reports: report.guests,
         guests: report.states,
         lasts,
         misfits,
-    })
+    };
+    Ok((log, recorded))
 }
 
 /// Prints how each guest ended, and which choices didn't fit, in blocks.

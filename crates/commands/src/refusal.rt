@@ -7,8 +7,8 @@ ghost use Rattle.commands.specs.declared.refusal.Refusal.TheVariants as refusals
 
 use command_line::BadSeed;
 use elf_load::ElfFault;
-use recover::OpenFault;
-use replayer::{OutputFault, ReadGuestFault, VerifyFault};
+use recover::{OpenFault, ReadFault};
+use replayer::{OutputFault, VerifyFault};
 use reverse_step::SeekFault;
 use rrv_model::refusal;
 use session::SessionFault;
@@ -188,20 +188,6 @@ impl<T: Drop> From<AllocFailed<T>> for Refusal {
     }
 }
 
-impl From<ReadGuestFault> for Refusal {
-    ghost from_gives = { λ fault e. e ≡ read_told fault };
-
-    fn from(fault: ReadGuestFault) -> Self {
-        match fault {
-            ReadGuestFault::DeviceFailed => Refusal::DeviceFailed,
-            ReadGuestFault::Unreadable { index } => Refusal::Unreadable {
-                index: index as usize,
-            },
-            ReadGuestFault::Memory => Refusal::Memory,
-        }
-    }
-}
-
 impl From<VerifyFault> for Refusal {
     ghost from_gives = { λ fault e. e ≡ verify_told fault };
 
@@ -242,15 +228,27 @@ impl Refusal {
         Refusal::CannotReadFile
     }
 
-    /// The refusal of a trial, whose disk and sink are in memory: such fail for want of memory alone.
-    pub fn of_trial(self) -> Self
+    /// The refusal of what is done over a disk in memory, which fails only for want of that.
+    pub fn in_memory(self) -> Self
         ensures disk { self ≡ Refusal.DeviceFailed → result ≡ Refusal.Memory }
-        ensures sink { self ≡ Refusal.OutputFailed → result ≡ Refusal.Memory }
-        ensures other { self ≢ Refusal.DeviceFailed → self ≢ Refusal.OutputFailed → result ≡ self }
+        ensures other { self ≢ Refusal.DeviceFailed → result ≡ self }
     {
         match self {
-            Refusal::DeviceFailed | Refusal::OutputFailed => Refusal::Memory,
+            Refusal::DeviceFailed => Refusal::Memory,
             other => other,
+        }
+    }
+
+    /// The refusal of a guest's record of this index, which was not read.
+    pub fn of_record(index: u32, fault: ReadFault) -> Self
+        ensures { result ≡ read_told index fault }
+    {
+        match fault {
+            ReadFault::DeviceFailed => Refusal::DeviceFailed,
+            ReadFault::Damaged => Refusal::Unreadable {
+                index: index as usize,
+            },
+            ReadFault::Memory => Refusal::Memory,
         }
     }
 

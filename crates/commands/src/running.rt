@@ -6,17 +6,15 @@ ghost use Rattle.clap.specs.Words.{kind_of};
 ghost use Rattle.command_line.specs.Lines.{IsWithinLimits};
 ghost use Rattle.commands.specs.Status.{IsStatus, IsStatusOf};
 
-use crate::exit_five::EXIT_FIVE;
-use crate::files::image_of;
+use crate::demonstration::demonstrate;
 use crate::guests::{dump, list};
-use crate::printing::{print_trial, print_whole};
+use crate::printing::print_whole;
 use crate::questions::{back, choices, core, last, replay};
 use crate::record::record;
 use crate::refusal::Refusal;
 use crate::replaying::tell;
 use crate::store::{make_store, open_store};
 use crate::terminals::Terminals;
-use crate::trial::try_image;
 use crate::verifying::end_in;
 use clap::error::ErrorKind as LineFault;
 use command_line::{GuestOf, Request, line};
@@ -30,12 +28,6 @@ use std::rt::Files;
 use std::sync::Wait;
 use std::thread::Threads;
 use std::time::Clock;
-
-/// The name of the demonstration's guest.
-const NAME: &[u8] = b"g0";
-
-/// How many instructions a slice of it runs at most.
-const QUANTUM: u32 = 50_000;
 
 /// Does what a line of words asks for, which are those after the program's name, and returns the exit status: 0 done
 /// (also for a call of help), 1 refused, 2 an invalid line. What is asked for goes to `out`. A refusal's text,
@@ -151,12 +143,13 @@ fn perform<
 {
     let alloc = rt.alloc();
     match request {
-        Request::Demonstration => demonstrate(rt, alloc, out, err),
+        Request::Demonstration => demonstrate(rt, out, err),
         Request::New { store } => make_store(rt, store),
         Request::Record(recording) => record(rt, &recording, terminals, out, err),
-        Request::List { store } => list(alloc, open_store(rt, store)?, out),
+        Request::List { store } => list(alloc, &mut open_store(rt, store)?, out),
         Request::Dump { guest, form } => {
-            dump(alloc, open_store(rt, guest.store)?, guest.number, form, out)
+            let mut store = open_store(rt, guest.store)?;
+            dump(alloc, &mut store, guest.number, form, out)
         }
         Request::Verify {
             guest,
@@ -230,18 +223,4 @@ fn guest_end<R: Files<File = File> + AllocGlobal + Clock, E: Write + Drop>(
 ) -> Result<VerifiedEnd, Refusal> {
     let store = open_store(rt, guest.store)?;
     end_in(rt, rt.alloc(), store, guest.number, is_shown, err)
-}
-
-/// Records a small program, replays what was recorded, and prints the output, the records and the end.
-fn demonstrate<R: Threads + Wait + Sync, O: Write, E: Write>(
-    rt: &R,
-    alloc: Global,
-    out: &mut O,
-    err: &mut E,
-) -> Result<(), Refusal> {
-    let image = image_of(alloc, 0, &EXIT_FIVE)?;
-    let trial = try_image(rt, alloc, image, NAME, [0; 16], QUANTUM).map_err(
-        |refusal| refusal.of_trial(),
-    )?;
-    print_trial(alloc, &trial, out, err)
 }

@@ -2,7 +2,7 @@
 
 ghost use Rattle.std.specs.Prelude.{◌≡◌, ◌<◌, ◌≤◌, [], IfErr, IfOk, List, Some, false, length, slice_get, ℕ};
 ghost use Rattle.rrv_model.specs.Recovered.{IsRecovered, of_guest};
-ghost use Rattle.rrv_model.specs.StoreText.{IsStore};
+ghost use Rattle.store_model.specs.StoreText.{IsStore};
 ghost use Rattle.rrv_model.specs.declared.record.Record.{Record};
 ghost use Rattle.recover.specs.Opened.{IsOpened, IsRead, IsReady};
 ghost use Rattle.recover.specs.Spots.{records_of, StandOn};
@@ -10,7 +10,6 @@ ghost use Rattle.commands.specs.Stores.{IsFailed, RefusesStore};
 
 use crate::refusal::Refusal;
 use recover::{Lists, open, read, settle};
-use replayer::ReadGuestFault;
 use rrv_model::record::Record;
 use std::alloc::Global;
 use std::fs::File;
@@ -135,6 +134,6 @@ pub(crate) fn record_in<D: Disk>(
 {
     match lists.item(alloc, disk, guest, index) {
         Ok(entry) => Ok(entry),
-        Err(fault) => Err(Refusal::from(ReadGuestFault::of_item(index, fault))),
+        Err(fault) => Err(Refusal::of_record(index, fault)),
     }
 }

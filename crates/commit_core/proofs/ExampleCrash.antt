@@ -1,9 +1,9 @@
 -- The example's crash in the write of the gate.
 use Rattle.std.proofs.Common.{◌≡◌, ◌≢◌, inl, inr, ℕ, zero, suc, List, [], ◌∷◌, ◌++◌, length, get_or, refl, sym, ◌∙◌, ap, subst, arith, append_assoc, length-append}
 use Rattle.rrv_model.specs.State.{State}
-use Rattle.rrv_model.specs.CrashModel.{Pending, IsCrash, all_synced}
-use Rattle.rrv_model.specs.DiskCalls.{pending_write}
-use Rattle.rrv_model.specs.StoreText.{segment, IsBody, IsSound}
+use Rattle.store_model.specs.CrashModel.{Pending, IsCrash, all_synced}
+use Rattle.store_model.specs.DiskCalls.{pending_write}
+use Rattle.store_model.specs.StoreText.{segment, IsBody, IsSound}
 use Rattle.rrv_model.specs.Recovered.{body_text, IsRecovered}
 use Rattle.commit_core.specs.World.{World, store_text, closed_store}
 use Rattle.commit_core.specs.World.Stage.{Opened}

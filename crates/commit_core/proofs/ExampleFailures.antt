@@ -1,8 +1,8 @@
 -- Each of the example's four calls can fail.
 use Rattle.std.proofs.Common.{◌≡◌, ℕ, ◌+◌, ◌≤◌, List, [], ◌∷◌, ◌++◌, length, drop, refl, sym, ◌∙◌, ap, subst, arith, append_assoc, length-append}
 use Rattle.std.proofs.lemmas.List.{take_at, take_all, drop_at, drop_all}
-use Rattle.rrv_model.specs.CrashModel.{DiskState}
-use Rattle.rrv_model.specs.DiskCalls.{IsTorn, FailsToWrite}
+use Rattle.store_model.specs.CrashModel.{DiskState}
+use Rattle.store_model.specs.DiskCalls.{IsTorn, FailsToWrite}
 use Rattle.rrv_model.specs.State.{State}
 use Rattle.rrv_model.specs.Recovered.{body_text}
 use Rattle.commit_core.specs.World.{World, store_text, closed_store}

@@ -1,15 +1,15 @@
 -- The session that begins with a repair.
 use Rattle.std.proofs.Common.{◌≡◌, inl, inr, ℕ, ◌+◌, ◌≤◌, List, [], ◌∷◌, ◌++◌, length, refl, sym, ◌∙◌, ap, subst, arith, length-append}
 use Rattle.std.specs.List.{AllByRecursion}
-use Rattle.rrv_model.specs.CrashModel.{Pending, DiskState, IsCrash}
-use Rattle.rrv_model.specs.DiskCalls.{after_write, after_sync}
+use Rattle.store_model.specs.CrashModel.{Pending, DiskState, IsCrash}
+use Rattle.store_model.specs.DiskCalls.{after_write, after_sync}
 use Rattle.rrv_model.specs.State.{State}
 use Rattle.rrv_model.specs.RecordText.{record_text, payload, opening_text, call_text}
-use Rattle.rrv_model.specs.StoreText.{segment, IsBody, IsStore}
-use Rattle.rrv_model.specs.StoreCalls.{DiskCall, after_disk_calls, cut_calls, tail_calls}
-use Rattle.rrv_model.specs.StoreCalls.DiskCall.{Write, Sync}
+use Rattle.store_model.specs.StoreText.{segment, IsBody, IsStore}
+use Rattle.store_model.specs.StoreCalls.{DiskCall, after_disk_calls, cut_calls, tail_calls}
+use Rattle.store_model.specs.StoreCalls.DiskCall.{Write, Sync}
 use Rattle.rrv_model.specs.Recovered.{body_text, IsRecovered}
-use Rattle.rrv_model.proofs.StoreLaws.{segment_reads}
+use Rattle.store_model.proofs.StoreLaws.{segment_reads}
 use Rattle.commit_core.specs.World.{World, IsStart, IsAtRest, store_text, closed_store}
 use Rattle.commit_core.specs.World.Stage.{Opened}
 use Rattle.commit_core.specs.Events.{CanWrite, run, IsSchedule}

@@ -2,9 +2,9 @@
 use Rattle.std.proofs.Common.{◌≡◌, inl, inr, ℕ, ◌≤◌, List, [], ◌∷◌, ◌++◌, length, refl, arith}
 use Rattle.std.specs.List.{AllByRecursion}
 use Rattle.rrv_model.specs.declared.record.Record.{Record}
-use Rattle.rrv_model.specs.CrashModel.{DiskState}
+use Rattle.store_model.specs.CrashModel.{DiskState}
 use Rattle.rrv_model.specs.State.{State}
-use Rattle.rrv_model.specs.StoreText.{header, segments, IsBody, IsStore}
+use Rattle.store_model.specs.StoreText.{header, segments, IsBody, IsStore}
 use Rattle.rrv_model.specs.Recovered.{body_text}
 use Rattle.commit_core.specs.World.{IsStart, store_text, closed_store}
 use Rattle.commit_core.specs.Events.{Event, run, IsSchedule}

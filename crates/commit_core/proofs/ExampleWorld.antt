@@ -5,11 +5,11 @@ use Rattle.rrv_model.specs.declared.machine.GuestEnd.TheVariants.{Exited}
 use Rattle.rrv_model.specs.declared.record.End.TheVariants as ends
 use Rattle.rrv_model.specs.declared.record.Frame.{Frame}
 use Rattle.rrv_model.specs.declared.record.Record.{Record}
-use Rattle.rrv_model.specs.CrashModel.{DiskState}
+use Rattle.store_model.specs.CrashModel.{DiskState}
 use Rattle.rrv_model.specs.State.{State}
 use Rattle.rrv_model.specs.RecordText.{HasText, record_text, payload, opening_text, call_text}
 use Rattle.rrv_model.specs.Recording.{IsRecording, IsNumbered, EndsIn, frame_record, items_of}
-use Rattle.rrv_model.specs.StoreText.{IsBody}
+use Rattle.store_model.specs.StoreText.{IsBody}
 use Rattle.rrv_model.specs.Recovered.{body_text, next_guest, IsRecovered}
 use Rattle.commit_core.specs.Runs.{IsOutput}
 use Rattle.commit_core.specs.World.{World, Recorder, IsStart, IsReady, IsAtRest, made, opening_record, stored_bodies, store_text, closed_store}

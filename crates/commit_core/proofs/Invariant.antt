@@ -4,7 +4,7 @@ use Rattle.std.specs.List.{AllByRecursion}
 use Rattle.rrv_model.specs.declared.record.Record.{Record}
 use Rattle.rrv_model.specs.State.{State}
 use Rattle.rrv_model.specs.RecordText.{HasText}
-use Rattle.rrv_model.specs.StoreText.{IsBody}
+use Rattle.store_model.specs.StoreText.{IsBody}
 use Rattle.rrv_model.specs.Recovered.{of_guest, next_guest, IsRecovered, OpensAtZero}
 use Rattle.commit_core.specs.Runs.{IsOutput}
 use Rattle.commit_core.specs.World.{World, Recorder, Flusher, made, received, committed_count, stored_bodies, flag, left_word}

@@ -3,13 +3,13 @@ use Rattle.std.proofs.Common.{◌≡◌, ◌⊎◌, inl, inr, ⊎_elim, ℕ, ◌
 use Rattle.std.specs.List.{AllByRecursion}
 use Rattle.std.proofs.lemmas.List.{take_at, drop_at, drop_more, take-take}
 use Rattle.std.proofs.lemmas.Bool.Decides.{eqb_tells}
-use Rattle.rrv_model.specs.CrashModel.{Pending, IsCrash, DiskState, all_synced}
-use Rattle.rrv_model.specs.DiskCalls.{IsTorn, FailsToWrite, FailsToCut, after_write, after_cut, after_sync, overwritten, pending_write, pending_cut}
-use Rattle.rrv_model.specs.StoreText.{header, segments, IsBody, IsStore, IsNextSegment}
-use Rattle.rrv_model.specs.StoreCalls.{after_disk_calls, IsWithin, tail_calls, gate_calls, open_calls}
-use Rattle.rrv_model.specs.StoreCalls.DiskCall.{Write, Sync}
-use Rattle.rrv_model.proofs.CrashLaws.{crash_synced, crash_torn, crash_cut}
-use Rattle.rrv_model.proofs.StoreLaws.{store_parts}
+use Rattle.store_model.specs.CrashModel.{Pending, IsCrash, DiskState, all_synced}
+use Rattle.store_model.specs.DiskCalls.{IsTorn, FailsToWrite, FailsToCut, after_write, after_cut, after_sync, overwritten, pending_write, pending_cut}
+use Rattle.store_model.specs.StoreText.{header, segments, IsBody, IsStore, IsNextSegment}
+use Rattle.store_model.specs.StoreCalls.{after_disk_calls, IsWithin, tail_calls, gate_calls, open_calls}
+use Rattle.store_model.specs.StoreCalls.DiskCall.{Write, Sync}
+use Rattle.store_model.proofs.CrashLaws.{crash_synced, crash_torn, crash_cut}
+use Rattle.store_model.proofs.StoreLaws.{store_parts}
 use Rattle.commit_core.specs.World.{IsAtRest, store_text, closed_store}
 use Rattle.commit_core.specs.Sessions.{Gives, IsStoreOf}
 use Rattle.commit_core.proofs.Stages.{crash_failed, crash_failed_cut, closed_store_of, ajar_store_of, text_of_store}

@@ -9,14 +9,14 @@ use Rattle.rrv_model.specs.declared.record.Record.{Record}
 use Rattle.rrv_model.specs.State.{State}
 use Rattle.rrv_model.specs.RecordText.{HasText}
 use Rattle.rrv_model.specs.Recording.{IsRecording, IsNumbered, EndsIn, items_of}
-use Rattle.rrv_model.specs.StoreText.{IsBody, IsSound}
+use Rattle.store_model.specs.StoreText.{IsBody, IsSound}
 use Rattle.rrv_model.specs.Recovered.{body_text, of_guest, next_guest, IsRecovered, AreBodyTexts, OpensAtZero}
 use Rattle.rrv_model.proofs.RunLaws.{one_end_state}
 use Rattle.commit_core.specs.Runs.{IsOutput, IsAt, total_of}
 use Rattle.commit_core.specs.World.{World, made, committed_count, stored_bodies, joined}
 use Rattle.commit_core.specs.Facts.{Replays, RecoversFrom, Recovers, IsRun}
 use Rattle.commit_core.specs.Sessions.{Gives, HasSent, AreSentIn, GrowsTo, IsStoreOf}
-use Rattle.rrv_model.proofs.Lists.{AllByRecursion-append, AllByRecursion-front, AllByRecursion-back, AllByRecursion-weaker}
+use Rattle.outcomes.proofs.Lists.{AllByRecursion-append, AllByRecursion-front, AllByRecursion-back, AllByRecursion-weaker}
 use Rattle.rrv_model.proofs.RecoveredLaws.{of_guest-append, numbered_front}
 use Rattle.commit_core.proofs.Lists.{none_lower, none_higher, of_guest-front, of_guest-back, joined-append, joined-push}
 use Rattle.commit_core.proofs.Runs.{output_further, recording_front, there_is, below_total, at_total_is_end, items_of-append}

@@ -6,11 +6,11 @@ use Rattle.std.proofs.lemmas.List.{append-nil, map-append, length-take-le, take-
 use Rattle.std.proofs.lemmas.Bool.{cases_eq}
 use Rattle.rrv_model.specs.declared.record.Record.{Record}
 use Rattle.rrv_model.specs.State.{State}
-use Rattle.rrv_model.specs.CrashModel.{DiskState}
-use Rattle.rrv_model.specs.DiskCalls.{FailsToWrite}
+use Rattle.store_model.specs.CrashModel.{DiskState}
+use Rattle.store_model.specs.DiskCalls.{FailsToWrite}
 use Rattle.rrv_model.specs.RecordText.{HasText}
 use Rattle.rrv_model.specs.Recording.{IsRecording, IsNumbered, EndsIn, items_of}
-use Rattle.rrv_model.specs.StoreText.{IsBody}
+use Rattle.store_model.specs.StoreText.{IsBody}
 use Rattle.rrv_model.specs.Recovered.{body_text, of_guest, OpensAtZero}
 use Rattle.commit_core.specs.Runs.{IsOutput}
 use Rattle.commit_core.specs.World.{World, Recorder, Stage, made, received, committed_count, stored_bodies, joined, flag, left_word}
@@ -18,7 +18,7 @@ use Rattle.commit_core.specs.World.Stage.{Idle, Written, Synced, Opened, Broken}
 use Rattle.commit_core.specs.Events.{Event, after, May, CanSlice, CanPush, CanWrite, put, with_recorder, with_flusher, gate_place, next_body, behind_gate, left_place, sliced, pushed, looked, released, looked_at_halt, gone, took, at_stage}
 use Rattle.commit_core.specs.Events.Event.{Slice, Push, Look, Release, LookHalt, Leave, Pop, WriteBody, WriteBodyFails, Sync1, Sync1Fails, OpenGate, OpenGateFails, Sync2, Sync2Fails, Publish, Halt, LookLeft}
 use Rattle.commit_core.specs.Facts.{HadStates}
-use Rattle.rrv_model.proofs.Lists.{AllByRecursion-append, AllByRecursion-back, AllByRecursion-push}
+use Rattle.outcomes.proofs.Lists.{AllByRecursion-append, AllByRecursion-back, AllByRecursion-push}
 use Rattle.rrv_model.proofs.RecoveredLaws.{of_guest-append}
 use Rattle.commit_core.proofs.Lists.{of_guest_one, of_guest_other, joined-push, put_cases, put_each, put_other, put_same}
 use Rattle.commit_core.proofs.Runs.{output_further, recording_opens}

@@ -5,7 +5,7 @@ use Rattle.std.specs.List.{AllByRecursion}
 use Rattle.std.proofs.lemmas.List.{append-nil}
 use Rattle.rrv_model.specs.declared.record.Record.{Record}
 use Rattle.rrv_model.specs.Recording.{EndsIn, items_of}
-use Rattle.rrv_model.specs.StoreText.{IsBody}
+use Rattle.store_model.specs.StoreText.{IsBody}
 use Rattle.rrv_model.specs.Recovered.{body_text}
 use Rattle.commit_core.specs.World.{World, Recorder, Flusher, IsStart, IsReady, IsAtRest, received, stored_bodies, flag, closed_store, opening_record}
 use Rattle.commit_core.specs.Events.{Event, after, run, IsSchedule}

@@ -2,7 +2,7 @@
 use Rattle.std.proofs.Common.{inl, inr, refl, List, [], ◌∷◌, ◌++◌, subst}
 use Rattle.std.specs.List.{AllByRecursion}
 use Rattle.rrv_model.specs.declared.record.Record.{Record}
-use Rattle.rrv_model.specs.CrashModel.{DiskState}
+use Rattle.store_model.specs.CrashModel.{DiskState}
 use Rattle.commit_core.specs.World.{World, IsStart}
 use Rattle.commit_core.specs.Events.{Event, run, IsSchedule}
 use Rattle.commit_core.specs.Sessions.{Session, AreSessions}

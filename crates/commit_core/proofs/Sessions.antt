@@ -3,13 +3,13 @@ use Rattle.std.proofs.Common.{◌≡◌, inl, inr, ⊎_elim, ℕ, ◌+◌, ◌-�
 use Rattle.std.specs.List.{AllByRecursion, Any}
 use Rattle.std.proofs.lemmas.List.{append-nil, take-append-le}
 use Rattle.rrv_model.specs.declared.record.Record.{Record}
-use Rattle.rrv_model.specs.CrashModel.{DiskState}
+use Rattle.store_model.specs.CrashModel.{DiskState}
 use Rattle.rrv_model.specs.Output.{Chunk, spread}
-use Rattle.rrv_model.specs.StoreText.{IsStore}
+use Rattle.store_model.specs.StoreText.{IsStore}
 use Rattle.rrv_model.specs.Recovered.{of_guest, next_guest, IsRecovered}
-use Rattle.rrv_model.proofs.Lists.{AllByRecursion-append, AllByRecursion-back, AllByRecursion-weaker}
+use Rattle.outcomes.proofs.Lists.{AllByRecursion-append, AllByRecursion-back, AllByRecursion-weaker}
 use Rattle.rrv_model.proofs.RecoveredLaws.{one_recovery}
-use Rattle.rrv_model.proofs.StoreLaws.{store_parts}
+use Rattle.store_model.proofs.StoreLaws.{store_parts}
 use Rattle.commit_core.specs.Runs.{IsBeginning, IsOutput}
 use Rattle.commit_core.specs.World.{World, IsStart, made, closed_store}
 use Rattle.commit_core.specs.Events.{Event, run, IsSchedule}

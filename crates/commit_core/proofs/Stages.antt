@@ -4,17 +4,17 @@ use Rattle.std.specs.List.{AllByRecursion}
 use Rattle.std.proofs.lemmas.List.{append-nil, take_at, drop_at, drop_more, drop_all, take_all}
 use Rattle.std.proofs.lemmas.Bool.{cases_eq}
 use Rattle.rrv_model.specs.declared.record.Record.{Record}
-use Rattle.rrv_model.specs.CrashModel.{Pending, IsCrash, DiskState, Leaves, moments, all_synced}
-use Rattle.rrv_model.specs.DiskCalls.{IsTorn, FailsToWrite, FailsToCut, after_write, after_sync, overwritten, pending_write, pending_cut}
-use Rattle.rrv_model.specs.StoreText.{header, segment, segments, IsBody, IsStore, IsNextSegment, IsSound}
+use Rattle.store_model.specs.CrashModel.{Pending, IsCrash, DiskState, Leaves, moments, all_synced}
+use Rattle.store_model.specs.DiskCalls.{IsTorn, FailsToWrite, FailsToCut, after_write, after_sync, overwritten, pending_write, pending_cut}
+use Rattle.store_model.specs.StoreText.{header, segment, segments, IsBody, IsStore, IsNextSegment, IsSound}
 use Rattle.rrv_model.specs.RecordText.{record_text}
 use Rattle.rrv_model.specs.Recovered.{body_text}
-use Rattle.rrv_model.proofs.StoreLaws.{segments_push}
-use Rattle.rrv_model.proofs.CrashLaws.{crash_synced, crash_torn, torn_same}
+use Rattle.store_model.proofs.StoreLaws.{segments_push}
+use Rattle.store_model.proofs.CrashLaws.{crash_synced, crash_torn, torn_same}
 use Rattle.commit_core.specs.World.{Stage, IsAtRest, store_text, closed_store}
 use Rattle.commit_core.specs.World.Stage.{Idle, Written, Synced, Opened, Broken}
 use Rattle.commit_core.specs.Sessions.{Gives, IsStoreOf}
-use Rattle.rrv_model.proofs.Lists.{AllByRecursion-push, head_is}
+use Rattle.outcomes.proofs.Lists.{AllByRecursion-push, head_is}
 
 -- ---- one body more
 

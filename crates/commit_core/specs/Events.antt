@@ -2,14 +2,15 @@
 -- A crash is no event: it may come between two events, or within a call of the disk. Within a write it counts as after
 -- it, and within a sync as before it.
 use Rattle.std.specs.Prelude.{◌≡◌, ℕ, ◌+◌, ◌<◌, ◌≤◌, ◌==◌, min, true, false, if◌then◌else◌, List, [], ◌∷◌, ◌++◌, length, take, drop}
-use Rattle.rrv_model.specs.declared.limits.TheConstants.{QUEUE_ITEMS, BATCH_ITEMS, MAX_BODY, MAX_SEGMENTS, MAX_STORE}
+use Rattle.rrv_model.specs.declared.limits.TheConstants.{QUEUE_ITEMS, BATCH_ITEMS}
+use Rattle.store_model.specs.declared.limits.TheConstants.{MAX_BODY, MAX_SEGMENTS, MAX_STORE}
 use Rattle.rrv_model.specs.declared.record.Record.{Record}
-use Rattle.rrv_model.specs.CrashModel.{DiskState}
-use Rattle.rrv_model.specs.DiskCalls.{after_write, after_sync, FailsToWrite}
+use Rattle.store_model.specs.CrashModel.{DiskState}
+use Rattle.store_model.specs.DiskCalls.{after_write, after_sync, FailsToWrite}
 use Rattle.rrv_model.specs.State.{State}
 use Rattle.rrv_model.specs.RecordText.{HasText}
 use Rattle.rrv_model.specs.Recording.{IsRecording, IsNumbered, EndsIn, items_of}
-use Rattle.rrv_model.specs.StoreText.{segment}
+use Rattle.store_model.specs.StoreText.{segment}
 use Rattle.rrv_model.specs.Recovered.{body_text}
 use Rattle.commit_core.specs.Runs.{IsOutput}
 use Rattle.commit_core.specs.World.{World, Recorder, Flusher, Stage, made, committed_count, stored_bodies, store_text}

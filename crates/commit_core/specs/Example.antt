@@ -4,12 +4,12 @@ use Rattle.rrv_model.specs.declared.record.End.TheVariants as ends
 use Rattle.rrv_model.specs.declared.record.Frame.{Frame}
 use Rattle.rrv_model.specs.declared.record.Opening.{Opening}
 use Rattle.rrv_model.specs.declared.record.Record.{Record}
-use Rattle.rrv_model.specs.CrashModel.{IsCrash}
-use Rattle.rrv_model.specs.DiskCalls.{after_sync}
+use Rattle.store_model.specs.CrashModel.{IsCrash}
+use Rattle.store_model.specs.DiskCalls.{after_sync}
 use Rattle.rrv_model.specs.State.{State}
 use Rattle.rrv_model.specs.Opening.{opening_state}
 use Rattle.rrv_model.specs.Recording.{frame_record}
-use Rattle.rrv_model.specs.StoreText.{segment, IsSound}
+use Rattle.store_model.specs.StoreText.{segment, IsSound}
 use Rattle.rrv_model.specs.Recovered.{body_text, IsRecovered}
 use Rattle.commit_core.specs.World.{World, Recorder, opening_record, store_text, closed_store, nothing_done}
 use Rattle.commit_core.specs.Events.{Event}

@@ -1,7 +1,7 @@
 -- Each of the four calls of the example's commit fails.
 use Rattle.std.specs.Prelude.{ℕ, ◌+◌, ◌≤◌, List, [], ◌∷◌, ◌++◌, length}
-use Rattle.rrv_model.specs.CrashModel.{DiskState}
-use Rattle.rrv_model.specs.DiskCalls.{pending_write}
+use Rattle.store_model.specs.CrashModel.{DiskState}
+use Rattle.store_model.specs.DiskCalls.{pending_write}
 use Rattle.rrv_model.specs.State.{State}
 use Rattle.commit_core.specs.World.{World, closed_store}
 use Rattle.commit_core.specs.Events.{Event, run, IsSchedule, gate_place, behind_gate}

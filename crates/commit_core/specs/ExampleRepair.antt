@@ -2,11 +2,11 @@
 -- gate; the next one is stopped within its opening.
 use Rattle.std.specs.Prelude.{◌≡◌, ℕ, ◌+◌, List, [], ◌∷◌, ◌++◌, length}
 use Rattle.rrv_model.specs.declared.record.Record.{Record}
-use Rattle.rrv_model.specs.CrashModel.{DiskState, IsCrash}
+use Rattle.store_model.specs.CrashModel.{DiskState, IsCrash}
 use Rattle.rrv_model.specs.State.{State}
-use Rattle.rrv_model.specs.StoreText.{segment}
-use Rattle.rrv_model.specs.StoreCalls.{after_disk_calls}
-use Rattle.rrv_model.specs.StoreCalls.DiskCall.{Write, Cut, Sync}
+use Rattle.store_model.specs.StoreText.{segment}
+use Rattle.store_model.specs.StoreCalls.{after_disk_calls}
+use Rattle.store_model.specs.StoreCalls.DiskCall.{Write, Cut, Sync}
 use Rattle.rrv_model.specs.Recovered.{body_text}
 use Rattle.commit_core.specs.World.{World, store_text, closed_store}
 use Rattle.commit_core.specs.Events.{Event, run}

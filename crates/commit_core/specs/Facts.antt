@@ -2,9 +2,9 @@
 use Rattle.std.specs.Prelude.{◌≡◌, ◌≢◌, ◌↔◌, ◌⊎◌, ℕ, suc, ◌+◌, ◌-◌, ◌<◌, ◌≤◌, true, List, [], ◌∷◌, ◌++◌, length, take, Some, slice_get, IsSomeAnd}
 use Rattle.rrv_model.specs.declared.record.Record.{Record}
 use Rattle.rrv_model.specs.State.{State}
-use Rattle.rrv_model.specs.CrashModel.{Leaves}
+use Rattle.store_model.specs.CrashModel.{Leaves}
 use Rattle.rrv_model.specs.Recording.{IsRecording, IsNumbered, EndsIn, items_of}
-use Rattle.rrv_model.specs.StoreText.{IsSound}
+use Rattle.store_model.specs.StoreText.{IsSound}
 use Rattle.rrv_model.specs.Recovered.{body_text, of_guest, IsRecovered}
 use Rattle.commit_core.specs.Runs.{IsBeginning, IsOutput, IsAt, total_of}
 use Rattle.commit_core.specs.World.{World, made, received, committed_count, stored_bodies, flag, left_word}

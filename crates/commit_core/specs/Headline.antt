@@ -1,7 +1,7 @@
 -- What each session has at each of its moments, and what later ones find of it.
 use Rattle.std.specs.Prelude.{◌≡◌, ℕ, ◌+◌, ◌<◌, List, [], ◌∷◌, ◌++◌, take}
 use Rattle.rrv_model.specs.declared.record.Record.{Record}
-use Rattle.rrv_model.specs.CrashModel.{DiskState, IsCrash}
+use Rattle.store_model.specs.CrashModel.{DiskState, IsCrash}
 use Rattle.rrv_model.specs.Recovered.{of_guest, next_guest, IsRecovered}
 use Rattle.commit_core.specs.Runs.{IsBeginning, IsOutput}
 use Rattle.commit_core.specs.World.{World, made}

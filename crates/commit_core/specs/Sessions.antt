@@ -2,9 +2,9 @@
 use Rattle.std.specs.Prelude.{◌≡◌, ◌≢◌, ◌⊎◌, ℕ, ◌+◌, ◌<◌, ◌≤◌, List, [], ◌∷◌, ◌++◌, length}
 use Rattle.std.specs.List.{AllByRecursion, Any}
 use Rattle.rrv_model.specs.declared.record.Record.{Record}
-use Rattle.rrv_model.specs.CrashModel.{DiskState, IsCrash, all_synced}
-use Rattle.rrv_model.specs.StoreText.{IsStore, IsNextSegment}
-use Rattle.rrv_model.specs.StoreCalls.{after_disk_calls, open_calls, IsWithin}
+use Rattle.store_model.specs.CrashModel.{DiskState, IsCrash, all_synced}
+use Rattle.store_model.specs.StoreText.{IsStore, IsNextSegment}
+use Rattle.store_model.specs.StoreCalls.{after_disk_calls, open_calls, IsWithin}
 use Rattle.rrv_model.specs.Recovered.{of_guest, next_guest, IsRecovered}
 use Rattle.commit_core.specs.Runs.{IsBeginning}
 use Rattle.commit_core.specs.World.{World, IsStart}

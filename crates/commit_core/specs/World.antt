@@ -1,15 +1,16 @@
 -- The world of a recording: the recorders, the queue, the words, the flusher and the disk, each kept by its holder.
 use Rattle.std.specs.Prelude.{◌≡◌, ℕ, ◌+◌, ◌<◌, ◌≤◌, Bool, false, if◌then◌else◌, List, [], ◌∷◌, ◌++◌, length, map, flat_map}
 use Rattle.std.specs.List.{AllByRecursion}
-use Rattle.rrv_model.specs.declared.limits.TheConstants.{MAX_GUESTS, MAX_NUMBER, MAX_SEGMENTS}
+use Rattle.rrv_model.specs.declared.limits.TheConstants.{MAX_GUESTS, MAX_NUMBER}
+use Rattle.store_model.specs.declared.limits.TheConstants.{MAX_SEGMENTS}
 use Rattle.rrv_model.specs.declared.record.Opening.{Opening}
 use Rattle.rrv_model.specs.declared.record.Item.TheVariants as items
 use Rattle.rrv_model.specs.declared.record.Record.{Record}
-use Rattle.rrv_model.specs.CrashModel.{DiskState, all_synced}
+use Rattle.store_model.specs.CrashModel.{DiskState, all_synced}
 use Rattle.rrv_model.specs.State.{State}
 use Rattle.rrv_model.specs.Opening.{Opens}
 use Rattle.rrv_model.specs.RecordText.{HasText}
-use Rattle.rrv_model.specs.StoreText.{header, segments, IsBody}
+use Rattle.store_model.specs.StoreText.{header, segments, IsBody}
 use Rattle.rrv_model.specs.Recovered.{body_text, of_guest, next_guest, IsRecovered}
 
 -- ---- the holders

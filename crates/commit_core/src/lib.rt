@@ -78,9 +78,9 @@ ghost use Rattle.std.specs.Prelude.{◌≡◌, ◌<◌, ◌++◌, ℕ, List, [],
 ghost use Rattle.std.specs.List.{AllByRecursion};
 ghost use Rattle.rrv_model.specs.declared.machine.GuestEnd.TheVariants.{Exited};
 ghost use Rattle.rrv_model.specs.declared.record.Record.{Record};
-ghost use Rattle.rrv_model.specs.CrashModel.{DiskState, IsCrash};
+ghost use Rattle.store_model.specs.CrashModel.{DiskState, IsCrash};
 ghost use Rattle.rrv_model.specs.State.{State};
-ghost use Rattle.rrv_model.specs.StoreText.{IsStore};
+ghost use Rattle.store_model.specs.StoreText.{IsStore};
 ghost use Rattle.commit_core.specs.World.{World, IsStart, IsAtRest, closed_store};
 ghost use Rattle.commit_core.specs.Events.{Event, IsSchedule, run};
 ghost use Rattle.commit_core.specs.Facts.{Facts, Recovers};

@@ -5,7 +5,7 @@ use Rattle.std.proofs.lemmas.List.{length-map, map_push, get_or-set_other}
 use mathlib.Core.Logic.{dite}
 use native.Mathlib.Decide.{ℕ_discrete}
 use Rattle.rrv_model.specs.declared.record.Record.{Record}
-use Rattle.rrv_model.specs.CrashModel.{DiskState}
+use Rattle.store_model.specs.CrashModel.{DiskState}
 use Rattle.rrv_model.specs.Recovered.{of_guest}
 use Rattle.commit_core.specs.World.{World, Recorder, joined, flag}
 use Rattle.commit_core.specs.Events.{after, put, looked, looked_at_halt, gone, pushed}

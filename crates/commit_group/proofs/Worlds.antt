@@ -6,9 +6,9 @@ use mathlib.Core.Logic.{dite}
 use native.Mathlib.Decide.{ℕ_discrete}
 use Rattle.rrv_model.specs.declared.limits.TheConstants.{BATCH_ITEMS}
 use Rattle.rrv_model.specs.declared.record.Record.{Record}
-use Rattle.rrv_model.specs.CrashModel.{DiskState}
+use Rattle.store_model.specs.CrashModel.{DiskState}
 use Rattle.rrv_model.specs.Recovered.{body_text, of_guest}
-use Rattle.rrv_model.specs.StoreCalls.{after_disk_calls, commit_calls, DiskCall, IsStopped}
+use Rattle.store_model.specs.StoreCalls.{after_disk_calls, commit_calls, DiskCall, IsStopped}
 use Rattle.trace_log.specs.Kept.{Keeps, LogValue, IsWithinLimits}
 use Rattle.commit_core.specs.World.{World, Flusher, joined, stored_bodies, committed_count, store_text}
 use Rattle.commit_core.specs.World.Stage.{Idle, Broken}

@@ -3,7 +3,7 @@ use Rattle.std.specs.Prelude.{◌≡◌, ℕ, ◌<◌, Bool, true, false, List, 
 use Rattle.rrv_model.specs.declared.limits.TheConstants.{QUEUE_ITEMS}
 use Rattle.rrv_model.specs.declared.record.Item.{Item}
 use Rattle.rrv_model.specs.declared.record.Record.{Record}
-use Rattle.rrv_model.specs.CrashModel.{DiskState}
+use Rattle.store_model.specs.CrashModel.{DiskState}
 use Rattle.trace_log.specs.Kept.{LogValue}
 use Rattle.commit_core.specs.World.{World, Stage, flag}
 use Rattle.commit_core.specs.Events.{Event, May, after, left_place}

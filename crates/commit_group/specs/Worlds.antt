@@ -2,7 +2,7 @@
 use Rattle.std.specs.Prelude.{◌≡◌, ℕ, ◌+◌, ◌<◌, ◌≤◌, true, List, [], ◌∷◌, ◌++◌, map, slice_index}
 use Rattle.std.specs.List.{range_with_len}
 use Rattle.rrv_model.specs.declared.record.Record.{Record}
-use Rattle.rrv_model.specs.CrashModel.{DiskState}
+use Rattle.store_model.specs.CrashModel.{DiskState}
 use Rattle.trace_log.specs.Kept.{Keeps, LogValue}
 use Rattle.commit_core.specs.World.{World, Stage, joined, committed_count, stored_bodies}
 use Rattle.commit_core.specs.World.Stage.{Idle, Broken}

@@ -8,7 +8,7 @@ use Rattle.std.proofs.lemmas.List.Elements.{All-from_recursion}
 use Rattle.std.proofs.lemmas.List.{length-reverse}
 use Rattle.rrv_model.specs.declared.limits.TheConstants.{MAX_PAGES}
 use Rattle.rrv_model.specs.Memory.{Memory, Cell, is_mapped, page_bytes, page_count, pages_below}
-use Rattle.rrv_model.proofs.Lists.{AllByRecursion-push, AllByRecursion-weaker}
+use Rattle.outcomes.proofs.Lists.{AllByRecursion-push, AllByRecursion-weaker}
 use Rattle.rrv_model.specs.RecordText.{permissions_byte}
 use Rattle.guest_pages.specs.declared.page.PageView.{PageView}
 use Rattle.guest_pages.specs.Snapshots.{IsNextPage, IsPageOf}

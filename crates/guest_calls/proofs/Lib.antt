@@ -5,3 +5,4 @@ pub mod CallParts
 pub mod CloneParts
 pub mod Inquiries
 pub mod Places
+pub mod Openings

@@ -7,3 +7,4 @@ pub mod Growth
 pub mod Requests
 pub mod Snapshots
 pub mod Parts
+pub mod Openings

@@ -5,6 +5,7 @@ ghost use Rattle.std.specs.List.Sorted.{IsStrictlyIncreasing};
 ghost use Rattle.rrv_model.specs.Memory.{page_count, IsMemory};
 ghost use Rattle.rrv_model.specs.State.{thread_at, IsEnd, IsRunning, IsState, IsThread};
 ghost use Rattle.guest_calls.specs.Carries.{KeepsRest};
+ghost use Rattle.guest_calls.specs.Snapshots.{guest_snapshots};
 
 use crate::put::Put;
 use guest_pages::Space;
@@ -166,6 +167,28 @@ impl Guest {
             × ((state_of self.now).next_tid ≡ (state_of other.now).next_tid) }
     {
         self.threads.same(&other.threads)
+    }
+
+    /// The same guest once more, with how many instructions it ran and had run before its last call, but without its snapshots
+    /// and what that call put out. Refused if a growth is.
+    pub fn try_clone(&self, alloc: Global) -> Result<Guest, Memory>
+        ensures state { IfOk result (λ copy. state_of copy ≡ state_of self.now) }
+        ensures ran { IfOk result (λ copy. copy.ran ≡ self.now.ran) }
+        ensures ran_before_call { IfOk result (λ copy. copy.ran_before_call ≡ self.now.ran_before_call) }
+        ensures put { IfOk result (λ copy. copy.put ≡ None) }
+        ensures snapshots { IfOk result (λ copy. (n : ℕ) → guest_snapshots copy n ≡ None) }
+    {
+        Ok(Guest {
+            space: self.space.try_clone(alloc)?,
+            threads: self.threads.try_clone(alloc)?,
+            opening_break: self.opening_break,
+            program_break: self.program_break,
+            reservation: self.reservation,
+            ended: self.ended,
+            ran: self.ran,
+            ran_before_call: self.ran_before_call,
+            put: None,
+        })
     }
 
     /// Tests whether some thread runs.

@@ -7,6 +7,7 @@ pub mod Ranges
 pub mod SameMemory
 pub mod SnapshotPages
 pub mod Changes
+pub mod Copies
 pub mod WordStores
 pub mod WholePages
 pub mod OwnPages

@@ -20,12 +20,14 @@
 //!   mapped.
 //! - `set_page`: puts a page as `page` reads one in place of what was there, or unmaps it.
 //! - `snapshot`: its memory stays, whatever is stored, mapped, unmapped or protected later.
+//! - `try_clone`: the same memory once more, with no snapshot.
 //! - `changed_since`: exactly the pages that differ from a snapshot.
 //! - `page`, `snapshot_page`: a page's permissions and bytes.
 #![tactic(auto)]
 
 mod access;
 mod address_space;
+mod copying;
 mod fault;
 mod mapping;
 mod page;

@@ -7,7 +7,6 @@ pub mod Stepped
 pub mod Opened
 pub mod RecorderWorlds
 pub mod Sliced
-pub mod Frames
 pub mod PutMore
 pub mod Parted
 pub mod Kept

@@ -17,7 +17,7 @@ use Rattle.rrv_model.specs.Standing.{StandsBehind}
 use Rattle.rrv_model.specs.State.{State}
 use Rattle.rrv_model.specs.StateAt.{StateAt, total}
 use Rattle.std.proofs.Math.Seq.{take-append_seam}
-use Rattle.rrv_model.proofs.Lists.{AllByRecursion-append, AllByRecursion-front}
+use Rattle.outcomes.proofs.Lists.{AllByRecursion-append, AllByRecursion-front}
 use Rattle.rrv_model.proofs.RecordingLaws.{beginnings_are_recordings}
 use Rattle.rrv_model.proofs.RecoveredLaws.{numbered_front}
 use Rattle.rrv_model.proofs.Standing.{parts_behind, starts_behind}

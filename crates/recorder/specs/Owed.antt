@@ -1,7 +1,7 @@
 -- Output that waits for its records to be durable, and what of it leaves.
 use Rattle.std.specs.Prelude.{◌≡◌, ℕ, ◌+◌, ◌-◌, ◌^◌, ◌≤◌, max, min, Bool, true, false, List, [], ◌∷◌, ◌++◌, length, take, drop, map, flat_map}
 use Rattle.guest_calls.specs.declared.put.Put.{Put}
-use Rattle.rrv_model.specs.Failures.{HasFailed}
+use Rattle.outcomes.specs.Failures.{HasFailed}
 use Rattle.rrv_model.specs.Output.{to_descriptor}
 
 -- how many records' output has left whole, what is left of the output of each record behind them, and for how many more

@@ -1,7 +1,6 @@
 -- What the calls of a guest's recorder do.
 use Rattle.std.specs.Prelude.{◌≡◌, ◌≢◌, ℕ, ◌+◌, ◌<◌, ◌≤◌, true, IsSome, IfErr, Result, List, [], ◌∷◌, ◌++◌, length, map, Option, None}
-use Rattle.elf_load.specs.Refusals.{IsPastRefusal}
-use Rattle.rrv_model.specs.declared.limits.TheConstants.{MAX_ELF, MAX_NUMBER}
+use Rattle.rrv_model.specs.declared.limits.TheConstants.{MAX_NUMBER}
 use Rattle.rrv_model.specs.declared.record.Choice.{Choice}
 use Rattle.rrv_model.specs.declared.record.End.{End}
 use Rattle.rrv_model.specs.declared.record.Frame.{Frame}
@@ -15,8 +14,7 @@ use Rattle.recorder.specs.declared.checkpoints.Parts.{Parts}
 use Rattle.recorder.specs.declared.checkpoints.Parts.TheVariants as outcomes
 use Rattle.recorder.specs.Checkpoints.{IsDue}
 use Rattle.rrv_model.specs.declared.record.Opening.{Opening}
-use Rattle.rrv_model.specs.Failures.{HasFailed}
-use Rattle.rrv_model.specs.Opening.{IsName, Opens}
+use Rattle.outcomes.specs.Failures.{HasFailed}
 use Rattle.rrv_model.specs.Output.{Chunk, FramePuts, call_in, spread}
 use Rattle.rrv_model.specs.Standing.{StandsBehind}
 use Rattle.rrv_model.specs.Recording.{frame_record, items_of}
@@ -24,6 +22,8 @@ use Rattle.rrv_model.specs.State.{State, thread_at, IsRunning}
 use Rattle.rrv_model.specs.Step.{ThreadMayTakeMemory}
 use Rattle.guest_calls.specs.declared.put.Put.{Put}
 use Rattle.guest_calls.specs.Guest.{GuestValue, chunks_of, state_of}
+use Rattle.guest_calls.specs.Openings as guests
+use Rattle.guest_calls.specs.declared.fault.OpeningFault.TheVariants as opening_faults
 use Rattle.checkpoint.specs.Made.{NamesChanges}
 use Rattle.serial_sched.specs.declared.fault.SliceFault.{SliceFault}
 use Rattle.serial_sched.specs.declared.fault.SliceFault.TheVariants as slice_faults
@@ -39,8 +39,8 @@ use Rattle.recorder.specs.Recorders.{GuestRecorder, HasPut, made, records_from}
 
 -- why there is no recorder: no guest starts so, or there was no memory; a bad name takes none, nor does a file past its limit
 abbrev pub RefusesOpening : Opening → RecorderFault → Type 0
-RefusesOpening o faults.BadOpening = (s : State) → ¬ Opens o.elf o.name o.random s
-RefusesOpening o faults.Memory = IsName o.name × IsPastRefusal 12 o.elf × (length o.elf ≤ MAX_ELF)
+RefusesOpening o faults.BadOpening = guests.RefusesOpening opening_faults.BadOpening o
+RefusesOpening o faults.Memory = guests.RefusesOpening opening_faults.Memory o
 RefusesOpening o _ = ⊥
 
 -- ---- step

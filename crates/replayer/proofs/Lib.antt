@@ -8,4 +8,3 @@ pub mod Placed
 pub mod Last
 pub mod Putting
 pub mod Behind
-pub mod Gone

@@ -19,7 +19,7 @@ use Rattle.replayer.specs.declared.position.Position.{Position}
 use Rattle.replayer.specs.declared.recording.Track.{Track}
 use Rattle.replayer.specs.declared.recording.Mark.{Mark}
 use Rattle.replayer.specs.Kept.{AreKept}
-use Rattle.replayer.specs.Places.{Begins, GoesOn, IsPlace, StandsAt, begun, last_instruction}
+use Rattle.replayer.specs.Places.{Begins, GoesOn, IsPlace, StandsAt, begun}
 use Rattle.replayer.proofs.Kept.{at_later, frame_first, frame_part}
 
 -- ---- steps
@@ -287,34 +287,47 @@ drop_next (g ∷ frames) (suc n) f rest h =
     let one : suc n + 1 ≡ suc (n + 1) = omega arith in
     (subst (λ i. drop i (g ∷ frames) ≡ rest) (sym one) more.0, omega (arith, more.1))
 
--- one step further inside a frame
-pub stands_further : (v : Track) (p q : Position) (f : Frame) → StandsAt v.opening v.frames p → p.frames < length v.frames → f ≡ get_or v.frames p.frames f → p.steps + 1 < f.count →
-    Steps 1 f.tid (state_of p.guest) (state_of q.guest) → q.frames ≡ p.frames → q.steps ≡ p.steps + 1 → q.at ≡ p.at + 1 → StandsAt v.opening v.frames q
-stands_further v p q f stands below there more some frames_is steps_is at_is =
+-- some steps further inside a frame
+pub stands_further : (v : Track) (p q : Position) (f : Frame) (n : ℕ) → StandsAt v.opening v.frames p → p.frames < length v.frames → f ≡ get_or v.frames p.frames f → p.steps + n < f.count →
+    Steps n f.tid (state_of p.guest) (state_of q.guest) → q.frames ≡ p.frames → q.steps ≡ p.steps + n → q.at ≡ p.at + n → StandsAt v.opening v.frames q
+stands_further v p q f n stands below there more some frames_is steps_is at_is =
     let inside = on_inside v p f stands below there in
     let g = rest_of p.steps f in
     let rest = drop (p.frames + 1) v.frames in
-    let here = on_some v.opening v.frames p.at (state_of p.guest) (state_of q.guest) g rest 1 inside.0 (omega (arith, more)) some in
-    let less : f.count - p.steps - 1 ≡ f.count - (p.steps + 1) = omega arith in
-    let left : rest_of 1 g ∷ rest ≡ begun q.steps (drop q.frames v.frames) =
-    ap (λ n. record f { count = n } ∷ rest) less ∙ ap (λ i. begun i (f ∷ rest)) (sym steps_is)
+    let here = on_some v.opening v.frames p.at (state_of p.guest) (state_of q.guest) g rest n inside.0 (omega (arith, more)) some in
+    let less : f.count - p.steps - n ≡ f.count - (p.steps + n) = omega arith in
+    let left : rest_of n g ∷ rest ≡ begun q.steps (drop q.frames v.frames) =
+    ap (λ m. record f { count = m } ∷ rest) less ∙ ap (λ i. begun i (f ∷ rest)) (sym steps_is)
     ∙ ap (begun q.steps) (sym (drop_at v.frames p.frames f below there)) ∙ ap (λ i. begun q.steps (drop i v.frames)) (sym frames_is) in
-    let begins : Begins (rest_of 1 g ∷ rest) = omega (arith, more) in
+    let begins : Begins (rest_of n g ∷ rest) = omega (arith, more) in
     record {
-      state = subst (λ i. StateAt v.opening v.frames i (state_of q.guest)) (sym at_is) (at_place v.opening v.frames (p.at + 1) (state_of q.guest) (rest_of 1 g ∷ rest) here begins);
+      state = subst (λ i. StateAt v.opening v.frames i (state_of q.guest)) (sym at_is) (at_place v.opening v.frames (p.at + n) (state_of q.guest) (rest_of n g ∷ rest) here begins);
       inside = omega (arith, frames_is, below);
       on = subst (λ i. GoesOn v.opening v.frames i (state_of q.guest) (begun q.steps (drop q.frames v.frames))) (sym at_is)
-          (subst (λ (fs : List Frame). GoesOn v.opening v.frames (p.at + 1) (state_of q.guest) fs) left here);
+          (subst (λ (fs : List Frame). GoesOn v.opening v.frames (p.at + n) (state_of q.guest) fs) left here);
       begins = subst Begins left begins;
     }
 
--- at a frame's last instruction
-pub last_ahead : (v : Track) (p : Position) (f : Frame) → StandsAt v.opening v.frames p → p.frames < length v.frames → f ≡ get_or v.frames p.frames f → f.count ≤ p.steps + 1 →
-    GoesOn v.opening v.frames p.at (state_of p.guest) (last_instruction f ∷ drop (p.frames + 1) v.frames)
-last_ahead v p f stands below there last =
-    let inside = on_inside v p f stands below there in
-    let one : f.count - p.steps ≡ 1 = omega (arith, last, inside.1) in
-    subst (λ n. GoesOn v.opening v.frames p.at (state_of p.guest) (record f { count = n } ∷ drop (p.frames + 1) v.frames)) one inside.0
+-- between two frames
+pub on_between : (v : Track) (p : Position) → StandsAt v.opening v.frames p → p.steps ≡ 0 → GoesOn v.opening v.frames p.at (state_of p.guest) (drop p.frames v.frames)
+on_between v p stands none =
+    let left = drop p.frames v.frames in
+    subst (λ (fs : List Frame). GoesOn v.opening v.frames p.at (state_of p.guest) fs) (sym (begun_none left ∙ ap (λ i. begun i left) (sym none))) stands.on
+
+-- so does another guest in the same state
+pub stands_same : (o : Opening) (frames : List Frame) (p q : Position) → state_of q.guest ≡ state_of p.guest → q.frames ≡ p.frames → q.steps ≡ p.steps → q.at ≡ p.at → StandsAt o frames p →
+    StandsAt o frames q
+stands_same o frames p q state_is frames_is steps_is at_is stands =
+    let left : begun p.steps (drop p.frames frames) ≡ begun q.steps (drop q.frames frames) =
+    ap (λ i. begun i (drop p.frames frames)) (sym steps_is) ∙ ap (λ i. begun q.steps (drop i frames)) (sym frames_is) in
+    record {
+      state = subst (λ i. StateAt o frames i (state_of q.guest)) (sym at_is) (subst (λ (s : State). StateAt o frames p.at s) (sym state_is) stands.state);
+      inside = omega (arith, frames_is, stands.inside);
+      on = subst (λ i. GoesOn o frames i (state_of q.guest) (begun q.steps (drop q.frames frames))) (sym at_is)
+          (subst (λ (s : State). GoesOn o frames p.at s (begun q.steps (drop q.frames frames))) (sym state_is)
+          (subst (λ (fs : List Frame). GoesOn o frames p.at (state_of p.guest) fs) left stands.on));
+      begins = subst Begins left stands.begins;
+    }
 
 -- no further than the end
 pub stands_within : (o : Opening) (frames : List Frame) (p : Position) → StandsAt o frames p → p.at ≤ total frames

@@ -1,6 +1,6 @@
 -- From checkpoint to checkpoint of a recording.
 use Rattle.std.proofs.Common.{◌≡◌, ℕ, ◌<◌, ◌≤◌, true, false, nat_le, List, ◌∷◌, take, refl, sym, ◌∙◌, ap, subst, arith}
-use Rattle.std.specs.Prelude.{if◌then◌else◌}
+use Rattle.std.specs.Prelude.{◌+◌, if◌then◌else◌}
 use Rattle.std.proofs.lemmas.Bool.Decides.{nat_tests}
 use Rattle.rrv_model.specs.declared.record.Frame.{Frame}
 use Rattle.rrv_model.specs.declared.record.Opening.{Opening}
@@ -11,6 +11,7 @@ use Rattle.rrv_model.specs.Checkpoint.{Describes}
 use Rattle.replayer.specs.declared.recording.Mark.{Mark}
 use Rattle.replayer.specs.Kept.{AreKept, AreMarks, last_place}
 use Rattle.replayer.specs.Places.{IsPlace, MarksLeft}
+use Rattle.replayer.specs.Verified.{VerifiedValue, IsLastCheckpoint, RanFromLast}
 use Rattle.replayer.proofs.Described.{one_described}
 
 pub start_place : (o : Opening) (frames : List Frame) (s : State) → Opens o.elf o.name o.random s → IsPlace o frames 0 0 s
@@ -44,3 +45,13 @@ pub last_stop : (place : ℕ) (m : Mark) (marks : List Mark) (t : ℕ) → t < m
 last_stop place m marks t high =
     let test : nat_le m.at t ≡ false = grind (arith, nat_tests) in
     ap (λ b. if b then last_place m.at marks t else place) test
+
+-- what ran, once a guest went on past no checkpoint
+pub ran_onward : (v : VerifiedValue) (at t place ran more : ℕ) → RanFromLast v at ran → IsLastCheckpoint v t place → place ≤ at → more + at ≤ ran + t → RanFromLast v t more
+ran_onward v at t place ran more h last low on = record {
+  from_start = omega (arith, h.from_start, on);
+  from_last = λ p there below.
+      let within = last.last p there below in
+      let before = h.from_last p there (omega (arith, within, low)) in
+      omega (arith, before, on);
+}

@@ -4,7 +4,6 @@ use Rattle.std.specs.Prelude.{slice_get}
 use Rattle.std.proofs.Math.Seq.{take-suc}
 use Rattle.std.proofs.lemmas.List.{length-take-le, take_all}
 use Rattle.std.specs.Prelude.{IsSomeAnd}
-use Rattle.rrv_model.specs.declared.limits.TheConstants.{MAX_ELF}
 use Rattle.rrv_model.specs.declared.record.Item.{Item}
 use Rattle.rrv_model.specs.declared.record.Item.TheVariants as items
 use Rattle.rrv_model.specs.declared.record.Opening.{Opening}
@@ -21,7 +20,10 @@ use Rattle.replayer.specs.declared.fault.VerifyFault.TheVariants as faults
 use Rattle.rrv_model.specs.Standing.{StandsBehind}
 use Rattle.rrv_model.proofs.Standing.{next_behind, opening_behind, starts_behind}
 use Rattle.replayer.specs.Walks.{LeadsOn, Stands}
-use Rattle.replayer.specs.Refusals.{EndsCheckpointAt, Fails, IsLastPart, RefusesFirst, RefusesNext, RefusesOpening, RefusesVerify, StopsAt, TakesMemory}
+use Rattle.guest_calls.specs.Openings.{RefusesOpening}
+use Rattle.guest_calls.specs.declared.fault.OpeningFault.{OpeningFault}
+use Rattle.guest_calls.specs.declared.fault.OpeningFault.TheVariants as opening_faults
+use Rattle.replayer.specs.Refusals.{opening_told, EndsCheckpointAt, Fails, IsLastPart, RefusesFirst, RefusesNext, RefusesVerify, StopsAt, TakesMemory}
 
 one_more : (n : ℕ) → n + 1 ≡ suc n
 one_more n = omega arith
@@ -146,20 +148,13 @@ refused_first (faults.Mismatch index) records first rest is refuses = absurd ref
 refused_first (faults.BadCheckpoint index) records first rest is refuses = absurd refuses
 refused_first (faults.Unreadable index) records first rest is refuses = absurd refuses
 
-pub refused_opening : (e : VerifyFault) (r : Record) (o : Opening) → r.index ≡ 0 → r.item ≡ items.Opening o → RefusesOpening e o → RefusesFirst e r
-refused_opening faults.BadOpening r o zero_is is refuses = λ h. let starts : Starts (items.Opening o ∷ []) = subst (λ (it : Item). Starts (it ∷ [])) is h.starts in refuses starts.0 starts.1
-refused_opening faults.Memory r o zero_is is refuses = (zero_is, (o, is, refuses))
-refused_opening (faults.Mismatch index) r o zero_is is refuses = absurd refuses
-refused_opening (faults.BadCheckpoint index) r o zero_is is refuses = absurd refuses
-refused_opening (faults.Unreadable index) r o zero_is is refuses = absurd refuses
+pub refused_opening : (e : OpeningFault) (r : Record) (o : Opening) → r.index ≡ 0 → r.item ≡ items.Opening o → RefusesOpening e o → RefusesFirst (opening_told e) r
+refused_opening opening_faults.BadOpening r o zero_is is refuses = λ h. let starts : Starts (items.Opening o ∷ []) = subst (λ (it : Item). Starts (it ∷ [])) is h.starts in refuses starts.0 starts.1
+refused_opening opening_faults.Memory r o zero_is is refuses = (zero_is, (o, is, refuses))
 
 -- what opened took memory
 pub opened : (r : Record) (o : Opening) (s : State) → r.index ≡ 0 → r.item ≡ items.Opening o → Opens o.elf o.name o.random s → TakesMemory r
 opened r o s zero_is is opens = (zero_is, (o, is, (opens.is_name, (λ n low some. let bad : None ≡ Some n = sym opens.accepted ∙ some in cc), file_limit o.elf (accepted o.elf opens.accepted))))
-
--- no guest starts from a file past its limit
-pub too_long : (file name random : List ℕ) (s : State) → MAX_ELF < length file → Opens file name random s → ⊥
-too_long file name random s long opens = omega (arith, file_limit file (accepted file opens.accepted))
 
 -- ---- of a recording
 

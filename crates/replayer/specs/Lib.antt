@@ -1,5 +1,4 @@
 pub mod Sourced
-pub mod Told
 pub mod Refusals
 pub mod Walks
 pub mod Verified

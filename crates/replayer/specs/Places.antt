@@ -36,9 +36,9 @@ abbrev pub begun : ℕ → List Frame → List Frame
 begun steps [] = []
 begun steps (f ∷ frames) = record f { count = f.count - steps } ∷ frames
 
--- its last instruction, as a frame
-abbrev pub last_instruction : Frame → Frame
-last_instruction f = record f { count = 1 }
+-- a frame of so many instructions, as the last ones of it are
+abbrev pub with_count : ℕ → Frame → Frame
+with_count n f = record f { count = n }
 
 -- no frame of no instruction is next
 abbrev pub Begins : List Frame → Type 0

@@ -7,7 +7,7 @@ use Rattle.rrv_model.specs.declared.record.Opening.{Opening}
 use Rattle.rrv_model.specs.State.{State}
 use Rattle.replayer.specs.declared.fault.OutputFault.{OutputFault}
 use Rattle.replayer.specs.declared.fault.OutputFault.TheVariants as faults
-use Rattle.rrv_model.specs.Failures.{HasFailed}
+use Rattle.outcomes.specs.Failures.{HasFailed}
 use Rattle.rrv_model.specs.Output.{Chunk, Output, PutFrom, spread}
 
 -- all that the frames put out was taken

@@ -1,34 +1,30 @@
 -- What a refused verification says.
-use Rattle.std.specs.Prelude.{◌≡◌, ℕ, ◌+◌, ◌<◌, ◌≤◌, List, [], ◌∷◌, ◌++◌, length, take, slice_get, IsSomeAnd, IsSome}
-use Rattle.rrv_model.specs.declared.limits.TheConstants.{MAX_ELF}
+use Rattle.std.specs.Prelude.{◌≡◌, ℕ, ◌+◌, ◌<◌, List, [], ◌∷◌, ◌++◌, length, take, slice_get, IsSomeAnd, IsSome}
 use Rattle.rrv_model.specs.declared.record.Part.{Part}
 use Rattle.rrv_model.specs.declared.record.Item.{Item}
 use Rattle.rrv_model.specs.declared.record.Item.TheVariants as items
 use Rattle.rrv_model.specs.declared.record.Opening.{Opening}
 use Rattle.rrv_model.specs.declared.record.Record.{Record}
 use Rattle.rrv_model.specs.State.{State}
-use Rattle.rrv_model.specs.Opening.{IsName, Opens}
 use Rattle.rrv_model.specs.Recording.{IsNumbered, IsRecording, ItemsFollow, PartFits}
 use Rattle.rrv_model.specs.FrameStep.{FrameStep}
 use Rattle.rrv_model.specs.Checkpoint.{Describes}
 use Rattle.rrv_model.specs.declared.record.Frame.{Frame}
-use Rattle.elf_load.specs.Refusals.{IsPastRefusal}
+use Rattle.guest_calls.specs.Openings.{RefusesOpening}
+use Rattle.guest_calls.specs.declared.fault.OpeningFault.{OpeningFault}
+use Rattle.guest_calls.specs.declared.fault.OpeningFault.TheVariants as opening_faults
 use Rattle.replayer.specs.declared.fault.VerifyFault.{VerifyFault}
 use Rattle.replayer.specs.declared.fault.VerifyFault.TheVariants as faults
 
--- An opening is refused if no state is its opening state. Memory is taken for it only if its name is one, and its file is
--- refused by none of the first twelve tests and is within its limit.
-abbrev pub RefusesOpening : VerifyFault → Opening → Type 0
-RefusesOpening faults.BadOpening o = (s : State) → Opens o.elf o.name o.random s → ⊥
-RefusesOpening faults.Memory o = IsName o.name × IsPastRefusal 12 o.elf × (length o.elf ≤ MAX_ELF)
-RefusesOpening (faults.Mismatch index) o = ⊥
-RefusesOpening (faults.BadCheckpoint index) o = ⊥
-RefusesOpening (faults.Unreadable index) o = ⊥
+-- what is told of an opening from which no guest starts
+abbrev pub opening_told : OpeningFault → VerifyFault
+opening_told opening_faults.BadOpening = faults.BadOpening
+opening_told opening_faults.Memory = faults.Memory
 
 -- memory is taken for a first record only
 abbrev pub TakesMemory : Record → Type 0
 TakesMemory first =
-    (first.index ≡ 0) × ((o : Opening) × (first.item ≡ items.Opening o) × RefusesOpening faults.Memory o)
+    (first.index ≡ 0) × ((o : Opening) × (first.item ≡ items.Opening o) × RefusesOpening opening_faults.Memory o)
 
 abbrev pub RefusesFirst : VerifyFault → Record → Type 0
 RefusesFirst faults.BadOpening first = IsRecording (first ∷ []) → ⊥

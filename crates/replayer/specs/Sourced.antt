@@ -9,8 +9,8 @@ use Rattle.guest_calls.specs.Guest.{state_of}
 use Rattle.serial_sched.specs.LastThread.{last_tid}
 use Rattle.replayer.specs.declared.fault.VerifyFault.{VerifyFault}
 use Rattle.replayer.specs.declared.fault.VerifyFault.TheVariants as faults
-use Rattle.replayer.specs.declared.fault.SourceFault.{SourceFault}
-use Rattle.replayer.specs.declared.fault.SourceFault.TheVariants as source_faults
+use Rattle.recover.specs.declared.fault.ReadFault.{ReadFault}
+use Rattle.recover.specs.declared.fault.ReadFault.TheVariants as read_faults
 use Rattle.replayer.specs.declared.verified_end.VerifiedEnd.{VerifiedEnd}
 use Rattle.replayer.specs.declared.walk.Walk.{Walk}
 use Rattle.replayer.specs.Kept.{KeepsAll, KeepsOn, RowIs, instructions_in}
@@ -19,11 +19,11 @@ use Rattle.replayer.specs.Refusals.{RefusesNext, RefusesVerify}
 use Rattle.replayer.specs.Walks.{LeadsOn, Stands}
 
 -- a source gave no record, though there was memory
-abbrev pub withholds : {T : Type 0} → Result T SourceFault → Bool
+abbrev pub withholds : {T : Type 0} → Result T ReadFault → Bool
 withholds (Ok x) = false
-withholds (Err source_faults.DeviceFailed) = true
-withholds (Err source_faults.Damaged) = true
-withholds (Err source_faults.Memory) = false
+withholds (Err read_faults.DeviceFailed) = true
+withholds (Err read_faults.Damaged) = true
+withholds (Err read_faults.Memory) = false
 
 -- a verification ended at a record that was withheld
 abbrev pub is_unreadable : VerifyFault → Bool

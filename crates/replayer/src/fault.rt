@@ -1,65 +1,15 @@
-//! Why records were not read or verified, or their output was not put out.
+//! Why records were not verified, or their output was not put out.
 
 ghost use Rattle.std.specs.Prelude.{◌≡◌};
-ghost use Rattle.replayer.specs.Told.{read_told};
-ghost use Rattle.replayer.specs.declared.fault.ReadGuestFault.TheVariants as read_faults;
+ghost use Rattle.replayer.specs.Refusals.{opening_told};
 ghost use Rattle.replayer.specs.declared.fault.OutputFault.TheVariants as output_faults;
 ghost use Rattle.replayer.specs.declared.fault.VerifyFault.TheVariants as verify_faults;
 
-use recover::ReadFault;
+use guest_calls::OpeningFault;
 use rrv_model::refusal;
 use rrv_model::sink::SinkError;
 use std::alloc::{AllocError, AllocFailed};
 use thiserror::Error;
-
-/// Why a guest's records were not read.
-#[derive(Clone, Copy, Debug, PartialEq, Eq, Error)]
-pub enum ReadGuestFault {
-    /// A call of the disk failed.
-    #[error("device failed")]
-    DeviceFailed,
-    /// The store no longer holds a record that it held.
-    #[error("record {index} unreadable")]
-    Unreadable { index: u32 },
-    /// A growth was refused.
-    #[error("out of memory")]
-    Memory,
-}
-
-impl ReadGuestFault {
-    /// The fault of a guest's record of this index.
-    pub fn of_item(index: u32, fault: ReadFault) -> Self
-        ensures { result ≡ read_told index fault }
-    {
-        match fault {
-            ReadFault::DeviceFailed => ReadGuestFault::DeviceFailed,
-            ReadFault::Damaged => ReadGuestFault::Unreadable { index },
-            ReadFault::Memory => ReadGuestFault::Memory,
-        }
-    }
-}
-
-impl<T: Drop> From<AllocFailed<T>> for ReadGuestFault {
-    ghost from_gives = { λ _ e. e ≡ read_faults.Memory };
-
-    fn from(_: AllocFailed<T>) -> Self {
-        ReadGuestFault::Memory
-    }
-}
-
-/// Why a source gave no record.
-#[derive(Clone, Copy, Debug, PartialEq, Eq, Error)]
-pub enum SourceFault {
-    /// A call of the device that it reads failed.
-    #[error("device failed")]
-    DeviceFailed,
-    /// It no longer holds the record.
-    #[error("damaged record")]
-    Damaged,
-    /// A growth was refused.
-    #[error("out of memory")]
-    Memory,
-}
 
 /// Why records are no recording, by the first that is bad or isn't read.
 #[derive(Clone, Copy, Debug, PartialEq, Eq, Error)]
@@ -79,6 +29,17 @@ pub enum VerifyFault {
     /// A growth was refused.
     #[error("out of memory")]
     Memory,
+}
+
+impl From<OpeningFault> for VerifyFault {
+    ghost from_gives = { λ fault e. e ≡ opening_told fault };
+
+    fn from(fault: OpeningFault) -> Self {
+        match fault {
+            OpeningFault::BadOpening => VerifyFault::BadOpening,
+            OpeningFault::Memory => VerifyFault::Memory,
+        }
+    }
 }
 
 impl From<AllocError> for VerifyFault {

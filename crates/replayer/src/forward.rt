@@ -5,7 +5,7 @@ ghost use Rattle.rrv_model.specs.FrameStep.{FrameStep, Steps};
 ghost use Rattle.rrv_model.specs.State.{State};
 ghost use Rattle.guest_calls.specs.Guest.{chunks_of, counted, state_of};
 ghost use Rattle.serial_sched.specs.Slices.{CallPuts};
-ghost use Rattle.replayer.specs.Places.{last_instruction};
+ghost use Rattle.replayer.specs.Places.{with_count};
 
 use guest_calls::Guest;
 use rrv_model::record::Frame;
@@ -48,13 +48,13 @@ pub(crate) fn count_of(frame: &Frame) -> u32
     frame.count
 }
 
-/// The frame of the last instruction of a frame.
-pub(crate) fn last_of(frame: &Frame) -> Result<Frame, Memory>
-    ensures { IfOk result (λ last. last ≡ last_instruction frame.now) }
+/// What is left of a frame of which so many instructions are left.
+pub(crate) fn rest_of(frame: &Frame, left: u32) -> Result<Frame, Memory>
+    ensures { IfOk result (λ rest. rest ≡ with_count left frame.now) }
 {
     Ok(Frame {
         tid: frame.tid,
-        count: 1,
+        count: left,
         end: frame.end.clone()?,
     })
 }

@@ -20,8 +20,9 @@
 //!   guest that it returns is at most that count, and at most that count less the place of each complete checkpoint at or
 //!   before it. `checkpoint_before` is the last such place.
 //! - `Verified::place_at` is the same, as a `Place`: it is known by the recording, how many instructions ran before it and the
-//!   guest, which is in the state there. `Place::advance` uses it up, and returns the place one instruction on. `Memory` is the
-//!   one refusal of these.
+//!   guest, which is in the state there. `Place::advance` uses it up, and returns the place one instruction on. `Place::onward`
+//!   stays, and returns a place ahead, of a guest in which at most as much ran as in that of `place_at`; that it goes on with a
+//!   copy is in no contract. `Memory` is the one refusal of these.
 //! - `Verified::output`: after Ok the sink took just the output of the recording, and after a refusal a beginning of it.
 //!   `SinkFailed` comes only if the sink refused, and `Memory` only if it did not.
 //! - `verify_source`: of an honest source, the same of the records that it stands for. `Unreadable` comes exactly if the source
@@ -36,14 +37,8 @@
 //! - `Following` follows records one at a time: those that it followed are a recording (`IsBehind`), which ends in its guest's
 //!   state and has as many instructions as its total. A record that is refused is refused as `verify` refuses the list up to
 //!   it. `VerifiedEnd::last` is the thread that ran last.
-//! - The demonstration calls `verify`, `state_at` at the total and `output`. `verify` on the line calls `verify_source_end`,
-//!   and `dump --places` and `--trace-events` use `Following`. Each other command that replays a guest calls
-//!   `verify_source_watched` first.
-//! - `read_guest`: on an honest disk on which they stand, the records of a guest; else a failed device or want of memory. On
-//!   any honest disk `Unreadable` names the first of the guest's records that doesn't stand at its spot: at that spot is no text
-//!   of a record of that guest and index, and at each spot before it there is one (`NamesFirstGone`). On any disk: as many
-//!   records as the guest has, each of that guest and numbered in order; or one of them is named; and one more call has failed
-//!   exactly if `DeviceFailed` is returned. The disk is only read.
+//! - `verify` on the line calls `verify_source_end`, and `dump --places` and `--trace-events` use `Following`. Each other command
+//!   that replays a guest calls `verify_source_watched` first.
 #![tactic(auto)]
 
 mod fault;
@@ -54,7 +49,6 @@ mod opened;
 mod outputs;
 mod place;
 mod position;
-mod reading;
 mod recording;
 mod source;
 mod track;
@@ -63,10 +57,9 @@ mod verified_end;
 mod verifying;
 mod walk;
 
-pub use fault::{OutputFault, ReadGuestFault, SourceFault, VerifyFault};
+pub use fault::{OutputFault, VerifyFault};
 pub use following::Following;
 pub use place::Place;
-pub use reading::read_guest;
 pub use source::Source;
 pub use verified::Verified;
 pub use verified_end::VerifiedEnd;

@@ -1,7 +1,7 @@
 //! The output along a track.
 
 ghost use Rattle.std.specs.Prelude.{◌≡◌, ◌↔◌, ◌++◌, ℕ, IfErr, OnErr, OnOk, take};
-ghost use Rattle.rrv_model.specs.Failures.{IsCounted};
+ghost use Rattle.outcomes.specs.Failures.{IsCounted};
 ghost use Rattle.rrv_model.specs.Output.{spread, to_descriptor};
 ghost use Rattle.guest_calls.specs.Guest.{chunks_of};
 ghost use Rattle.replayer.specs.Puts.{PutsAll, PutsBeginning, RefusesOutput, chunks_by};

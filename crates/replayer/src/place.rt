@@ -3,6 +3,7 @@
 ghost use Rattle.std.specs.Prelude.{◌≡◌, ◌≤◌, ◌<◌, ◌+◌, IfOk};
 ghost use Rattle.rrv_model.specs.StateAt.{StateAt, total};
 ghost use Rattle.guest_calls.specs.Guest.{state_of};
+ghost use Rattle.replayer.specs.Verified.{RanFromLast};
 
 use crate::position::Position;
 use crate::verified::Verified;
@@ -62,7 +63,29 @@ impl<'a> Place<'a> {
             verified,
             mut position,
         } = self;
-        verified.track.advance(alloc, &mut position)?;
+        // The total, a word, is above the place.
+        let _ = verified.total();
+        let next = position.at + 1;
+        verified.track.go_on(alloc, &mut position, next)?;
+        Ok(Place { verified, position })
+    }
+
+    /// The place at t, which isn't before this one. A copy of the guest goes on from here if no complete checkpoint lies in between;
+    /// else one is run from the last of them at or before t. `Memory` where a growth is refused.
+    pub fn onward(&self, alloc: Global, t: u64) -> Result<Place<'a>, Memory>
+        requires low { self.now.at ≤ t }
+        requires high { t ≤ total self.now.verified.frames }
+        requires ran { RanFromLast self.now.verified self.now.at self.now.guest.ran }
+        ensures verified { IfOk result (λ place. place.verified ≡ self.now.verified) }
+        ensures at { IfOk result (λ place. place.at ≡ t) }
+        ensures ran { IfOk result (λ place. RanFromLast self.now.verified t place.guest.ran) }
+    {
+        let verified = self.verified;
+        if self.position.at < verified.checkpoint_before(t) {
+            return verified.place_at(alloc, t);
+        }
+        let mut position = self.position.try_clone(alloc)?;
+        verified.track.go_on(alloc, &mut position, t)?;
         Ok(Place { verified, position })
     }
 }

@@ -5,7 +5,8 @@ ghost use Rattle.rrv_model.specs.declared.record.Record.{Record};
 ghost use Rattle.replayer.specs.declared.fault.VerifyFault.TheVariants as verify_faults;
 ghost use Rattle.replayer.specs.Sourced.{NamesWithheld, ends_withheld, withholds};
 
-use crate::fault::{SourceFault, VerifyFault};
+use crate::fault::VerifyFault;
+use recover::ReadFault;
 use rrv_model::record::Record;
 use std::alloc::Global;
 
@@ -28,7 +29,7 @@ pub trait Source {
         ensures { result ≡ length (records self.now) };
 
     /// The record at this place.
-    fn item(&mut self, alloc: Global, index: usize) -> Result<Record, SourceFault>
+    fn item(&mut self, alloc: Global, index: usize) -> Result<Record, ReadFault>
         requires { index < length (records self.old) }
         ensures record { honest self.old → IfOk result (λ r. slice_get (records self.old) index ≡ Some r) }
         ensures records { records self.new ≡ records self.old }
@@ -53,9 +54,7 @@ pub(crate) fn given<S: Source>(
 {
     match source.item(alloc, index) {
         Ok(entry) => Ok(entry),
-        Err(SourceFault::Memory) => Err(VerifyFault::Memory),
-        Err(SourceFault::DeviceFailed | SourceFault::Damaged) => Err(VerifyFault::Unreadable {
-            index,
-        }),
+        Err(ReadFault::Memory) => Err(VerifyFault::Memory),
+        Err(ReadFault::DeviceFailed | ReadFault::Damaged) => Err(VerifyFault::Unreadable { index }),
     }
 }

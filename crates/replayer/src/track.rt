@@ -2,17 +2,16 @@
 
 ghost use Rattle.std.specs.Prelude.{◌≡◌, ◌≤◌, ◌<◌, ◌+◌, IfOk, OnOk, drop, length};
 ghost use Rattle.rrv_model.specs.StateAt.{total};
-ghost use Rattle.guest_calls.specs.Guest.{counted, state_of};
+ghost use Rattle.guest_calls.specs.Guest.{state_of};
 ghost use Rattle.replayer.specs.Kept.{AreKept, last_place};
 ghost use Rattle.replayer.specs.Places.{GoesOn, IsPlace, StandsAt};
 
-use crate::fault::VerifyFault;
-use crate::forward::{count_of, follow_whole, last_of, run_plain};
-use crate::opened::{open_guest, put_parts};
+use crate::forward::{count_of, follow_whole, rest_of, run_plain};
+use crate::opened::put_parts;
 use crate::position::Position;
 use crate::recording::Track;
 use checkpoint::ApplyFault;
-use guest_calls::Guest;
+use guest_calls::{Guest, OpeningFault};
 use rrv_model::refusal::Memory;
 use std::alloc::Global;
 
@@ -26,13 +25,10 @@ impl Track {
         ensures steps { IfOk result (λ p. p.steps ≡ 0) }
         ensures ran { IfOk result (λ p. p.guest.ran ≡ 0) }
     {
-        let guest = match open_guest(alloc, &self.opening) {
+        let guest = match Guest::start(alloc, &self.opening) {
             Ok(guest) => guest,
-            Err(VerifyFault::Memory) => return Err(Memory),
-            Err(VerifyFault::BadOpening) => unreachable!(),
-            Err(VerifyFault::Mismatch { .. }) => unreachable!(),
-            Err(VerifyFault::BadCheckpoint { .. }) => unreachable!(),
-            Err(VerifyFault::Unreadable { .. }) => unreachable!(),
+            Err(OpeningFault::Memory) => return Err(Memory),
+            Err(OpeningFault::BadOpening) => unreachable!(),
         };
         Ok(Position {
             guest,
@@ -100,29 +96,36 @@ impl Track {
         Ok(())
     }
 
-    /// Goes on by one instruction. After a refusal the position is fit only to be dropped.
-    pub(crate) fn advance(&self, alloc: Global, position: &mut Position) -> Result<(), Memory>
+    /// Goes on to t, from wherever it stands. After a refusal the position is fit only to be dropped.
+    pub(crate) fn go_on(&self, alloc: Global, position: &mut Position, t: u64) -> Result<(), Memory>
         requires stands { StandsAt self.now.opening self.now.frames position.old }
-        requires before { position.old.at < total self.now.frames }
+        requires low { position.old.at ≤ t }
+        requires high { t ≤ total self.now.frames }
         ensures stands { OnOk result (StandsAt self.now.opening self.now.frames position.new) }
-        ensures at { OnOk result (position.new.at ≡ position.old.at + 1) }
+        ensures at { OnOk result (position.new.at ≡ t) }
+        ensures ran { OnOk result (position.new.guest.ran + position.old.at ≤ position.old.guest.ran + t) }
     {
-        let frame = &self.frames.as_slice()[position.frames];
-        let count = count_of(frame);
-        if position.steps + 1 < count {
-            run_plain(&mut position.guest, frame.tid, 1)?;
-            position.steps += 1;
-            position.at += 1;
+        if position.at == t {
             return Ok(());
         }
-        let last = last_of(frame)?;
-        follow_whole(alloc, &mut position.guest, &last)?;
+        if position.steps == 0 {
+            return self.run_to(alloc, position, t);
+        }
+        let frame = &self.frames.as_slice()[position.frames];
+        let left = count_of(frame) - position.steps;
+        if t - position.at < u64::from(left) {
+            let some = (t - position.at) as u32;
+            run_plain(&mut position.guest, frame.tid, some)?;
+            position.steps += some;
+            position.at = t;
+            return Ok(());
+        }
+        let rest = rest_of(frame, left)?;
+        follow_whole(alloc, &mut position.guest, &rest)?;
         position.frames += 1;
         position.steps = 0;
-        position.at += 1;
-        // A frame of no instruction may follow.
-        let at = position.at;
-        self.run_to(alloc, position, at)
+        position.at += u64::from(left);
+        self.run_to(alloc, position, t)
     }
 
     /// The guest at t, run from the last complete checkpoint at or before it, else from its start.

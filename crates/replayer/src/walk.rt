@@ -13,7 +13,7 @@ ghost use Rattle.replayer.specs.LastThread.{thread_behind};
 ghost use Rattle.replayer.specs.Walks.{LeadsOn, Stands};
 
 use crate::fault::VerifyFault;
-use crate::opened::{open_guest, put_parts};
+use crate::opened::put_parts;
 use crate::recording::Mark;
 use checkpoint::ApplyFault;
 use guest_calls::Guest;
@@ -59,8 +59,8 @@ pub(crate) fn open_first(alloc: Global, first: &Record, keeps: bool) -> Result<W
     let Item::Opening(opening) = &first.item else {
         return Err(VerifyFault::BadOpening);
     };
-    let guest = open_guest(alloc, opening)?;
-    let base = open_guest(alloc, opening)?;
+    let guest = Guest::start(alloc, opening)?;
+    let base = Guest::start(alloc, opening)?;
     Ok(Walk {
         guest,
         base,

@@ -26,6 +26,10 @@ impl<'a> Model for Cursor<'a> {
     ghost Value = { CursorValue };
 
     ghost view = { λ c. record { verified = c.place.verified; place = c.place.at; guest = c.place.guest } };
+
+    ghost use Rattle.replayer.specs.Verified.{RanFromLast};
+
+    ghost invariant = { λ c. RanFromLast c.place.verified c.place.at c.place.guest.ran };
 }
 
 impl<'a> Cursor<'a> {
@@ -56,9 +60,11 @@ impl<'a> Cursor<'a> {
         self.place.guest()
     }
 
-    /// How many instructions were run to reach the guest at the place, since the last checkpoint before it or the start.
+    /// How many instructions were run to reach the guest at the place: at most those since the last checkpoint at or before it,
+    /// or since the start.
     pub fn executed(&self) -> u64
-        ensures { result ≡ self.now.guest.ran }
+        ensures value { result ≡ self.now.guest.ran }
+        ensures most { RanFromLast self.now.verified self.now.place result }
     {
         self.place.guest().ran()
     }
@@ -77,7 +83,11 @@ impl<'a> Cursor<'a> {
         if verified.total() < t {
             return Err(SeekFault::PastEnd);
         }
-        self.place = verified.place_at(alloc, t)?;
+        self.place = if t < self.place.at() {
+            verified.place_at(alloc, t)?
+        } else {
+            self.place.onward(alloc, t)?
+        };
         Ok(())
     }
 
@@ -109,12 +119,11 @@ impl<'a> Cursor<'a> {
         ensures past { IsErrOf result SeekFault.PastEnd ↔ (total self.old.verified.frames < self.old.place + n) }
         ensures refused { OnErr result (self.new ≡ self.old) }
     {
-        let verified = self.place.verified();
         let at = self.place.at();
-        if verified.total() - at < n {
+        if self.place.verified().total() - at < n {
             return Err(SeekFault::PastEnd);
         }
-        self.place = verified.place_at(alloc, at + n)?;
+        self.place = self.place.onward(alloc, at + n)?;
         Ok(())
     }
 

@@ -8,14 +8,15 @@
 //!   (`guest`). The place is at most the total (`place`).
 //! - `Cursor::new` stands at the start, where nothing ran. `seek`, `back` and `forward` go to a place. `BeforeStart` and
 //!   `PastEnd` come exactly outside 0 and the total, and after each refusal the cursor is as before.
-//! - `executed`: what ran for the guest at the place. After each call that moves the cursor that is at most what `state_at` may
-//!   run.
+//! - `executed`: what ran for the guest at the place, at most what `state_at` may run.
 //! - `last_change`: the greatest place below this one whose instruction changes the byte at an address, or whether there is
 //!   one; the cursor then stands there, and stays if there is none. It goes back from checkpoint to checkpoint and runs each
 //!   instruction below the place once at most, and then seeks the place found; that cost is in no contract.
-//! - Each move opens the guest anew, `forward` too, puts every checkpoint at or before its place onto the opening, one after
-//!   the other, and runs on from there. To go back through K checkpoints puts K * K / 2 of them, and each has the lines that
-//!   changed since the one before it.
+//! - `forward`, and `seek` to a place ahead, go on with a copy of the guest if no complete checkpoint lies in between. A copy is
+//!   one of each mapped page and thread: the guest itself would be lost if a growth is refused on the way, and the cursor has to
+//!   stay then. Each other move opens the guest anew, puts every checkpoint at or before its place onto the opening, one after the other, and runs on
+//!   from there. To go back through K checkpoints puts K * K / 2 of them, and each has the lines that changed since the one
+//!   before it. Which of these is done is in no contract.
 //! - `replay --at`, `back` and `last` call these. `replay_cases` has rows of them.
 #![tactic(auto)]
 

@@ -2,6 +2,7 @@ pub mod CallLaws
 pub mod RecordingLaws
 pub mod InstructionLaws
 pub mod FrameLaws
+pub mod FrameStays
 pub mod Examples
 pub mod TextSizes
 pub mod TextLaws
@@ -11,12 +12,7 @@ pub mod CallExamples
 pub mod RunExample
 pub mod RunLaws
 pub mod Standing
-pub mod CrashLaws
-pub mod SettledLaws
-pub mod StoreCallLaws
 pub mod RecoveredLaws
-pub mod StoreLaws
-pub mod Lists
 pub mod Names
 pub mod ElfLaws
 pub mod FreePlaces
@@ -35,4 +31,3 @@ pub mod AcceptedFile
 pub mod OpeningMemory
 pub mod OpeningState
 pub mod Threads
-pub mod Results

@@ -17,11 +17,4 @@ pub mod Checkpoint
 pub mod Recording
 pub mod Standing
 pub mod RecordText
-pub mod CrashModel
-pub mod StoreText
-pub mod DiskCalls
-pub mod Failures
-pub mod Settled
-pub mod StoreCalls
 pub mod Recovered
-pub mod Refused

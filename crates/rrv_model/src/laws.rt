@@ -1,5 +1,4 @@
-//! Laws of the definitions, each as the contract of a function that does nothing. One stands elsewhere: that bytes hold one
-//! list of bodies at most is `one_list_of_bodies` of `trace_log`, where the reader of those bytes is.
+//! Laws of the definitions, each as the contract of a function that does nothing.
 
 ghost use Rattle.rrv_model.specs.Instructions.{OneRow};
 ghost use Rattle.rrv_model.specs.Memory.{HighestFreeIsFound};

@@ -27,6 +27,8 @@
 //! - `Item::into_opening`: the opening that an item is; None exactly if it is another. `Opening::into_name`: its name.
 #![tactic(auto)]
 
+pub use outcomes::refusal;
+
 pub mod fields;
 pub mod instr;
 pub mod laws;
@@ -34,7 +36,6 @@ pub mod limits;
 pub mod machine;
 pub mod name;
 pub mod record;
-pub mod refusal;
 pub mod sequence;
 pub mod sink;
 pub mod syscall;

@@ -1,7 +1,7 @@
 //! Where the output of a guest goes.
 
 ghost use Rattle.std.specs.Prelude.{◌≡◌, ◌≤◌, ◌++◌, ◌↔◌, ℕ, List, length, take, IfOk, OnErr};
-ghost use Rattle.rrv_model.specs.Failures.{IsCounted};
+ghost use Rattle.outcomes.specs.Failures.{IsCounted};
 ghost use Rattle.rrv_model.specs.Output.{to_descriptor};
 
 use std::sync::Wait;

@@ -4,7 +4,7 @@ use Rattle.std.specs.Prelude.{Result, Ok, Err, IfErr}
 use Rattle.std.proofs.lemmas.List.{append-nil}
 use Rattle.rrv_model.specs.declared.record.Choice.{Choice}
 use Rattle.rrv_model.specs.declared.record.Record.{Record}
-use Rattle.rrv_model.specs.Failures.{HasFailed}
+use Rattle.outcomes.specs.Failures.{HasFailed}
 use Rattle.rrv_model.specs.Recording.{frame_record}
 use Rattle.rrv_model.specs.State.{State}
 use Rattle.guest_calls.specs.Guest.{state_of}

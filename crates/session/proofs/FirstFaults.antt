@@ -4,7 +4,7 @@ use Rattle.std.proofs.lemmas.List.{append-nil}
 use Rattle.std.proofs.lemmas.List.Elements.{Contains-append_left, Contains-append_right}
 use Rattle.std.specs.Prelude.{Option, Some, None}
 use Rattle.std.specs.List.{Contains}
-use Rattle.rrv_model.proofs.Lists.{AllByRecursion-append, AllByRecursion-weaker}
+use Rattle.outcomes.proofs.Lists.{AllByRecursion-append, AllByRecursion-weaker}
 use Rattle.session.specs.declared.fault.SessionFault.{SessionFault}
 use Rattle.session.specs.declared.task.Worked.{Worked}
 use Rattle.session.specs.Faults.{IsLower, IsLowest, IsNoLater}

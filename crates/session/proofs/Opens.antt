@@ -1,10 +1,10 @@
 -- What a session leaves can be opened.
 use Rattle.std.proofs.Common.{inl, inr, ℕ, List, [], ◌∷◌, ◌++◌, sym, subst, append_assoc}
 use Rattle.rrv_model.specs.declared.record.Record.{Record}
-use Rattle.rrv_model.specs.CrashModel.{LeavesOnly}
+use Rattle.store_model.specs.CrashModel.{LeavesOnly}
 use Rattle.rrv_model.specs.Recovered.{IsRecovered}
-use Rattle.rrv_model.specs.Settled.{IsBefore}
-use Rattle.rrv_model.proofs.CrashLaws.{leaves_weaker}
+use Rattle.store_model.specs.Settled.{IsBefore}
+use Rattle.store_model.proofs.CrashLaws.{leaves_weaker}
 use Rattle.rrv_model.proofs.RecoveredLaws.{beginnings_are_recovered}
 use Rattle.trace_log.specs.Kept.{LogValue}
 use Rattle.commit_core.specs.Sessions.{CanOpen, HasRecords}

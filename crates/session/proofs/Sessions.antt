@@ -3,10 +3,10 @@ use Rattle.std.proofs.Common.{◌≡◌, inl, inr, ℕ, zero, suc, ◌+◌, ◌�
 use Rattle.std.proofs.lemmas.List.{append-nil, take-append-drop}
 use Rattle.std.specs.Prelude.{◌⊎◌, Option, None, Some, Result, Ok, Err, OnOk, slice_get}
 use Rattle.rrv_model.specs.declared.record.Record.{Record}
-use Rattle.rrv_model.specs.CrashModel.{Leaves}
+use Rattle.store_model.specs.CrashModel.{Leaves}
 use Rattle.rrv_model.specs.Recovered.{next_guest, IsRecovered}
-use Rattle.rrv_model.proofs.CrashLaws.{started}
-use Rattle.rrv_model.proofs.Lists.{AllByRecursion-front}
+use Rattle.store_model.proofs.CrashLaws.{started}
+use Rattle.outcomes.proofs.Lists.{AllByRecursion-front}
 use Rattle.guest_calls.specs.Guest.{GuestValue}
 use Rattle.trace_log.specs.Kept.{Keeps, LogValue}
 use Rattle.commit_group.specs.declared.fault.FlushFault.{FlushFault}

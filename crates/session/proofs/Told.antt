@@ -3,7 +3,7 @@ use Rattle.std.proofs.Common.{◌≡◌, ◌≢◌, ◌⊎◌, inl, inr, ℕ, ze
 use Rattle.std.proofs.lemmas.List.Elements.{Contains-append_cases, Contains-append_right}
 use Rattle.std.specs.Prelude.{Option, Some, None, Result, Ok, Err, IfErr, IsErrAnd, MatchOption, slice_get, unwrap_or}
 use Rattle.std.specs.List.{AllByRecursion, Contains}
-use Rattle.rrv_model.specs.Failures.{HasFailed}
+use Rattle.outcomes.specs.Failures.{HasFailed}
 use Rattle.trace_log.specs.Kept.{LogValue}
 use Rattle.commit_group.specs.declared.fault.FlushFault.{FlushFault}
 use Rattle.commit_group.specs.declared.fault.FlushFault.TheVariants as flushes

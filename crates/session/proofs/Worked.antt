@@ -4,18 +4,17 @@ use Rattle.std.proofs.lemmas.List.{append-nil, take-append-le, take_all}
 use Rattle.std.proofs.lemmas.List.Sums.{sum_by-cons}
 use Rattle.std.specs.Prelude.{IsSome}
 use Rattle.std.specs.List.{AllByRecursion}
-use Rattle.rrv_model.specs.declared.record.End.{End}
-use Rattle.rrv_model.specs.declared.record.End.TheVariants as ends
+use Rattle.rrv_model.proofs.TextSizes.{frame_most}
 use Rattle.rrv_model.specs.declared.record.Frame.{Frame}
 use Rattle.rrv_model.specs.declared.record.Item.{Item}
 use Rattle.rrv_model.specs.declared.record.Item.TheVariants as items
 use Rattle.rrv_model.specs.declared.record.Part.{Part}
 use Rattle.rrv_model.specs.declared.record.Record.{Record}
-use Rattle.rrv_model.specs.RecordText.{HasFrameText, HasItemText, HasText}
+use Rattle.rrv_model.specs.RecordText.{HasItemText, HasText}
 use Rattle.rrv_model.specs.Recording.{EndsIn, IsNumbered, IsRecording, ItemsFollow, Starts, base_after, frames_of, items_of, row_after}
 use Rattle.rrv_model.specs.State.{State}
 use Rattle.rrv_model.specs.StateAt.{StateAtFrom, total}
-use Rattle.rrv_model.proofs.Lists.{AllByRecursion-front}
+use Rattle.outcomes.proofs.Lists.{AllByRecursion-front}
 use Rattle.rrv_model.proofs.RecordingLaws.{beginnings_are_recordings}
 use Rattle.rrv_model.proofs.RecoveredLaws.{numbered_front}
 use Rattle.rrv_model.proofs.RunLaws.{at_total_of_first}
@@ -101,16 +100,10 @@ same_opening guest guest' job job' e same = λ i. opening_of (sym e i) (sym same
 
 -- ---- the steps of a recording
 
-few_counts : (end : End) (tid count : ℕ) → HasFrameText end tid count → count ≤ 1048576
-few_counts ends.Preempt tid count h = (let c = h.count_high in omega arith)
-few_counts (ends.Call r) tid count h = (let c = h.0.count_high in omega arith)
-few_counts (ends.Fault kind) tid count h = (let c = h.count_high in omega arith)
-few_counts ends.Stuck tid count h = (let c = h.1 in omega arith)
-
 more_counts : (item : Item) (rest : List Item) (n : ℕ) → HasItemText item → total (frames_of rest) ≤ n * 1048576 → total (frames_of (item ∷ rest)) ≤ suc n * 1048576
 more_counts (items.Opening o) rest n h low = omega arith
 more_counts (items.Frame f) rest n h low =
-    let few = few_counts f.end f.tid f.count h in
+    let few = frame_most f.end f.tid f.count h in
     let sum = sum_by-cons (λ (x : Frame). x.count) f (frames_of rest) in
     omega (arith, few, low, sum)
 more_counts (items.Part p) rest n h low = omega arith

@@ -1,7 +1,7 @@
 -- How a worker drives its guest's recorder.
 use Rattle.std.specs.Prelude.{◌≡◌, ◌⊎◌, ◌↔◌, ℕ, ◌+◌, ◌≤◌, true, Option, None, Some, List, [], ◌++◌, length, IsSome, Result, Ok, Err}
 use Rattle.rrv_model.specs.declared.record.Record.{Record}
-use Rattle.rrv_model.specs.Failures.{HasFailed}
+use Rattle.outcomes.specs.Failures.{HasFailed}
 use Rattle.guest_calls.specs.Guest.{state_of}
 use Rattle.recorder.specs.declared.fault.RecorderFault.{RecorderFault}
 use Rattle.recorder.specs.declared.fault.RecorderFault.TheVariants as faults

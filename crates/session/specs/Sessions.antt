@@ -3,7 +3,7 @@ use Rattle.std.specs.Prelude.{◌≡◌, ◌⊎◌, ℕ, ◌+◌, ◌<◌, ◌�
 use Rattle.std.specs.List.{AllByRecursion}
 use Rattle.std.specs.declared.alloc.Global.{Global}
 use Rattle.rrv_model.specs.declared.record.Record.{Record}
-use Rattle.rrv_model.specs.Failures.{HasFailed}
+use Rattle.outcomes.specs.Failures.{HasFailed}
 use Rattle.rrv_model.specs.Recording.{IsNumbered, IsRecording}
 use Rattle.rrv_model.specs.Recovered.{next_guest, of_guest, IsRecovered}
 use Rattle.guest_calls.specs.Guest.{GuestValue}

@@ -4,7 +4,7 @@ use Rattle.rrv_model.specs.declared.record.Record.{Record}
 use Rattle.rrv_model.specs.declared.machine.GuestEnd.{GuestEnd}
 use Rattle.rrv_model.specs.declared.sink.Sink as sinks
 use Rattle.rrv_model.specs.Elf.{refusal}
-use Rattle.rrv_model.specs.Failures.{HasFailed}
+use Rattle.outcomes.specs.Failures.{HasFailed}
 use Rattle.rrv_model.specs.Opening.{IsName}
 use Rattle.rrv_model.specs.Output.{Chunk, spread}
 use Rattle.rrv_model.specs.Recording.{EndsIn, items_of}

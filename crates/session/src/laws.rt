@@ -2,7 +2,7 @@
 
 ghost use Rattle.std.specs.Prelude.{ℕ, List};
 ghost use Rattle.rrv_model.specs.declared.record.Record.{Record};
-ghost use Rattle.rrv_model.specs.CrashModel.{LeavesOnly};
+ghost use Rattle.store_model.specs.CrashModel.{LeavesOnly};
 ghost use Rattle.commit_core.specs.Sessions.{CanOpen};
 ghost use Rattle.trace_log.specs.Kept.{LogValue};
 ghost use Rattle.session.specs.Gains.{HasGained};

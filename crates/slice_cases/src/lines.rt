@@ -1,7 +1,7 @@
 //! What a line asks.
 
 use crate::lists::Made;
-use crate::outcomes::{Counted, Left, Question};
+use crate::runs::{Counted, Left, Question};
 use rrv_model::record::Choice;
 
 /// What a line asks.

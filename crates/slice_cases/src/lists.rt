@@ -1,7 +1,7 @@
 //! Lists of choices that look like chance, and what recordings by them come to.
 
-use crate::outcomes::{Left, Outcome};
 use crate::pair::Pair;
+use crate::runs::{Left, Outcome};
 use crate::wrong::Wrong;
 use guest_calls::Guest;
 use rrv_model::limits::{MAX_QUANTUM, MIN_QUANTUM};

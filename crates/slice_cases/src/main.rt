@@ -5,8 +5,8 @@
 
 mod lines;
 mod lists;
-mod outcomes;
 mod pair;
+mod runs;
 mod session;
 mod wrong;
 

@@ -2,8 +2,8 @@
 
 use crate::lines::{Asked, asked_of};
 use crate::lists::{Made, record_seed};
-use crate::outcomes::{Outcome, answer};
 use crate::pair::{Pair, end_text, frame_text};
+use crate::runs::{Outcome, answer};
 use crate::wrong::Wrong;
 use rrv_model::limits::{MAX_QUANTUM, MIN_QUANTUM};
 use rrv_model::record::Choice;

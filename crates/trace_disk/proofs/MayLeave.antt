@@ -1,8 +1,8 @@
 -- What a read gives stays among what a crash may leave.
 use Rattle.std.proofs.Common.{◌≡◌, ◌⊎◌, inl, inr, ⊎_elim, ℕ, ◌+◌, ◌-◌, ◌<◌, ◌≤◌, List, [], ◌∷◌, ◌++◌, length, get_or, take, drop, refl, ◌∙◌, ap, arith, length-append, length-drop}
 use Rattle.std.proofs.lemmas.List.{length-take, get_or-take, get_or-drop, get_or_append_left, get_or-append_right}
-use Rattle.rrv_model.specs.CrashModel.{Pending, IsCrash, IsTouched, all_synced}
-use Rattle.rrv_model.specs.DiskCalls.{overwritten, pending_write, pending_cut}
+use Rattle.store_model.specs.CrashModel.{Pending, IsCrash, IsTouched, all_synced}
+use Rattle.store_model.specs.DiskCalls.{overwritten, pending_write, pending_cut}
 
 touched_before : (ranges : List (ℕ × ℕ)) (range : ℕ × ℕ) (place : ℕ) → IsTouched ranges place → IsTouched (ranges ++ range ∷ []) place
 touched_before [] range place touched = absurd touched

@@ -1,7 +1,7 @@
 -- A disk of which one call fails.
 use Rattle.std.specs.Prelude.{◌≡◌, ◌≢◌, ℕ, ◌-◌, Bool, true, Result, IsErr}
-use Rattle.rrv_model.specs.DiskCalls.{counted_if}
-use Rattle.rrv_model.specs.Failures.{IsCounted}
+use Rattle.store_model.specs.DiskCalls.{counted_if}
+use Rattle.outcomes.specs.Failures.{IsCounted}
 
 -- The disk, how many device calls are left up to the one that fails, that one counted (0: none fails any more), and
 -- whether it has failed.

@@ -1,6 +1,6 @@
 -- What is told of a disk in a file.
 use Rattle.std.specs.Prelude.{◌≡◌, ℕ, Bool, true, false, Result, IsErr}
-use Rattle.rrv_model.specs.Failures.{IsCounted}
+use Rattle.outcomes.specs.Failures.{IsCounted}
 
 -- Its length in bytes, how many calls have failed, whether a sync was among them, and whether the file is read alone.
 pub record HostFile : Type 0 where

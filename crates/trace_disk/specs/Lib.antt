@@ -2,3 +2,4 @@ pub mod FailOnce
 pub mod FileDisk
 pub mod MemDisk
 pub mod Started
+pub mod Devices

@@ -1,6 +1,6 @@
 -- What a disk in memory stands for.
 use Rattle.std.specs.Prelude.{◌≤◌, ℕ, ◌+◌, length, vec_len, vec_capacity}
-use Rattle.rrv_model.specs.CrashModel.{DiskState}
+use Rattle.store_model.specs.CrashModel.{DiskState}
 use Rattle.trace_disk.specs.declared.mem_disk.MemDisk.{MemDisk}
 
 abbrev pub memory_state : MemDisk → DiskState

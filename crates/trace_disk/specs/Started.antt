@@ -1,6 +1,6 @@
 -- How a disk starts, and what a crash leaves of it.
 use Rattle.std.specs.Prelude.{◌≡◌, ◌⊎◌, ◌<◌, ◌≤◌, get_or, ℕ, List, [], length}
-use Rattle.rrv_model.specs.CrashModel.{Pending, DiskState, IsTouched, all_synced}
+use Rattle.store_model.specs.CrashModel.{Pending, DiskState, IsTouched, all_synced}
 
 -- a disk that was started with these bytes, all of them synced
 abbrev pub started_with : List ℕ → DiskState

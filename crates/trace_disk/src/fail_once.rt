@@ -1,8 +1,8 @@
 //! A disk of which one call fails, for tests of what a failure leaves.
 
 ghost use Rattle.std.specs.Prelude.{◌≡◌, ◌+◌, ◌-◌, ◌↔◌, ◌≤◌, max, length, take, drop, OnOk, OnErr, IsTrue, false, true, if◌then◌else◌};
-ghost use Rattle.rrv_model.specs.DiskCalls.{after_write, after_cut, after_sync, FailsToWrite, FailsToCut};
-ghost use Rattle.rrv_model.specs.Failures.{IsCounted};
+ghost use Rattle.store_model.specs.DiskCalls.{after_write, after_cut, after_sync, FailsToWrite, FailsToCut};
+ghost use Rattle.outcomes.specs.Failures.{IsCounted};
 ghost use Rattle.trace_disk.specs.FailOnce.{failures_of, IsOneCall};
 
 use crate::{Disk, DiskFailed};

@@ -1,7 +1,7 @@
 //! A disk in a file of the host.
 
 ghost use Rattle.std.specs.Prelude.{◌≡◌, ◌≤◌, ◌+◌, max, length, IfOk, OnOk, OnErr, IsTrue, true, false};
-ghost use Rattle.rrv_model.specs.Failures.{one_more, IsCounted};
+ghost use Rattle.outcomes.specs.Failures.{one_more, IsCounted};
 ghost use Rattle.trace_disk.specs.FileDisk.{file_to_read, opened_file, IsFileCall, IsFileChange};
 
 use crate::{Disk, DiskFailed};

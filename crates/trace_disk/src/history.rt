@@ -2,8 +2,8 @@
 
 ghost use Rattle.std.specs.Prelude.{◌≡◌};
 ghost use Rattle.std.specs.Borrow.{ftrue};
-ghost use Rattle.rrv_model.specs.CrashModel.{DiskState};
-ghost use Rattle.rrv_model.specs.DiskCalls.{after_write, after_cut, after_sync};
+ghost use Rattle.store_model.specs.CrashModel.{DiskState};
+ghost use Rattle.store_model.specs.DiskCalls.{after_write, after_cut, after_sync};
 ghost use Rattle.trace_disk.specs.Started.{started_with};
 
 use std::marker::Model;

@@ -1,14 +1,14 @@
 //! A disk in memory, which can be crashed.
 
 ghost use Rattle.std.specs.Prelude.{◌≡◌, ◌≤◌, ◌<◌, ◌+◌, max, ℕ, length, take, drop, OnOk, OnErr, IfOk, IsOk, vec_len, vec_capacity, IsTrue, ◌↔◌, ◌⊎◌, get_or};
-ghost use Rattle.rrv_model.specs.CrashModel.{IsTouched, IsCrash};
-ghost use Rattle.rrv_model.specs.DiskCalls.{overwritten, after_write, after_cut, after_sync};
-ghost use Rattle.rrv_model.specs.Failures.{one_more, IsCounted};
+ghost use Rattle.store_model.specs.CrashModel.{IsTouched, IsCrash};
+ghost use Rattle.store_model.specs.DiskCalls.{overwritten, after_write, after_cut, after_sync};
+ghost use Rattle.outcomes.specs.Failures.{one_more, IsCounted};
 ghost use Rattle.trace_disk.specs.Started.{empty_disk, started_with, IsFilledCrash};
 
 use crate::history::History;
 use crate::{Disk, DiskFailed};
-use rrv_model::refusal::Memory;
+use outcomes::refusal::Memory;
 use std::alloc::{AllocError, Global};
 
 // Writes over what is there, and past the end.

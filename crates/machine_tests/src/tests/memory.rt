@@ -94,6 +94,26 @@ fn a_refused_copy_leaves_all_as_before(rt: HostRuntime) -> Result<(), Fail> {
 }
 
 #[test]
+fn a_refused_clone_leaves_all_as_before(rt: HostRuntime) -> Result<(), Fail> {
+    let mut space = Space::new(rt.alloc());
+    space.map(1, 2, DATA)?;
+    space.store_word(0x1FFE, 0x0403_0201)?;
+    let token = space.snapshot()?;
+    let copy = match space.try_clone() {
+        Ok(copy) => copy,
+        Err(Memory) => {
+            same(&rt, &"the space's pages alone", space.live(), 2);
+            space.try_clone()?
+        }
+    };
+    let word = copy.load_word(0x1FFE);
+    same(&rt, &"the copy's word", word, Some(0x0403_0201));
+    same(&rt, &"pages of its own", copy.live(), 2);
+    space.drop_snapshot(token);
+    Ok(())
+}
+
+#[test]
 fn a_refused_decoding_is_told_by_nothing(rt: HostRuntime) -> Result<(), Fail> {
     let mut space = space_of_code(rt.alloc())?;
     answers(&rt, "at first", &mut space, 1);

@@ -2,7 +2,8 @@
 
 use super::kit::same;
 use super::recordings::verified_of;
-use replayer::{SourceFault, Verified, VerifyFault, verify};
+use recover::ReadFault;
+use replayer::{Verified, VerifyFault, verify};
 use reverse_step::{Cursor, SeekFault};
 use rrv_model::machine::{Permissions, Regs, Thread};
 use rrv_model::record::{
@@ -145,9 +146,9 @@ fn a_verification_finds_no_memory(rt: HostRuntime) -> Result<(), Fail> {
         verified.checkpoint_before(256),
     );
     same(&rt, &"checkpoints", marks, (128, 256));
-    let (mut sourced, _) = verified_of(alloc, &records, 7, SourceFault::Damaged);
+    let (mut sourced, _) = verified_of(alloc, &records, 7, ReadFault::Damaged);
     if sourced == Err(VerifyFault::Memory) {
-        (sourced, _) = verified_of(alloc, &records, 7, SourceFault::Damaged);
+        (sourced, _) = verified_of(alloc, &records, 7, ReadFault::Damaged);
     }
     same(&rt, &"sourced", sourced, Ok(7));
     Ok(())
@@ -242,8 +243,11 @@ fn a_cursor_finds_no_memory(rt: HostRuntime) -> Result<(), Fail> {
     let mut cursor = cursor_at_last(&rt, alloc, &verified)?;
     stands_at(&rt, &cursor, 0);
     seeks(&rt, alloc, &mut cursor, 0, 200)?;
-    goes_back(&rt, alloc, &mut cursor, 200, 100)?;
-    seeks(&rt, alloc, &mut cursor, 100, 200)?;
+    goes_back(&rt, alloc, &mut cursor, 200, 190)?;
+    // A copy of the guest goes on, over a frame's end and within a frame.
+    seeks(&rt, alloc, &mut cursor, 10, 100)?;
+    seeks(&rt, alloc, &mut cursor, 100, 110)?;
+    seeks(&rt, alloc, &mut cursor, 110, 200)?;
     finds_change(&rt, alloc, &mut cursor, 200, STORED + 1, None)?;
     finds_change(&rt, alloc, &mut cursor, 200, STORED, Some(197))?;
     Ok(())

@@ -5,8 +5,8 @@ ghost use Rattle.rrv_model.specs.declared.record.Record.{Record};
 
 use super::kit::same;
 use recorder::MemSink;
-use recover::{Lists, open};
-use replayer::{Source, SourceFault, VerifyFault, read_guest, verify, verify_source};
+use recover::{Lists, ReadFault, open};
+use replayer::{Source, VerifyFault, verify, verify_source};
 use rrv_model::machine::GuestEnd;
 use rrv_model::record::Record;
 use serial_sched::RoundRobin;
@@ -50,6 +50,20 @@ where
     }
 }
 
+/// The records of a guest, read from the disk of its store.
+fn records_of<D: Disk>(
+    alloc: Global,
+    lists: &Lists,
+    disk: &mut D,
+    guest: u32,
+) -> Result<Vec<Record>, Fail> {
+    let mut records = Vec::new(alloc);
+    for index in 0..lists.len(guest) {
+        records.push(lists.item(alloc, disk, guest, index)?)?;
+    }
+    Ok(records)
+}
+
 /// How many records of a guest a store has, and how it ends as they replay it.
 fn replayed<D: Disk>(
     alloc: Global,
@@ -57,7 +71,7 @@ fn replayed<D: Disk>(
     disk: &mut D,
     number: u32,
 ) -> Result<(usize, Option<GuestEnd>), Fail> {
-    let records = read_guest(alloc, lists, disk, number)?;
+    let records = records_of(alloc, lists, disk, number)?;
     let verified = verify(alloc, &records)?;
     let guest = verified.state_at(alloc, verified.total())?;
     Ok((records.len(), guest.ended()))
@@ -119,7 +133,7 @@ fn a_failed_call_of_the_disk_leaves_a_beginning(rt: HostRuntime) -> Result<(), F
 struct Given<'a> {
     records: &'a [Record],
     fails: usize,
-    fault: SourceFault,
+    fault: ReadFault,
     /// The place of the record that was asked for and not given, though there was memory.
     withheld: Option<usize>,
 }
@@ -137,22 +151,22 @@ impl Source for Given<'_> {
         self.records.len()
     }
 
-    fn item(&mut self, _alloc: Global, index: usize) -> Result<Record, SourceFault> {
+    fn item(&mut self, _alloc: Global, index: usize) -> Result<Record, ReadFault> {
         if index == self.fails {
             return match self.fault {
-                SourceFault::Memory => Err(SourceFault::Memory),
-                SourceFault::DeviceFailed => {
+                ReadFault::Memory => Err(ReadFault::Memory),
+                ReadFault::DeviceFailed => {
                     self.withheld = Some(index);
-                    Err(SourceFault::DeviceFailed)
+                    Err(ReadFault::DeviceFailed)
                 }
-                SourceFault::Damaged => {
+                ReadFault::Damaged => {
                     self.withheld = Some(index);
-                    Err(SourceFault::Damaged)
+                    Err(ReadFault::Damaged)
                 }
             };
         }
         let Ok(entry) = self.records[index].clone() else {
-            return Err(SourceFault::Memory);
+            return Err(ReadFault::Memory);
         };
         Ok(entry)
     }
@@ -164,7 +178,7 @@ pub(crate) fn verified_of(
     alloc: Global,
     records: &[Record],
     fails: usize,
-    fault: SourceFault,
+    fault: ReadFault,
 ) -> (Result<usize, VerifyFault>, Option<usize>) {
     let mut source = Given {
         records,
@@ -182,35 +196,35 @@ fn a_record_that_is_not_given_is_named(rt: HostRuntime) -> Result<(), Fail> {
     let log = Log::create(MemDisk::new(alloc)).ok().ok_or("not made")?;
     let (log, _) = recorded(&rt, log)?;
     let (log, lists) = open(alloc, log.close()).ok().ok_or("not opened")?;
-    let records = read_guest(alloc, &lists, &mut log.close(), 0)?;
+    let records = records_of(alloc, &lists, &mut log.close(), 0)?;
     let rows = [
-        (2, SourceFault::Damaged, Ok(2), None),
+        (2, ReadFault::Damaged, Ok(2), None),
         (
             0,
-            SourceFault::Damaged,
+            ReadFault::Damaged,
             Err(VerifyFault::Unreadable { index: 0 }),
             Some(0),
         ),
         (
             1,
-            SourceFault::Damaged,
+            ReadFault::Damaged,
             Err(VerifyFault::Unreadable { index: 1 }),
             Some(1),
         ),
         (
             1,
-            SourceFault::DeviceFailed,
+            ReadFault::DeviceFailed,
             Err(VerifyFault::Unreadable { index: 1 }),
             Some(1),
         ),
-        (0, SourceFault::Memory, Err(VerifyFault::Memory), None),
-        (1, SourceFault::Memory, Err(VerifyFault::Memory), None),
+        (0, ReadFault::Memory, Err(VerifyFault::Memory), None),
+        (1, ReadFault::Memory, Err(VerifyFault::Memory), None),
     ];
     for (fails, fault, want, withheld) in rows {
         let found = verified_of(alloc, &records, fails, fault);
         same(&rt, &(fails, fault), found, (want, withheld));
     }
-    let none = verified_of(alloc, &[], 0, SourceFault::Damaged);
+    let none = verified_of(alloc, &[], 0, ReadFault::Damaged);
     same(
         &rt,
         &"no records",

@@ -6,7 +6,7 @@ use commands::Refusal;
 use elf_load::ElfFault;
 use guest_calls::{SetPageFault, SetRestFault};
 use recover::{OpenFault, ReadFault};
-use replayer::{OutputFault, ReadGuestFault, VerifyFault};
+use replayer::{OutputFault, VerifyFault};
 use reverse_step::SeekFault;
 use serial_sched::{FollowFault, SliceFault};
 use session::SessionFault;
@@ -58,16 +58,16 @@ fn texts_of_refusals(rt: HostRuntime) -> Result<(), Fail> {
             (Refusal::from(OutputFault::SinkFailed), "output failed"),
             (Refusal::from(OutputFault::Memory), "out of memory"),
             (Refusal::Memory, "out of memory"),
-            (Refusal::DeviceFailed.of_trial(), "out of memory"),
+            (Refusal::DeviceFailed.in_memory(), "out of memory"),
             (
-                Refusal::from(SessionFault::SinkFailed { guest: 0 }).of_trial(),
-                "out of memory",
+                Refusal::from(SessionFault::SinkFailed { guest: 0 }).in_memory(),
+                "output failed",
             ),
             (
-                Refusal::from(SessionFault::Held { guest: 0 }).of_trial(),
+                Refusal::from(SessionFault::Held { guest: 0 }).in_memory(),
                 "guest 0: held",
             ),
-            (Refusal::StoreFull.of_trial(), "store full"),
+            (Refusal::StoreFull.in_memory(), "store full"),
         ],
     )
 }
@@ -120,9 +120,7 @@ fn refusals_of_a_read(rt: HostRuntime) -> Result<(), Fail> {
         (ReadFault::Memory, "out of memory"),
     ];
     for (fault, want) in faults {
-        let fault = ReadGuestFault::of_item(4, fault);
-        shows(&rt, &fault, want)?;
-        shows(&rt, &Refusal::from(fault), want)?;
+        shows(&rt, &Refusal::of_record(4, fault), want)?;
     }
     Ok(())
 }

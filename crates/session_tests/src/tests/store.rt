@@ -2,7 +2,7 @@
 
 use recorder::MemSink;
 use recover::{Lists, open};
-use replayer::{read_guest, verify};
+use replayer::verify;
 use rrv_model::machine::GuestEnd;
 use rrv_model::record::{End, Item, Record};
 use std::alloc::Global;
@@ -56,6 +56,20 @@ pub(super) struct Store {
     disk: MemDisk,
 }
 
+/// The records of a guest, read from the disk of its store.
+fn records_of<D: Disk>(
+    alloc: Global,
+    lists: &Lists,
+    disk: &mut D,
+    guest: u32,
+) -> Result<Vec<Record>, Fail> {
+    let mut records = Vec::new(alloc);
+    for index in 0..lists.len(guest) {
+        records.push(lists.item(alloc, disk, guest, index)?)?;
+    }
+    Ok(records)
+}
+
 impl Store {
     /// Opens a disk.
     pub(super) fn of(alloc: Global, disk: MemDisk) -> Result<Store, Fail> {
@@ -68,7 +82,7 @@ impl Store {
 
     /// The records of a guest.
     pub(super) fn records(&mut self, alloc: Global, guest: u32) -> Result<Vec<Record>, Fail> {
-        Ok(read_guest(alloc, &self.lists, &mut self.disk, guest)?)
+        records_of(alloc, &self.lists, &mut self.disk, guest)
     }
 
     /// How many guests it has.

@@ -1,4 +1,4 @@
-use Rattle.rrv_model.proofs.Results.{OnOk-from}
+use Rattle.outcomes.proofs.Results.{OnOk-from}
 use Rattle.serial_sched.proofs.following.follow_to_end.Goals as goal
 
 pub returns-in-Preempt-clause-puts : goal.returns-in-Preempt-clause-puts

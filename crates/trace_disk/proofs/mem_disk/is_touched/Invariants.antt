@@ -1,5 +1,5 @@
 use Rattle.std.proofs.Common.{◌↔◌, length}
-use Rattle.rrv_model.specs.CrashModel.{IsTouched}
+use Rattle.store_model.specs.CrashModel.{IsTouched}
 use Rattle.trace_disk.proofs.mem_disk.is_touched.Given as goal
 
 abbrev pub invariant-loop-rest : goal.invariant-loop-rest

@@ -1,5 +1,5 @@
 use Rattle.std.proofs.Common.{◌≡◌, ◌⊎◌, ◌<◌, ◌≤◌, ℕ, get_or}
-use Rattle.rrv_model.specs.CrashModel.{IsTouched}
+use Rattle.store_model.specs.CrashModel.{IsTouched}
 use Rattle.trace_disk.proofs.mem_disk.keep_untouched.Given as goal
 
 abbrev pub invariant-loop-place : goal.invariant-loop-place

@@ -3,7 +3,7 @@ use Rattle.rrv_model.specs.declared.record.Frame.{Frame}
 use Rattle.rrv_model.specs.Opening.{Opens}
 use Rattle.rrv_model.specs.StateAt.{StateAtFrom, total}
 use Rattle.guest_calls.specs.Guest.{GuestValue, chunks_of, state_of}
-use Rattle.rrv_model.proofs.Results.{OnErr-from}
+use Rattle.outcomes.proofs.Results.{OnErr-from}
 use Rattle.rrv_model.proofs.RunLaws.{at_total_first}
 use Rattle.replayer.specs.Puts.{PutsSoFar, chunks_by}
 use Rattle.replayer.proofs.Onward.{none_left, split_first}

@@ -1,5 +1,5 @@
 use Rattle.std.proofs.Common.{subst}
-use Rattle.replayer.specs.Refusals.{RefusesOpening}
+use Rattle.guest_calls.specs.Openings.{RefusesOpening}
 use Rattle.replayer.proofs.recording.Track.start.Goals as goal
 
 pub unreachable-requires : goal.unreachable-requires

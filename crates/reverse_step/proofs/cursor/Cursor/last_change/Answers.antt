@@ -1,5 +1,5 @@
 use Rattle.std.proofs.Common.{arith, ◌≡◌, ◌∙◌, Option, ℕ, ap, subst}
-use Rattle.rrv_model.proofs.Results.{OnErr-from}
+use Rattle.outcomes.proofs.Results.{OnErr-from}
 use Rattle.replayer.specs.Verified.{VerifiedValue}
 use Rattle.reverse_step.specs.Changes.{IsLastIn}
 use Rattle.reverse_step.specs.Cursors.{CursorValue}

@@ -1,6 +1,6 @@
 -- An empty body: the borrow is opened, and closed at another ghost value.
 use Rattle.trace_disk.proofs.Steps.{List, [], ◌∷◌, refl, proved, id⊢, ftrue, flft, named, Val, vunit, vptr, ‵, ◌⊛◌, ◌$◌, ◌∵◌, !, qed, done, move, keep, drop, use1, split, join, fsplit, fsplit3, fjoin, fjoin3, feq_i, suffices, frame, enter, of_opd, unit_lit, returns, alloc_all, pass_all, free_all, look_at, sets, owns, MutRef, mut_vals, mut_Tells, plain, nothing, opens, closes, says, Stays, stay_ref, walk_of, Goes-ref, ends_at}
-use Rattle.rrv_model.specs.DiskCalls.{after_sync}
+use Rattle.store_model.specs.DiskCalls.{after_sync}
 use Rattle.trace_disk.specs.declared.history.History.{History}
 use Rattle.trace_disk.specs.contracts.history.History.{the_row as R}
 use Rattle.trace_disk.specs.contracts.history.History.synced as f

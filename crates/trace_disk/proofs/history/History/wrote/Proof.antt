@@ -1,6 +1,6 @@
 -- An empty body: the borrow is opened, and closed at another ghost value.
 use Rattle.trace_disk.proofs.Steps.{List, [], ◌∷◌, refl, length, proved, id⊢, ftrue, flft, named, w64, Val, vunit, vptr, ‵, ◌⊛◌, ◌$◌, ◌∵◌, !, qed, done, move, keep, drop, use1, split, join, fsplit, fsplit3, fjoin, fjoin3, feq_i, suffices, frame, enter, of_opd, unit_lit, returns, alloc_all, pass_all, free_all, look_at, sets, u8, usize, yes, uint_vals, uint_Tells, owns, MutRef, mut_vals, mut_Tells, plain, ShrSlice, slice_val, shr_slice_vals, shr_slice_Tells, nothing, opens, closes, says, Stays, stay_ref, stay_dropped, stay_none_slice, walk_of, Goes-ref, Goes-dropped, Goes-none_slice, ends_at}
-use Rattle.rrv_model.specs.DiskCalls.{after_write}
+use Rattle.store_model.specs.DiskCalls.{after_write}
 use Rattle.trace_disk.specs.declared.history.History.{History}
 use Rattle.trace_disk.specs.contracts.history.History.{the_row as R}
 use Rattle.trace_disk.specs.contracts.history.History.wrote as f

@@ -1,5 +1,5 @@
 use Rattle.std.proofs.Common.{subst, sym}
-use Rattle.rrv_model.specs.CrashModel.{DiskState, IsCrash}
+use Rattle.store_model.specs.CrashModel.{DiskState, IsCrash}
 use Rattle.trace_disk.proofs.MayLeave.{reads_write}
 use Rattle.trace_disk.proofs.mem_disk.MemDisk.try_write.Goals as goal
 
