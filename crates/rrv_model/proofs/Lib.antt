@@ -4,8 +4,9 @@ pub mod InstructionLaws
 pub mod FrameLaws
 pub mod FrameStays
 pub mod Examples
-pub mod TextSizes
+pub mod RecordGrammars
 pub mod TextLaws
+pub mod TextSizes
 pub mod OpeningFacts
 pub mod Decoding
 pub mod CallExamples

@@ -17,4 +17,5 @@ pub mod Checkpoint
 pub mod Recording
 pub mod Standing
 pub mod RecordText
+pub mod RecordGrammar
 pub mod Recovered
