@@ -35,7 +35,8 @@ holds xs fits bytes = all_both MayBe HasBytes xs (AllByRecursion-weaker Fits May
 
 -- ---- parts that fit describe a state
 
-pub describes : (base : State) (parts : List Part) (rest : CheckpointRest) → EndsWithRest parts rest → PartsFit 0 parts → HaveBytes parts → MakesState rest base
+pub describes : (base : State) (parts : List Part) (rest : CheckpointRest) → EndsWithRest parts rest → PartsFit 0 parts → HaveBytes parts →
+    MakesState rest base
     → DescribesWithoutLimit base parts (described_state base (all_pages parts) rest)
 describes base parts rest ends fit bytes makes =
     let fits = each_fits 0 (all_pages parts) (pages_of_parts 0 parts fit) in
@@ -47,7 +48,8 @@ describes base parts rest ends fit bytes makes =
       pages = All-from_recursion IsPagePart (all_pages parts) (AllByRecursion-weaker Fits IsPagePart (all_pages parts) (λ p h. h.0) fits);
       tids_rising = makes.tids_rising;
       is_state = record {
-        memory = is_paged (all_pages parts) base.memory (holds (all_pages parts) fits (bytes_of_parts parts bytes)) makes.is_state.rules.memory;
+        memory = is_paged (all_pages parts) base.memory (holds (all_pages parts) fits (bytes_of_parts parts bytes))
+            makes.is_state.rules.memory;
         threads = makes.is_state.rules.threads;
         opening = makes.is_state.rules.opening;
         breaks = makes.is_state.rules.breaks;
@@ -58,17 +60,21 @@ describes base parts rest ends fit bytes makes =
     }
 
 -- what the passes over the pages leave is that state
-left_is : (base : State) (parts : List Part) (rest : CheckpointRest) → PartsFit 0 parts → with_parts_set parts (with_parts_cleared parts (with_rest rest base)) ≡ described_state base (all_pages parts) rest
+left_is : (base : State) (parts : List Part) (rest : CheckpointRest) → PartsFit 0 parts →
+    with_parts_set parts (with_parts_cleared parts (with_rest rest base)) ≡ described_state base (all_pages parts) rest
 left_is base parts rest fit = patched_by parts (with_rest rest base) (pages_of_parts 0 parts fit)
 
-pub applied : (base now : State) (parts : List Part) (rest : CheckpointRest) → EndsWithRest parts rest → PartsFit 0 parts → HaveBytes parts → MakesState rest base
+pub applied : (base now : State) (parts : List Part) (rest : CheckpointRest) → EndsWithRest parts rest → PartsFit 0 parts →
+    HaveBytes parts → MakesState rest base
     → now ≡ with_parts_set parts (with_parts_cleared parts (with_rest rest base)) → IsMemory now.memory → Describes base parts now
 applied base now parts rest ends fit bytes makes is memory = record {
-  describes = subst (DescribesWithoutLimit base parts) (sym (is ∙ left_is base parts rest fit)) (describes base parts rest ends fit bytes makes);
+  describes = subst (DescribesWithoutLimit base parts) (sym (is ∙ left_is base parts rest fit))
+      (describes base parts rest ends fit bytes makes);
   limit = memory.limit;
 }
 
-pub refused_pages : (fault : ApplyFault) (base : State) (parts : List Part) (rest : CheckpointRest) → EndsWithRest parts rest → PartsFit 0 parts → HaveBytes parts → MakesState rest base
+pub refused_pages : (fault : ApplyFault) (base : State) (parts : List Part) (rest : CheckpointRest) → EndsWithRest parts rest →
+    PartsFit 0 parts → HaveBytes parts → MakesState rest base
     → RefusesPages fault (with_parts_set parts (with_parts_cleared parts (with_rest rest base))).memory → RefusesApply base parts fault
 refused_pages faults.BadPart base parts rest ends fit bytes makes h = absurd h
 refused_pages faults.TooManyPages base parts rest ends fit bytes makes h = (
@@ -76,7 +82,8 @@ refused_pages faults.TooManyPages base parts rest ends fit bytes makes h = (
   describes base parts rest ends fit bytes makes,
   subst (λ (s : State). MAX_PAGES < page_count s.memory) (left_is base parts rest fit) h,
 )
-refused_pages faults.Memory base parts rest ends fit bytes makes h = (described_state base (all_pages parts) rest, describes base parts rest ends fit bytes makes)
+refused_pages faults.Memory base parts rest ends fit bytes makes h =
+    (described_state base (all_pages parts) rest, describes base parts rest ends fit bytes makes)
 
 -- ---- others describe none
 
@@ -93,19 +100,29 @@ ends_once [] r q h k = absurd h
 ends_once (p ∷ []) r q h k = cc
 ends_once (p ∷ next ∷ parts) r q h k = ends_once (next ∷ parts) r q h.1 k.1
 
-makes_state : (base s : State) (parts : List Part) (rest : CheckpointRest) → EndsWithRest parts rest → IsMemory base.memory → DescribesWithoutLimit base parts s → MakesState rest base
+makes_state : (base s : State) (parts : List Part) (rest : CheckpointRest) → EndsWithRest parts rest → IsMemory base.memory →
+    DescribesWithoutLimit base parts s → MakesState rest base
 makes_state base s parts rest ends memory d =
     let is : s ≡ described_state base (all_pages parts) d.rest = d.state_is in
     let same : d.rest ≡ rest = ends_once parts d.rest rest d.flagged ends in
     subst (λ r. MakesState r base) same (record {
       tids_rising = d.tids_rising;
       is_state = (let state = subst (λ (x : State). IsStateWithoutLimit x) is d.is_state in record {
-        rules = record { memory = memory.pages; threads = state.threads; opening = state.opening; breaks = state.breaks; reservation = tt; ended = tt };
+        rules = record {
+          memory = memory.pages;
+          threads = state.threads;
+          opening = state.opening;
+          breaks = state.breaks;
+          reservation = tt;
+          ended = tt;
+        };
         limit = memory.limit;
       });
     })
 
-pub refused_rest : (fault : SetRestFault) (base : State) (parts : List Part) (rest : CheckpointRest) → EndsWithRest parts rest → PartsFit 0 parts → HaveBytes parts → IsMemory base.memory
+pub refused_rest : (fault : SetRestFault) (base : State) (parts : List Part) (rest : CheckpointRest) → EndsWithRest parts rest →
+    PartsFit 0 parts → HaveBytes parts → IsMemory base.memory
     → IsSetRestRefusal fault rest base → RefusesApply base parts (apply_told fault)
 refused_rest rest_faults.NoState base parts rest ends fit bytes memory h = λ s d. h (makes_state base s parts rest ends memory d)
-refused_rest rest_faults.Memory base parts rest ends fit bytes memory h = (described_state base (all_pages parts) rest, describes base parts rest ends fit bytes h)
+refused_rest rest_faults.Memory base parts rest ends fit bytes memory h =
+    (described_state base (all_pages parts) rest, describes base parts rest ends fit bytes h)

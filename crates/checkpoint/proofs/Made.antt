@@ -27,12 +27,15 @@ kept_is : (o : Option Memory) (P : Memory → Type 0) → IsSomeAnd o P → P (m
 kept_is None P h = absurd h
 kept_is (Some m) P h = h
 
-pub page_here : (s space : SpaceValue) (n : ℕ) (o p : Option PageView) → s ≡ space → o ≡ p → IsPageOf (memory_of s) n o → IsPageOf (memory_of space) n p
+pub page_here : (s space : SpaceValue) (n : ℕ) (o p : Option PageView) → s ≡ space → o ≡ p → IsPageOf (memory_of s) n o →
+    IsPageOf (memory_of space) n p
 page_here s space n o p same is h = subst (λ (t : SpaceValue). IsPageOf (memory_of t) n p) same (subst (IsPageOf (memory_of s) n) is h)
 
 -- what holds of the memory that is kept under a token
-pub of_kept : (s space : SpaceValue) (token : ℕ) (P : Memory → Type 0) → s ≡ space → IsSomeAnd (snapshots_of s token) P → P (memory_or_none (snapshots_of space token))
-of_kept s space token P same h = kept_is (snapshots_of space token) P (subst (λ (t : SpaceValue). IsSomeAnd (snapshots_of t token) P) same h)
+pub of_kept : (s space : SpaceValue) (token : ℕ) (P : Memory → Type 0) → s ≡ space → IsSomeAnd (snapshots_of s token) P →
+    P (memory_or_none (snapshots_of space token))
+of_kept s space token P same h =
+    kept_is (snapshots_of space token) P (subst (λ (t : SpaceValue). IsSomeAnd (snapshots_of t token) P) same h)
 
 -- ---- lines of a mask
 
@@ -58,7 +61,8 @@ no_lines bytes mask lines none = record {
   texts = subst (AllByRecursion HasLineText) (sym none) tt;
 }
 
-pub line_more : (bytes : List ℕ) (mask line : ℕ) (lines : List Line) (l : Line) → AreLinesBelow bytes mask line lines → bit_at mask line ≡ 1 → IsLineOf bytes line l → HasLineText l →
+pub line_more : (bytes : List ℕ) (mask line : ℕ) (lines : List Line) (l : Line) → AreLinesBelow bytes mask line lines →
+    bit_at mask line ≡ 1 → IsLineOf bytes line l → HasLineText l →
     AreLinesBelow bytes mask (line + 1) (lines ++ l ∷ [])
 line_more bytes mask line lines l h set is text =
     let long = length-append lines (l ∷ []) in
@@ -69,19 +73,22 @@ line_more bytes mask line lines l h set is text =
             let n = count_ones (mask % 2 ^ i) in
             let within : n < length lines = omega (arith, ones_before mask i line before bit, h.count) in
             let within_all : n < length (lines ++ l ∷ []) = omega (arith, within, long) in
-            sym (line_byte_is mask (lines ++ l ∷ []) i k n l refl within_all) ∙ ap (λ (x : Line). slice_index x.bytes k) (at_front lines l n within)
+            sym (line_byte_is mask (lines ++ l ∷ []) i k n l refl within_all)
+            ∙ ap (λ (x : Line). slice_index x.bytes k) (at_front lines l n within)
             ∙ line_byte_is mask lines i k n l refl within ∙ h.each i k before below bit
         | inr after ↦
             let same : line ≡ i = omega (arith, low, after) in
             let within_all : length lines < length (lines ++ l ∷ []) = omega (arith, long) in
             let here : length lines ≡ count_ones (mask % 2 ^ i) = h.count ∙ ap (λ n. count_ones (mask % 2 ^ n)) same in
-            sym (line_byte_is mask (lines ++ l ∷ []) i k (length lines) l here within_all) ∙ ap (λ (x : Line). slice_index x.bytes k) (at_end lines l)
+            sym (line_byte_is mask (lines ++ l ∷ []) i k (length lines) l here within_all)
+            ∙ ap (λ (x : Line). slice_index x.bytes k) (at_end lines l)
             ∙ is k below ∙ ap (λ n. slice_index bytes (64 * n + k)) same
       ];
       texts = AllByRecursion-push HasLineText lines l h.texts text;
     }
 
-pub line_skipped : (bytes : List ℕ) (mask line : ℕ) (lines : List Line) → AreLinesBelow bytes mask line lines → (bit_at mask line ≡ 1 → ⊥) → AreLinesBelow bytes mask (line + 1) lines
+pub line_skipped : (bytes : List ℕ) (mask line : ℕ) (lines : List Line) → AreLinesBelow bytes mask line lines → (bit_at mask line ≡ 1 → ⊥) →
+    AreLinesBelow bytes mask (line + 1) lines
 line_skipped bytes mask line lines h clear = record {
   count = elim (cases_lt (bit_at mask line) 1) [
     | inl l ↦ omega (arith, ones_more mask line, h.count, l)
@@ -94,19 +101,31 @@ line_skipped bytes mask line lines h clear = record {
   texts = h.texts;
 }
 
-pub all_lines : (bytes : List ℕ) (mask : ℕ) (lines : List Line) → mask < 2 ^ 64 → AreLinesBelow bytes mask 64 lines → AreLinesOf bytes mask lines
+pub all_lines : (bytes : List ℕ) (mask : ℕ) (lines : List Line) → mask < 2 ^ 64 → AreLinesBelow bytes mask 64 lines →
+    AreLinesOf bytes mask lines
 all_lines bytes mask lines fits h = record { count = h.count ∙ all_ones mask fits; each = h.each }
 
 -- ---- a mask by other bytes that are the same
 
-pub mask_by : (a b c d : ℕ → ℕ) (mask : ℕ) → ((k : ℕ) → k < 4096 → c k ≡ a k) → ((k : ℕ) → k < 4096 → d k ≡ b k) → IsLineMask a b mask → IsLineMask c d mask
+pub mask_by : (a b c d : ℕ → ℕ) (mask : ℕ) → ((k : ℕ) → k < 4096 → c k ≡ a k) → ((k : ℕ) → k < 4096 → d k ≡ b k) → IsLineMask a b mask →
+    IsLineMask c d mask
 mask_by a b c d mask first second is = record {
   bits = is.bits;
   set = λ i low. (
-    λ e. let found = (is.set i low).0 e in
-        (found.0, found.1, λ same. found.2 (sym (first (64 * i + found.0) (omega (arith, low, found.1))) ∙ same ∙ second (64 * i + found.0) (omega (arith, low, found.1)))),
-    λ found. (is.set i low).1
-        (found.0, found.1, λ same. found.2 (first (64 * i + found.0) (omega (arith, low, found.1)) ∙ same ∙ sym (second (64 * i + found.0) (omega (arith, low, found.1))))),
+    λ e. let found = (is.set i low).0 e in (
+      found.0,
+      found.1,
+      λ same. found.2
+          (sym (first (64 * i + found.0) (omega (arith, low, found.1))) ∙ same
+          ∙ second (64 * i + found.0) (omega (arith, low, found.1))),
+    ),
+    λ found. (is.set i low).1 (
+      found.0,
+      found.1,
+      λ same. found.2
+          (first (64 * i + found.0) (omega (arith, low, found.1)) ∙ same
+          ∙ sym (second (64 * i + found.0) (omega (arith, low, found.1)))),
+    ),
   );
 }
 
@@ -122,7 +141,8 @@ same_where_clear a b mask k is low clear = elim (eqb_tells (b k) (a k)) [
 ]
 
 -- so the lines, put onto the base's bytes, give the page's
-merged_is : (bytes : List ℕ) (b : ℕ → ℕ) (mask : ℕ) (lines : List Line) (k : ℕ) → IsLineMask (slice_index bytes) b mask → AreLinesOf bytes mask lines → k < 4096 →
+merged_is : (bytes : List ℕ) (b : ℕ → ℕ) (mask : ℕ) (lines : List Line) (k : ℕ) → IsLineMask (slice_index bytes) b mask →
+    AreLinesOf bytes mask lines → k < 4096 →
     merged_byte mask lines (b k) k ≡ slice_index bytes k
 merged_is bytes b mask lines k is are low = elim (cases_lt (bit_at mask (k / 64)) 1) [
   | inl l ↦
@@ -143,7 +163,8 @@ old_byte before n k (Some v) page low = ap byte_or_zero (page k low)
 first_cell : (m : Memory) (n : ℕ) → m (n * page_bytes) ≡ m (n * page_bytes + 0)
 first_cell m n = let start : n * page_bytes ≡ n * page_bytes + 0 = omega arith in ap m start
 
-pub made_mapped : (before m : Memory) (n : ℕ) (v : PageView) (old : Option PageView) (mask : ℕ) (lines : List Line) → n < 0x80000 → IsPageOf m n (Some v) → IsPageOf before n old →
+pub made_mapped : (before m : Memory) (n : ℕ) (v : PageView) (old : Option PageView) (mask : ℕ) (lines : List Line) → n < 0x80000 →
+    IsPageOf m n (Some v) → IsPageOf before n old →
     IsLineMask (slice_index v.bytes.now) (bytes_of old) mask → AreLinesOf v.bytes.now mask lines → AllByRecursion HasLineText lines →
     IsMade before m (record { number = n; permissions = Some v.permissions; mask = mask; lines = lines })
 made_mapped before m n v old mask lines low page was is are texts =
@@ -152,9 +173,11 @@ made_mapped before m n v old mask lines low page was is are texts =
     let c : Cell = record { byte = slice_index bytes 0; permissions = v.permissions } in
     let first : m (n * page_bytes) ≡ Some c = first_cell m n ∙ page 0 (omega arith) in
     let here : IsLineMask (page_byte m n) (page_byte before n) mask =
-    mask_by (slice_index bytes) (bytes_of old) (page_byte m n) (page_byte before n) mask (λ k small. ap byte_or_zero (page k small)) (λ k small. old_byte before n k old was small) is in
+    mask_by (slice_index bytes) (bytes_of old) (page_byte m n) (page_byte before n) mask (λ k small. ap byte_or_zero (page k small))
+    (λ k small. old_byte before n k old was small) is in
     let against : IsLineMask (slice_index bytes) (page_byte before n) mask =
-    mask_by (slice_index bytes) (bytes_of old) (slice_index bytes) (page_byte before n) mask (λ k small. refl) (λ k small. old_byte before n k old was small) is in
+    mask_by (slice_index bytes) (bytes_of old) (slice_index bytes) (page_byte before n) mask (λ k small. refl)
+    (λ k small. old_byte before n k old was small) is in
     record {
       text = record { number = low; mask = is.bits; unmapped = λ none. absurd cc; lines = are.count; each = texts };
       change = record {
@@ -164,7 +187,8 @@ made_mapped before m n v old mask lines low page was is are texts =
       says = λ a at.
           let place : n * 4096 + a % 4096 ≡ a = omega (arith, at) in
           let byte : patched_byte p (before a) (a % 4096) ≡ slice_index bytes (a % 4096) =
-          ap (λ x. merged_byte mask lines (byte_or_zero (before x)) (a % 4096)) (sym place) ∙ merged_is bytes (page_byte before n) mask lines (a % 4096) against are (omega arith) in
+          ap (λ x. merged_byte mask lines (byte_or_zero (before x)) (a % 4096)) (sym place)
+          ∙ merged_is bytes (page_byte before n) mask lines (a % 4096) against are (omega arith) in
           ap (mapped_as (Some v.permissions)) byte ∙ sym (page (a % 4096) (omega arith)) ∙ ap m place;
     }
 
@@ -191,16 +215,19 @@ none_from : (before : Memory) (next : Option ℕ) (n : ℕ) → IsNextPage befor
 none_from before None n h high = h n high
 none_from before (Some q) n h high = absurd (omega (arith, h.0, h.1))
 
-no_cell : (before : Memory) (n k : ℕ) (old : Option PageView) → IsPageOf before n old → is_mapped before n ≡ false → k < 4096 → before (n * page_bytes + k) ≡ None
+no_cell : (before : Memory) (n k : ℕ) (old : Option PageView) → IsPageOf before n old → is_mapped before n ≡ false → k < 4096 →
+    before (n * page_bytes + k) ≡ None
 no_cell before n k None page out low = page k low
 no_cell before n k (Some v) page out low = absurd (false≢true (sym out ∙ ap is_some (first_cell before n ∙ page 0 (omega arith))))
 
-pub low_page : (before m : Memory) (n : ℕ) (old : Option PageView) (next : Option ℕ) → IsMemory m → IsPageOf before n old → IsNextPage before 0x80000 next → DifferOn n before m → n < 0x80000
+pub low_page : (before m : Memory) (n : ℕ) (old : Option PageView) (next : Option ℕ) → IsMemory m → IsPageOf before n old →
+    IsNextPage before 0x80000 next → DifferOn n before m → n < 0x80000
 low_page before m n old next is page is_next differ = elim (cases_lt n 0x80000) [
   | inl l ↦ l
   | inr g ↦
       let a = differ.0 in
       let place : n * 4096 + a % 4096 ≡ a = omega (arith, differ.1) in
-      let was : before a ≡ None = ap before (sym place) ∙ no_cell before n (a % 4096) old page (none_from before next n is_next g) (omega arith) in
+      let was : before a ≡ None =
+      ap before (sym place) ∙ no_cell before n (a % 4096) old page (none_from before next n is_next g) (omega arith) in
       absurd (differ.2 (was ∙ sym (is.pages.high a (omega (arith, g, differ.1)))))
 ]

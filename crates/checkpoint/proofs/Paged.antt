@@ -14,12 +14,14 @@ use Rattle.checkpoint.specs.Fitting.{HasBytes, IsLine, MayBe}
 
 -- ---- entries
 
-entry_has : (Q : PagePart → Type 0) (page : ℕ) (pages : List PagePart) → AllByRecursion Q pages → IfSome (entry_of page pages) (λ p. (p.number ≡ page) × Q p)
+entry_has : (Q : PagePart → Type 0) (page : ℕ) (pages : List PagePart) → AllByRecursion Q pages →
+    IfSome (entry_of page pages) (λ p. (p.number ≡ page) × Q p)
 unfolding entry_of
 entry_has Q page [] all = tt
 entry_has Q page (q ∷ pages) all = elim (eqb_tells q.number page) [
   | inl w ↦ subst (λ b. IfSome (cond b (Some q) (entry_of page pages)) (λ p. (p.number ≡ page) × Q p)) (sym w.0) (w.1, all.0)
-  | inr w ↦ subst (λ b. IfSome (cond b (Some q) (entry_of page pages)) (λ p. (p.number ≡ page) × Q p)) (sym w.0) (entry_has Q page pages all.1)
+  | inr w ↦ subst (λ b. IfSome (cond b (Some q) (entry_of page pages)) (λ p. (p.number ≡ page) × Q p)) (sym w.0)
+      (entry_has Q page pages all.1)
 ]
 
 -- what permissions a page n may have
@@ -73,28 +75,35 @@ old_small None h = omega arith
 old_small (Some c) h = h.0
 
 byte_small : (p : PagePart) (c : Option Cell) (k : ℕ) → HasBytes p → FitsCell c → patched_byte p c k < 256
-byte_small p c k has fits = cond_small (bit_at p.mask (k / 64) == 1) (line_byte p.mask p.lines (k / 64) (k % 64)) (byte_or_zero c) (line_small p (k / 64) (k % 64) has) (old_small c fits)
+byte_small p c k has fits =
+    cond_small (bit_at p.mask (k / 64) == 1) (line_byte p.mask p.lines (k / 64) (k % 64)) (byte_or_zero c)
+    (line_small p (k / 64) (k % 64) has) (old_small c fits)
 
 -- ---- the memory
 
 abbrev pub Holds : PagePart → Type 0
 Holds p = MayBe p × HasBytes p
 
-low_cell : (o : Option PagePart) (c : Option Cell) (a : ℕ) → IfSome o (λ p. (p.number ≡ a / page_bytes) × Holds p) → a < 0x1000 → c ≡ None → patched_cell o c a ≡ None
+low_cell : (o : Option PagePart) (c : Option Cell) (a : ℕ) → IfSome o (λ p. (p.number ≡ a / page_bytes) × Holds p) → a < 0x1000 → c ≡ None →
+    patched_cell o c a ≡ None
 low_cell None c a h low e = e
 low_cell (Some p) c a h low e = let n = h.0 in outside_low p.number p.permissions (patched_byte p c (a % page_bytes)) h.1.0 (omega arith)
 
-high_cell : (o : Option PagePart) (c : Option Cell) (a : ℕ) → IfSome o (λ p. (p.number ≡ a / page_bytes) × Holds p) → 0x80000000 ≤ a → c ≡ None → patched_cell o c a ≡ None
+high_cell : (o : Option PagePart) (c : Option Cell) (a : ℕ) → IfSome o (λ p. (p.number ≡ a / page_bytes) × Holds p) → 0x80000000 ≤ a →
+    c ≡ None → patched_cell o c a ≡ None
 high_cell None c a h high e = e
 high_cell (Some p) c a h high e = let n = h.0 in outside_high p.number p.permissions (patched_byte p c (a % page_bytes)) h.1.0 (omega arith)
 
-fits_cell : (o : Option PagePart) (c : Option Cell) (a : ℕ) → IfSome o (λ p. (p.number ≡ a / page_bytes) × Holds p) → FitsCell c → FitsCell (patched_cell o c a)
+fits_cell : (o : Option PagePart) (c : Option Cell) (a : ℕ) → IfSome o (λ p. (p.number ≡ a / page_bytes) × Holds p) → FitsCell c →
+    FitsCell (patched_cell o c a)
 fits_cell None c a h fits = fits
-fits_cell (Some p) c a h fits = fits_mapped p.number p.permissions (patched_byte p c (a % page_bytes)) h.1.0 (byte_small p c (a % page_bytes) h.1.1 fits)
+fits_cell (Some p) c a h fits =
+    fits_mapped p.number p.permissions (patched_byte p c (a % page_bytes)) h.1.0 (byte_small p c (a % page_bytes) h.1.1 fits)
 
 pub is_paged : (pages : List PagePart) (m : Memory) → AllByRecursion Holds pages → IsPaged m → IsPaged (patched pages m)
 is_paged pages m all h = record {
-  paged = λ a b e. subst (λ n. AlikeCells (patched pages m a) (patched_cell (entry_of n pages) (m b) b)) e (alike_patched (entry_of (a / page_bytes) pages) (m a) (m b) a b (h.paged a b e));
+  paged = λ a b e. subst (λ n. AlikeCells (patched pages m a) (patched_cell (entry_of n pages) (m b) b)) e
+      (alike_patched (entry_of (a / page_bytes) pages) (m a) (m b) a b (h.paged a b e));
   low = λ a low. low_cell (entry_of (a / page_bytes) pages) (m a) a (entry_has Holds (a / page_bytes) pages all) low (h.low a low);
   high = λ a high. high_cell (entry_of (a / page_bytes) pages) (m a) a (entry_has Holds (a / page_bytes) pages all) high (h.high a high);
   cells = λ a. fits_cell (entry_of (a / page_bytes) pages) (m a) a (entry_has Holds (a / page_bytes) pages all) (h.cells a);
@@ -121,16 +130,19 @@ may_of f n (Some r) b e h = (
   (subst FitsCell e (h.cells (n * page_bytes))).1,
 )
 
-pub all_may_be : (least : ℕ) (pages : List PagePart) (m f : Memory) → RiseFrom least pages → ((a : ℕ) → least ≤ a / page_bytes → f a ≡ patched pages m a) → IsPaged f → AllByRecursion MayBe pages
+pub all_may_be : (least : ℕ) (pages : List PagePart) (m f : Memory) → RiseFrom least pages →
+    ((a : ℕ) → least ≤ a / page_bytes → f a ≡ patched pages m a) → IsPaged f → AllByRecursion MayBe pages
 unfolding entry_of
 all_may_be least [] m f rise same h = tt
 all_may_be least (p ∷ pages) m f rise same h =
     let here : p.number * page_bytes / page_bytes ≡ p.number = omega arith in
     let a = p.number * page_bytes in (
       may_of f p.number p.permissions (patched_byte p (m a) (a % page_bytes))
-          (same a (let low = rise.0 in omega arith) ∙ ap (λ (o : Option PagePart). patched_cell o (m a) a) (first (a / page_bytes) (sym here))) h,
+          (same a (let low = rise.0 in omega arith)
+          ∙ ap (λ (o : Option PagePart). patched_cell o (m a) a) (first (a / page_bytes) (sym here))) h,
       all_may_be (p.number + 1) pages m f rise.1
-          (λ x low. same x (let from = rise.0 in omega arith) ∙ ap (λ (o : Option PagePart). patched_cell o (m x) x) (behind (x / page_bytes) (omega arith))) h,
+          (λ x low. same x (let from = rise.0 in omega arith)
+          ∙ ap (λ (o : Option PagePart). patched_cell o (m x) x) (behind (x / page_bytes) (omega arith))) h,
     )
   where
     first : (n : ℕ) → p.number ≡ n → entry_of n (p ∷ pages) ≡ Some p

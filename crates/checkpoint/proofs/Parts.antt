@@ -37,18 +37,24 @@ parts_of_pages least (part ∷ parts) few fit =
     let both = (fit_append least part.pages (all_pages parts)).0 fit in
     (few.0, both.0, parts_of_pages (next_number least part.pages) parts few.1 both.1)
 
-pub bytes_of_parts : (parts : List Part) → AllByRecursion (λ part. AllByRecursion HasBytes part.pages) parts → AllByRecursion HasBytes (all_pages parts)
+pub bytes_of_parts : (parts : List Part) → AllByRecursion (λ part. AllByRecursion HasBytes part.pages) parts →
+    AllByRecursion HasBytes (all_pages parts)
 bytes_of_parts [] h = tt
 bytes_of_parts (part ∷ parts) h = AllByRecursion-append HasBytes part.pages (all_pages parts) h.0 (bytes_of_parts parts h.1)
 
 -- ---- numbers that rise
 
-pub rise_from : (least : ℕ) (pages : List PagePart) → IsStrictlyIncreasing (map (λ p. p.number) pages) → ((p : PagePart) (rest : List PagePart) → pages ≡ p ∷ rest → least ≤ p.number) → RiseFrom least pages
+pub rise_from : (least : ℕ) (pages : List PagePart) → IsStrictlyIncreasing (map (λ p. p.number) pages) →
+    ((p : PagePart) (rest : List PagePart) → pages ≡ p ∷ rest → least ≤ p.number) → RiseFrom least pages
 rise_from least [] up low = tt
 rise_from least (p ∷ []) up low = (low p [] refl, tt)
 rise_from least (p ∷ q ∷ pages) up low = (
   low p (q ∷ pages) refl,
-  rise_from (p.number + 1) (q ∷ pages) (λ k below. let e : suc k + 1 ≡ suc (k + 1) = omega arith in subst (λ n. slice_index (map (λ p. p.number) (p ∷ q ∷ pages)) (suc k) < slice_index (map (λ p. p.number) (p ∷ q ∷ pages)) n) e (up (suc k) (omega arith))) (λ r rest e. let first : p.number < q.number = up zero (omega arith) in let same : q.number ≡ r.number = cc in omega arith),
+  rise_from (p.number + 1) (q ∷ pages)
+      (λ k below. let e : suc k + 1 ≡ suc (k + 1) = omega arith in
+      subst (λ n. slice_index (map (λ p. p.number) (p ∷ q ∷ pages)) (suc k) < slice_index (map (λ p. p.number) (p ∷ q ∷ pages)) n) e
+      (up (suc k) (omega arith)))
+      (λ r rest e. let first : p.number < q.number = up zero (omega arith) in let same : q.number ≡ r.number = cc in omega arith),
 )
 
 pub fit_of : (least : ℕ) (pages : List PagePart) → RiseFrom least pages → AllByRecursion Fits pages → AreFit least pages
@@ -65,7 +71,8 @@ increasing least (p ∷ []) h k below = absurd (omega arith)
 increasing least (p ∷ q ∷ pages) h zero below = let next = h.2.0 in omega arith
 increasing least (p ∷ q ∷ pages) h (suc k) below =
     let e : suc (k + 1) ≡ suc k + 1 = omega arith in
-    subst (λ n. slice_index (map (λ p. p.number) (p ∷ q ∷ pages)) (suc k) < slice_index (map (λ p. p.number) (p ∷ q ∷ pages)) n) e (increasing (p.number + 1) (q ∷ pages) h.2 k (omega arith))
+    subst (λ n. slice_index (map (λ p. p.number) (p ∷ q ∷ pages)) (suc k) < slice_index (map (λ p. p.number) (p ∷ q ∷ pages)) n) e
+    (increasing (p.number + 1) (q ∷ pages) h.2 k (omega arith))
 
 pub each_part_fits : (least : ℕ) (parts : List Part) → PartsFit least parts → AllByRecursion (λ part. AllByRecursion Fits part.pages) parts
 each_part_fits least [] h = tt

@@ -62,13 +62,15 @@ other_page p a low = elim (eqb_tells p.number (a / page_bytes)) [
   | inr w ↦ w.0
 ]
 
-all_set_above : (least : ℕ) (pages : List PagePart) (m : Memory) (a : ℕ) → AreFit least pages → a / page_bytes < least → all_set pages m a ≡ m a
+all_set_above : (least : ℕ) (pages : List PagePart) (m : Memory) (a : ℕ) → AreFit least pages → a / page_bytes < least →
+    all_set pages m a ≡ m a
 all_set_above least [] m a fit low = refl
 all_set_above least (p ∷ pages) m a fit low =
     let first = fit.0 in
     all_set_above (p.number + 1) pages (set p m) a fit.2 (omega arith) ∙ set_elsewhere p m a (other_page p a (omega arith))
 
-all_cleared_above : (least : ℕ) (pages : List PagePart) (m : Memory) (a : ℕ) → AreFit least pages → a / page_bytes < least → all_cleared pages m a ≡ m a
+all_cleared_above : (least : ℕ) (pages : List PagePart) (m : Memory) (a : ℕ) → AreFit least pages → a / page_bytes < least →
+    all_cleared pages m a ≡ m a
 all_cleared_above least [] m a fit low = refl
 all_cleared_above least (p ∷ pages) m a fit low =
     let first = fit.0 in
@@ -76,17 +78,20 @@ all_cleared_above least (p ∷ pages) m a fit low =
 
 -- ---- the whole
 
-in_both_ways : (p : PagePart) (q : Option Permissions) (old : Option Cell) (a : ℕ) → p.permissions ≡ q → patched_cell (Some p) old a ≡ set_cell p q (cleared_cell q old) a
+in_both_ways : (p : PagePart) (q : Option Permissions) (old : Option Cell) (a : ℕ) → p.permissions ≡ q →
+    patched_cell (Some p) old a ≡ set_cell p q (cleared_cell q old) a
 in_both_ways p None old a e = ap (λ q. mapped_as q (patched_byte p old (a % page_bytes))) e
 in_both_ways p (Some permissions) old a e = ap (λ q. mapped_as q (patched_byte p old (a % page_bytes))) e
 
-pub patched_is : (least : ℕ) (pages : List PagePart) (m : Memory) (a : ℕ) → AreFit least pages → patched pages m a ≡ all_set pages (all_cleared pages m) a
+pub patched_is : (least : ℕ) (pages : List PagePart) (m : Memory) (a : ℕ) → AreFit least pages →
+    patched pages m a ≡ all_set pages (all_cleared pages m) a
 unfolding entry_of
 patched_is least [] m a fit = refl
 patched_is least (p ∷ pages) m a fit = elim (eqb_tells p.number (a / page_bytes)) [
   | inl w ↦
       let low : a / page_bytes < p.number + 1 = omega (arith, w.1) in
-      let clear : all_cleared pages (cleared p m) a ≡ cleared_cell p.permissions (m a) = all_cleared_above (p.number + 1) pages (cleared p m) a fit.2 low ∙ cleared_here p m a w.0 in
+      let clear : all_cleared pages (cleared p m) a ≡ cleared_cell p.permissions (m a) =
+      all_cleared_above (p.number + 1) pages (cleared p m) a fit.2 low ∙ cleared_here p m a w.0 in
       ap (λ b. patched_cell (cond b (Some p) (entry_of (a / page_bytes) pages)) (m a) a) w.0
       ∙ in_both_ways p p.permissions (m a) a refl
       ∙ ap (λ o. set_cell p p.permissions o a) (sym clear)
@@ -96,7 +101,8 @@ patched_is least (p ∷ pages) m a fit = elim (eqb_tells p.number (a / page_byte
       ap (λ b. patched_cell (cond b (Some p) (entry_of (a / page_bytes) pages)) (m a) a) w.0
       ∙ patched_is (p.number + 1) pages m a fit.2
       ∙ all_set_by pages (all_cleared pages m) (set p (all_cleared pages (cleared p m))) a
-      (all_cleared_by pages m (cleared p m) a (sym (cleared_elsewhere p m a w.0)) ∙ sym (set_elsewhere p (all_cleared pages (cleared p m)) a w.0))
+      (all_cleared_by pages m (cleared p m) a (sym (cleared_elsewhere p m a w.0))
+      ∙ sym (set_elsewhere p (all_cleared pages (cleared p m)) a w.0))
 ]
 
 -- ---- how many are mapped
@@ -125,19 +131,23 @@ refuses_more faults.BadPart pages m h = h
 refuses_more faults.TooManyPages pages m h = omega (arith, h, more_pages pages m)
 refuses_more faults.Memory pages m h = tt
 
-pub refuses_first : (fault : ApplyFault) (left : List PagePart) (p : PagePart) (m : Memory) → 1 ≤ length left → p ≡ get_or left 0 p → RefusesPages fault (set p m) → RefusesPages fault (all_set left m)
+pub refuses_first : (fault : ApplyFault) (left : List PagePart) (p : PagePart) (m : Memory) → 1 ≤ length left → p ≡ get_or left 0 p →
+    RefusesPages fault (set p m) → RefusesPages fault (all_set left m)
 refuses_first fault [] p m some is h = absurd (omega arith)
 refuses_first fault (q ∷ rest) p m some is h = refuses_more fault rest (set q m) (subst (λ r. RefusesPages fault (set r m)) is h)
 
-refuses_parts : (fault : ApplyFault) (parts : List Part) (s : State) → RefusesPages fault s.memory → RefusesPages fault (with_parts_set parts s).memory
+refuses_parts : (fault : ApplyFault) (parts : List Part) (s : State) → RefusesPages fault s.memory →
+    RefusesPages fault (with_parts_set parts s).memory
 refuses_parts fault [] s h = h
 refuses_parts fault (part ∷ parts) s h = refuses_parts fault parts (with_all_set part.pages s) (refuses_more fault part.pages s.memory h)
 
-pub refuses_part : (fault : ApplyFault) (left : List Part) (part : Part) (s : State) (pages : List PagePart) → 1 ≤ length left → part ≡ get_or left 0 part → pages ≡ part.pages
+pub refuses_part : (fault : ApplyFault) (left : List Part) (part : Part) (s : State) (pages : List PagePart) → 1 ≤ length left →
+    part ≡ get_or left 0 part → pages ≡ part.pages
     → RefusesPages fault (all_set pages s.memory) → RefusesPages fault (with_parts_set left s).memory
 refuses_part fault [] part s pages some is same h = absurd (omega arith)
 refuses_part fault (first ∷ rest) part s pages some is same h =
-    refuses_parts fault rest (with_all_set first.pages s) (subst (λ l. RefusesPages fault (all_set l s.memory)) (same ∙ ap (λ (q : Part). q.pages) is) h)
+    refuses_parts fault rest (with_all_set first.pages s)
+    (subst (λ l. RefusesPages fault (all_set l s.memory)) (same ∙ ap (λ (q : Part). q.pages) is) h)
 
 pub if_err : {T E : Type 0} (Q : E → Type 0) (r : Result T E) (x y : E) → r ≡ Err x → x ≡ y → Q y → IfErr r Q
 if_err Q r x y is same h = subst (λ s. IfErr s Q) (sym is) (subst Q (sym same) h)
@@ -146,14 +156,18 @@ if_err Q r x y is same h = subst (λ s. IfErr s Q) (sym is) (subst Q (sym same) 
 
 pub parts_cleared : (parts : List Part) (s : State) → with_parts_cleared parts s ≡ with_all_cleared (all_pages parts) s
 parts_cleared [] s = refl
-parts_cleared (part ∷ parts) s = parts_cleared parts (with_all_cleared part.pages s) ∙ ap (λ m. with_memory m s) (sym (all_cleared_append part.pages (all_pages parts) s.memory))
+parts_cleared (part ∷ parts) s =
+    parts_cleared parts (with_all_cleared part.pages s)
+    ∙ ap (λ m. with_memory m s) (sym (all_cleared_append part.pages (all_pages parts) s.memory))
 
 pub parts_set : (parts : List Part) (s : State) → with_parts_set parts s ≡ with_all_set (all_pages parts) s
 parts_set [] s = refl
-parts_set (part ∷ parts) s = parts_set parts (with_all_set part.pages s) ∙ ap (λ m. with_memory m s) (sym (all_set_append part.pages (all_pages parts) s.memory))
+parts_set (part ∷ parts) s =
+    parts_set parts (with_all_set part.pages s) ∙ ap (λ m. with_memory m s) (sym (all_set_append part.pages (all_pages parts) s.memory))
 
 -- the pages of a checkpoint, as they are put into a memory
-pub patched_by : (parts : List Part) (s : State) → AreFit 0 (all_pages parts) → with_parts_set parts (with_parts_cleared parts s) ≡ with_memory (patched (all_pages parts) s.memory) s
+pub patched_by : (parts : List Part) (s : State) → AreFit 0 (all_pages parts) →
+    with_parts_set parts (with_parts_cleared parts s) ≡ with_memory (patched (all_pages parts) s.memory) s
 patched_by parts s fit =
     parts_set parts (with_parts_cleared parts s)
     ∙ ap (with_all_set (all_pages parts)) (parts_cleared parts s)

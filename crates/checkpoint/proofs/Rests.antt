@@ -13,7 +13,8 @@ use Rattle.guest_threads.proofs.ThreadsOfParts.{all_fit, few, few_wait}
 use Rattle.guest_calls.specs.Guest.{GuestValue, state_of}
 use Rattle.checkpoint.specs.Made.{IsRestOf}
 
-thread_texts : (parts : List ThreadPart) (order : List ℕ) (next : ℕ) → next ≤ 2 ^ 31 → AllByRecursion (Fits order next) parts → AllByRecursion HasThreadText parts
+thread_texts : (parts : List ThreadPart) (order : List ℕ) (next : ℕ) → next ≤ 2 ^ 31 → AllByRecursion (Fits order next) parts →
+    AllByRecursion HasThreadText parts
 thread_texts [] order next low h = tt
 thread_texts (p ∷ parts) order next low h = (
   record {
@@ -42,16 +43,20 @@ rest_text parts order next end h high = record {
   waiting = few_wait parts order next h;
   tids = recursion_from_All (λ n. n < 2 ^ 32) order (λ k d below.
       let q = get_or order k d in
-      low_tid (get (thread_map (entries_of parts)) q) q next h.rules.next_tid ((h.rules.waiting q).0 (All-contains_itself order k d below)) (h.rules.tids q));
+      low_tid (get (thread_map (entries_of parts)) q) q next h.rules.next_tid ((h.rules.waiting q).0 (All-contains_itself order k d below))
+      (h.rules.tids q));
 }
 
 -- the rest that is told of a guest's threads
-pub rest_is : (g : GuestValue) (v : ThreadsValue) (parts : List ThreadPart) (order : List ℕ) (end next : ℕ) → v ≡ g.threads → order ≡ v.waiting → next ≡ v.next_tid →
-    end ≡ g.program_break → end ≤ 0x70000000 → MakeThreads parts v.waiting v.next_tid → ((s : State) → with_parts parts v.waiting v.next_tid s ≡ with_threads v s) →
+pub rest_is : (g : GuestValue) (v : ThreadsValue) (parts : List ThreadPart) (order : List ℕ) (end next : ℕ) → v ≡ g.threads →
+    order ≡ v.waiting → next ≡ v.next_tid →
+    end ≡ g.program_break → end ≤ 0x70000000 → MakeThreads parts v.waiting v.next_tid →
+    ((s : State) → with_parts parts v.waiting v.next_tid s ≡ with_threads v s) →
     IsRestOf (state_of g) (record { program_break = end; next_tid = next; threads = parts; waiting = order })
 rest_is g v parts order end next same order_is next_is end_is high make told = record {
   text = subst (λ (o : List ℕ). HasRestText (record { program_break = end; next_tid = next; threads = parts; waiting = o })) (sym order_is)
-      (subst (λ n. HasRestText (record { program_break = end; next_tid = n; threads = parts; waiting = v.waiting })) (sym next_is) (rest_text parts v.waiting v.next_tid end make high));
+      (subst (λ n. HasRestText (record { program_break = end; next_tid = n; threads = parts; waiting = v.waiting })) (sym next_is)
+      (rest_text parts v.waiting v.next_tid end make high));
   program_break = end_is;
   next_tid = next_is ∙ ap (λ (w : ThreadsValue). w.next_tid) same;
   waiting = order_is ∙ ap (λ (w : ThreadsValue). w.waiting) same;

@@ -28,7 +28,8 @@ IsEarlier part = (part.rest ≡ None) × HasPartText part
 
 -- pages with numbers from among those that rise
 part_text : (before m : Memory) (done : List ℕ) (pages : List PagePart) (left : List ℕ) (rest : Option CheckpointRest) →
-    IsStrictlyIncreasing ((done ++ numbers_of pages) ++ left) → AllByRecursion (IsMade before m) pages → length pages ≤ 1024 → IfSome rest HasRestText →
+    IsStrictlyIncreasing ((done ++ numbers_of pages) ++ left) → AllByRecursion (IsMade before m) pages → length pages ≤ 1024 →
+    IfSome rest HasRestText →
     HasPartText (record { pages = pages; rest = rest })
 part_text before m done pages left rest rise made few has = record {
   most = few;
@@ -45,13 +46,15 @@ few_of : (parts : List Part) → AllByRecursion HasPartText parts → AllByRecur
 few_of [] h = tt
 few_of (part ∷ parts) h = (h.0.most, few_of parts h.1)
 
-ends : (parts : List Part) (last : Part) (rest : CheckpointRest) → AllByRecursion IsEarlier parts → last.rest ≡ Some rest → EndsWithRest (parts ++ last ∷ []) rest
+ends : (parts : List Part) (last : Part) (rest : CheckpointRest) → AllByRecursion IsEarlier parts → last.rest ≡ Some rest →
+    EndsWithRest (parts ++ last ∷ []) rest
 ends [] last rest earlier flagged = flagged
 ends (p ∷ []) last rest earlier flagged = (earlier.0.0, flagged)
 ends (p ∷ q ∷ parts) last rest earlier flagged = (earlier.0.0, ends (q ∷ parts) last rest earlier.1 flagged)
 
 pages_then : (parts : List Part) (last : Part) → all_pages (parts ++ last ∷ []) ≡ all_pages parts ++ last.pages
-pages_then parts last = flat_map-append (λ (p : Part). p.pages) parts (last ∷ []) ∙ ap (λ (ps : List PagePart). all_pages parts ++ ps) (append-nil last.pages)
+pages_then parts last =
+    flat_map-append (λ (p : Part). p.pages) parts (last ∷ []) ∙ ap (λ (ps : List PagePart). all_pages parts ++ ps) (append-nil last.pages)
 
 -- parts that are made of the first of the numbers, and those that are left
 pub record HasListed (before m : Memory) (parts : List Part) (left : List ℕ) : Type 0 where
@@ -65,31 +68,38 @@ pub lists_none : (before m : Memory) (numbers : List ℕ) → AreChanges before 
 lists_none before m numbers changes = record { numbers = numbers; changes = changes; split = refl; made = tt; earlier = tt }
 
 -- with the pages of the next of them
-split_then : (parts : List Part) (pages : List PagePart) (rest : Option CheckpointRest) (numbers left behind : List ℕ) → numbers_of (all_pages parts) ++ left ≡ numbers →
+split_then : (parts : List Part) (pages : List PagePart) (rest : Option CheckpointRest) (numbers left behind : List ℕ) →
+    numbers_of (all_pages parts) ++ left ≡ numbers →
     numbers_of pages ++ behind ≡ left →
     (numbers_of (all_pages parts) ++ numbers_of pages) ++ behind ≡ numbers
 split_then parts pages rest numbers left behind split more =
-    append_assoc (numbers_of (all_pages parts)) (numbers_of pages) behind ∙ ap (λ (ns : List ℕ). numbers_of (all_pages parts) ++ ns) more ∙ split
+    append_assoc (numbers_of (all_pages parts)) (numbers_of pages) behind ∙ ap (λ (ns : List ℕ). numbers_of (all_pages parts) ++ ns) more
+    ∙ split
 
 numbers_then : (parts : List Part) (pages : List PagePart) (rest : Option CheckpointRest) →
-    let part : Part = record { pages = pages; rest = rest } in numbers_of (all_pages (parts ++ part ∷ [])) ≡ numbers_of (all_pages parts) ++ numbers_of pages
+    let part : Part = record { pages = pages; rest = rest } in
+    numbers_of (all_pages (parts ++ part ∷ [])) ≡ numbers_of (all_pages parts) ++ numbers_of pages
 numbers_then parts pages rest =
     let part : Part = record { pages = pages; rest = rest } in
     ap (λ (ps : List PagePart). numbers_of ps) (pages_then parts part) ∙ map-append (λ (p : PagePart). p.number) (all_pages parts) pages
 
-made_then : (before m : Memory) (parts : List Part) (pages : List PagePart) (rest : Option CheckpointRest) → AllByRecursion (IsMade before m) (all_pages parts) →
+made_then : (before m : Memory) (parts : List Part) (pages : List PagePart) (rest : Option CheckpointRest) →
+    AllByRecursion (IsMade before m) (all_pages parts) →
     AllByRecursion (IsMade before m) pages →
     let part : Part = record { pages = pages; rest = rest } in AllByRecursion (IsMade before m) (all_pages (parts ++ part ∷ []))
 made_then before m parts pages rest made more =
     let part : Part = record { pages = pages; rest = rest } in
-    subst (λ (ps : List PagePart). AllByRecursion (IsMade before m) ps) (sym (pages_then parts part)) (AllByRecursion-append (IsMade before m) (all_pages parts) pages made more)
+    subst (λ (ps : List PagePart). AllByRecursion (IsMade before m) ps) (sym (pages_then parts part))
+    (AllByRecursion-append (IsMade before m) (all_pages parts) pages made more)
 
 next_text : (before m : Memory) (parts : List Part) (left behind : List ℕ) (pages : List PagePart) (rest : Option CheckpointRest) →
-    HasListed before m parts left → numbers_of pages ++ behind ≡ left → AllByRecursion (IsMade before m) pages → length pages ≤ 1024 → IfSome rest HasRestText →
+    HasListed before m parts left → numbers_of pages ++ behind ≡ left → AllByRecursion (IsMade before m) pages → length pages ≤ 1024 →
+    IfSome rest HasRestText →
     HasPartText (record { pages = pages; rest = rest })
 next_text before m parts left behind pages rest h more made few has =
     part_text before m (numbers_of (all_pages parts)) pages behind rest
-    (subst (λ (ns : List ℕ). IsStrictlyIncreasing ns) (sym (split_then parts pages rest h.numbers left behind h.split more)) h.changes.rising) made few has
+    (subst (λ (ns : List ℕ). IsStrictlyIncreasing ns) (sym (split_then parts pages rest h.numbers left behind h.split more))
+    h.changes.rising) made few has
 
 pub lists_more : (before m : Memory) (parts : List Part) (left behind : List ℕ) (pages : List PagePart) →
     HasListed before m parts left → numbers_of pages ++ behind ≡ left → AllByRecursion (IsMade before m) pages → length pages ≤ 1024 →
@@ -99,9 +109,11 @@ lists_more before m parts left behind pages h more made few =
     record {
       numbers = h.numbers;
       changes = h.changes;
-      split = ap (λ (ns : List ℕ). ns ++ behind) (numbers_then parts pages None) ∙ split_then parts pages None h.numbers left behind h.split more;
+      split = ap (λ (ns : List ℕ). ns ++ behind) (numbers_then parts pages None)
+          ∙ split_then parts pages None h.numbers left behind h.split more;
       made = made_then before m parts pages None h.made made;
-      earlier = AllByRecursion-append IsEarlier parts (part ∷ []) h.earlier ((refl, next_text before m parts left behind pages None h more made few tt), tt);
+      earlier = AllByRecursion-append IsEarlier parts (part ∷ []) h.earlier
+          ((refl, next_text before m parts left behind pages None h more made few tt), tt);
     }
 
 -- ---- all parts
@@ -119,42 +131,51 @@ pub record HasAll (before : Memory) (s : State) (parts : List Part) (pages : Lis
   pub told : IsRestOf s rest
   pub is_state : IsState s
 
-pub has_all : (before : Memory) (s : State) (parts : List Part) (left : List ℕ) (pages : List PagePart) (rest : CheckpointRest) → HasListed before s.memory parts left →
-    numbers_of pages ≡ left → AllByRecursion (IsMade before s.memory) pages → length left ≤ 1024 → IsRestOf s rest → IsState s → HasAll before s parts pages rest
+pub has_all : (before : Memory) (s : State) (parts : List Part) (left : List ℕ) (pages : List PagePart) (rest : CheckpointRest) →
+    HasListed before s.memory parts left →
+    numbers_of pages ≡ left → AllByRecursion (IsMade before s.memory) pages → length left ≤ 1024 → IsRestOf s rest → IsState s →
+    HasAll before s parts pages rest
 has_all before s parts left pages rest listed these made few told is =
-    let as_few : length pages ≤ 1024 = omega (arith, length-map pages (λ (p : PagePart). p.number), ap (λ (ns : List ℕ). length ns) these, few) in
+    let as_few : length pages ≤ 1024 =
+    omega (arith, length-map pages (λ (p : PagePart). p.number), ap (λ (ns : List ℕ). length ns) these, few) in
     record { left = left; listed = listed; these = these; made = made; few = as_few; told = told; is_state = is }
 
-last_text : (before : Memory) (s : State) (parts : List Part) (pages : List PagePart) (rest : CheckpointRest) → HasAll before s parts pages rest →
+last_text : (before : Memory) (s : State) (parts : List Part) (pages : List PagePart) (rest : CheckpointRest) →
+    HasAll before s parts pages rest →
     HasPartText (record { pages = pages; rest = Some rest })
 last_text before s parts pages rest h =
     next_text before s.memory parts h.left [] pages (Some rest) h.listed (append-nil (numbers_of pages) ∙ h.these) h.made h.few h.told.text
 
-pub all_texts : (before : Memory) (s : State) (parts : List Part) (pages : List PagePart) (rest : CheckpointRest) → HasAll before s parts pages rest →
+pub all_texts : (before : Memory) (s : State) (parts : List Part) (pages : List PagePart) (rest : CheckpointRest) →
+    HasAll before s parts pages rest →
     AllByRecursion HasPartText (whole parts pages rest)
 all_texts before s parts pages rest h =
     let last : Part = record { pages = pages; rest = Some rest } in
     AllByRecursion-append HasPartText parts (last ∷ []) (earlier_texts parts h.listed.earlier) (last_text before s parts pages rest h, tt)
 
-all_changes : (before : Memory) (s : State) (parts : List Part) (pages : List PagePart) (rest : CheckpointRest) → HasAll before s parts pages rest →
+all_changes : (before : Memory) (s : State) (parts : List Part) (pages : List PagePart) (rest : CheckpointRest) →
+    HasAll before s parts pages rest →
     AreChanges before s.memory (numbers_of (all_pages (whole parts pages rest)))
 all_changes before s parts pages rest h =
     let are : numbers_of (all_pages (whole parts pages rest)) ≡ h.listed.numbers =
     numbers_then parts pages (Some rest) ∙ ap (λ (ns : List ℕ). numbers_of (all_pages parts) ++ ns) h.these ∙ h.listed.split in
     subst (λ (ns : List ℕ). AreChanges before s.memory ns) (sym are) h.listed.changes
 
-all_made : (before : Memory) (s : State) (parts : List Part) (pages : List PagePart) (rest : CheckpointRest) → HasAll before s parts pages rest →
+all_made : (before : Memory) (s : State) (parts : List Part) (pages : List PagePart) (rest : CheckpointRest) →
+    HasAll before s parts pages rest →
     AllByRecursion (IsMade before s.memory) (all_pages (whole parts pages rest))
 all_made before s parts pages rest h = made_then before s.memory parts pages (Some rest) h.listed.made h.made
 
-pub names_changes : (before : Memory) (s : State) (parts : List Part) (pages : List PagePart) (rest : CheckpointRest) → HasAll before s parts pages rest →
+pub names_changes : (before : Memory) (s : State) (parts : List Part) (pages : List PagePart) (rest : CheckpointRest) →
+    HasAll before s parts pages rest →
     NamesChanges before s.memory (all_pages (whole parts pages rest))
 names_changes before s parts pages rest h = record {
   named = all_changes before s parts pages rest h;
   each = changes_of before s.memory (all_pages (whole parts pages rest)) (all_made before s parts pages rest h);
 }
 
-pub described : (before : Memory) (s : State) (parts : List Part) (pages : List PagePart) (rest : CheckpointRest) → HasAll before s parts pages rest →
+pub described : (before : Memory) (s : State) (parts : List Part) (pages : List PagePart) (rest : CheckpointRest) →
+    HasAll before s parts pages rest →
     (old : State) → IsBaseOf before old s → Describes old (whole parts pages rest) s
 described before s parts pages rest h old base =
     let all = whole parts pages rest in

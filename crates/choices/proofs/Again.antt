@@ -41,7 +41,8 @@ use Rattle.choices.proofs.Scheduled.{first_runs, none_runs}
 -- ---- a frame's choice is the next of the list
 
 -- a frame whose thread ran, and that was not cut short, tells its choice
-pub tells : (end : End) (tid count : ℕ) → ¬ (end ≡ ends.Stuck) → (end ≡ ends.Preempt → MIN_QUANTUM ≤ count) → (choice : Choice) × (choice_by_end end tid count ≡ Some choice)
+pub tells : (end : End) (tid count : ℕ) → ¬ (end ≡ ends.Stuck) → (end ≡ ends.Preempt → MIN_QUANTUM ≤ count) → (choice : Choice) ×
+    (choice_by_end end tid count ≡ Some choice)
 tells ends.Preempt tid count runs told = (
   record { tid = tid; quantum = count },
   ap (λ (b : Bool). cond b (Some (record { tid = tid; quantum = count })) None) (le-leb MIN_QUANTUM count (told refl)),
@@ -51,7 +52,8 @@ tells (ends.Fault kind) tid count runs told = (record { tid = tid; quantum = max
 tells ends.Stuck tid count runs told = absurd (runs refl)
 
 -- it can be chosen
-pub can_choose : (s : State) (f : Frame) (m : State) (tids : List ℕ) (choice : Choice) → ¬ (f.end ≡ ends.Stuck) → FrameStep s f m → FrameIsOfGuest f → AreRunning s tids → choice_of f ≡ Some choice →
+pub can_choose : (s : State) (f : Frame) (m : State) (tids : List ℕ) (choice : Choice) → ¬ (f.end ≡ ends.Stuck) → FrameStep s f m →
+    FrameIsOfGuest f → AreRunning s tids → choice_of f ≡ Some choice →
     CanChoose tids choice
 can_choose s f m tids choice runs step of are is =
     let within = chosen_within f.end f.tid f.count choice is of in
@@ -61,22 +63,26 @@ can_choose s f m tids choice runs step of are is =
     )
 
 -- a list whose next choice can be chosen isn't over
-not_over : (tids : List ℕ) (misfit : Option Misfit) (left : List Choice) (choice : Choice) (rest : List Choice) → misfit ≡ None → left ≡ choice ∷ rest → CanChoose tids choice → IsOver tids misfit left →
+not_over : (tids : List ℕ) (misfit : Option Misfit) (left : List Choice) (choice : Choice) (rest : List Choice) → misfit ≡ None →
+    left ≡ choice ∷ rest → CanChoose tids choice → IsOver tids misfit left →
     ⊥
 not_over tids misfit left choice rest unrefused is can over =
     subst (λ (l : List Choice). IsCutShort tids l) is (subst (λ (m : Option Misfit). IsOver tids m left) unrefused over) can
 
-takes_listed : (tids : List ℕ) (p : Plan) (chosen : Choice) (next : Plan) (choice : Choice) (rest : List Choice) → p.misfit ≡ None → p.left ≡ choice ∷ rest → CanChoose tids choice →
+takes_listed : (tids : List ℕ) (p : Plan) (chosen : Choice) (next : Plan) (choice : Choice) (rest : List Choice) → p.misfit ≡ None →
+    p.left ≡ choice ∷ rest → CanChoose tids choice →
     Chooses tids p (Some chosen) next → TakesListed tids p chosen next
 takes_listed tids p chosen next choice rest unrefused is can (inl taken) = taken
-takes_listed tids p chosen next choice rest unrefused is can (inr turn) = absurd (not_over tids p.misfit p.left choice rest unrefused is can turn.over)
+takes_listed tids p chosen next choice rest unrefused is can (inr turn) =
+    absurd (not_over tids p.misfit p.left choice rest unrefused is can turn.over)
 
 -- ---- the frame of that choice
 
 abbrev IsShort : End → State → Frame → Choice → Type 0
 IsShort end s g choice = (end ≡ ends.Preempt) × (g.tid ≡ choice.tid) × (g.count < choice.quantum) × FindsNoMemory s g.tid g.count
 
-uncut_or_short : (end : End) (s : State) (g : Frame) (choice : Choice) → FitsChoice end s g choice → IsUncut end g.count choice ⊎ IsShort end s g choice
+uncut_or_short : (end : End) (s : State) (g : Frame) (choice : Choice) → FitsChoice end s g choice → IsUncut end g.count choice ⊎
+    IsShort end s g choice
 uncut_or_short ends.Preempt s g choice fits = by fits.1 where
   by : IsWhole s g.tid g.count choice.quantum → IsUncut ends.Preempt g.count choice ⊎ IsShort ends.Preempt s g choice
   by (inl whole) = inl (λ e. whole)
@@ -86,7 +92,8 @@ uncut_or_short (ends.Fault kind) s g choice fits = inl (λ e. absurd cc)
 uncut_or_short ends.Stuck s g choice fits = inl (λ e. absurd cc)
 
 -- a slice that was cut short is shorter than the frame of the choice
-shorter : (s : State) (f : Frame) (m : State) (g : Frame) (m' : State) (choice : Choice) → ¬ (f.end ≡ ends.Stuck) → FrameStep s f m → FrameStep s g m' → choice_of f ≡ Some choice → g.tid ≡ f.tid →
+shorter : (s : State) (f : Frame) (m : State) (g : Frame) (m' : State) (choice : Choice) → ¬ (f.end ≡ ends.Stuck) → FrameStep s f m →
+    FrameStep s g m' → choice_of f ≡ Some choice → g.tid ≡ f.tid →
     g.end ≡ ends.Preempt → g.count < choice.quantum → g.count < f.count
 shorter s f m g m' choice runs step step' is same preempt short = by (cases_lt g.count f.count) where
   goes : Preempts s g.tid g.count m'
@@ -102,13 +109,15 @@ shorter s f m g m' choice runs step step' is same preempt short = by (cases_lt g
   limit (inl low) high = earlier (run_end f.end) run_ends.Limit f.count g.count f.tid s far.1 goes.last low far.2 steps
   limit (inr low) high =
       let e : g.count ≡ f.count = omega arith in
-      one_run_end (run_end f.end) run_ends.Limit f.count f.tid s far.1 goes.last far.2 (subst (λ (n : ℕ). Steps n f.tid s goes.last) e steps)
+      one_run_end (run_end f.end) run_ends.Limit f.count f.tid s far.1 goes.last far.2
+      (subst (λ (n : ℕ). Steps n f.tid s goes.last) e steps)
 
   by : (g.count < f.count) ⊎ (f.count ≤ g.count) → g.count < f.count
   by (inl low) = low
   by (inr high) = let whole = (chosen f.end f.tid f.count choice is).2 (limit (cases_lt f.count g.count) high) in absurd (omega arith)
 
-own_slice : (s : State) (f : Frame) (m : State) (g : Frame) (m' : State) (choice : Choice) → ¬ (f.end ≡ ends.Stuck) → FrameStep s f m → FrameStep s g m' → choice_of f ≡ Some choice →
+own_slice : (s : State) (f : Frame) (m : State) (g : Frame) (m' : State) (choice : Choice) → ¬ (f.end ≡ ends.Stuck) → FrameStep s f m →
+    FrameStep s g m' → choice_of f ≡ Some choice →
     FitsChoice g.end s g choice → IsSameSlice f g ⊎ IsCutShortOf s f g
 own_slice s f m g m' choice runs step step' is fits = by (uncut_or_short g.end s g choice fits) where
   by : IsUncut g.end g.count choice ⊎ IsShort g.end s g choice → IsSameSlice f g ⊎ IsCutShortOf s f g
@@ -119,13 +128,15 @@ own_slice s f m g m' choice runs step step' is fits = by (uncut_or_short g.end s
 
 -- ---- where no thread runs
 
-pub must_stick : (end : End) (s : State) (tid count : ℕ) (s' : State) → ((t : ℕ) → IsRunning (thread_at s t) → ⊥) → FrameStepBy end s tid count s' → (end ≡ ends.Stuck) × (tid ≡ 0) × (count ≡ 0)
+pub must_stick : (end : End) (s : State) (tid count : ℕ) (s' : State) → ((t : ℕ) → IsRunning (thread_at s t) → ⊥) →
+    FrameStepBy end s tid count s' → (end ≡ ends.Stuck) × (tid ≡ 0) × (count ≡ 0)
 must_stick ends.Preempt s tid count s' none p = absurd (none tid (frame_runs ends.Preempt s tid count s' (λ e. absurd cc) p))
 must_stick (ends.Call r) s tid count s' none p = absurd (none tid (frame_runs (ends.Call r) s tid count s' (λ e. absurd cc) p))
 must_stick (ends.Fault kind) s tid count s' none p = absurd (none tid (frame_runs (ends.Fault kind) s tid count s' (λ e. absurd cc) p))
 must_stick ends.Stuck s tid count s' none p = (refl, p.no_tid, p.no_step)
 
-both_stuck : (s : State) (f : Frame) (m : State) (g : Frame) (m' : State) → ((t : ℕ) → IsRunning (thread_at s t) → ⊥) → FrameStep s f m → FrameStep s g m' → IsSameSlice f g
+both_stuck : (s : State) (f : Frame) (m : State) (g : Frame) (m' : State) → ((t : ℕ) → IsRunning (thread_at s t) → ⊥) → FrameStep s f m →
+    FrameStep s g m' → IsSameSlice f g
 both_stuck s f m g m' none step step' =
     let a = must_stick f.end s f.tid f.count m none step.goes in
     let b = must_stick g.end s g.tid g.count m' none step'.goes in
@@ -139,7 +150,8 @@ none_follow : (s : State) (o : GuestEnd) (frames : List Frame) → s.ended ≡ S
 none_follow s o [] ended follow = refl
 none_follow s o (f ∷ frames) ended (new, step, follow) = let runs = step.runs in absurd cc
 
-pub none_behind : (s : State) (f : Frame) (m : State) (frames : List Frame) → f.end ≡ ends.Stuck → FrameStep s f m → FramesFollow m frames → frames ≡ []
+pub none_behind : (s : State) (f : Frame) (m : State) (frames : List Frame) → f.end ≡ ends.Stuck → FrameStep s f m → FramesFollow m frames →
+    frames ≡ []
 none_behind s f m frames stuck step follow =
     let p : IsStuck s f.tid f.count m = subst (λ (end : End). FrameStepBy end s f.tid f.count m) stuck step.goes in
     none_follow m guest_ends.Stuck frames (ap (λ (x : State). x.ended) p.new_is) follow
@@ -153,8 +165,10 @@ GoesOn next rest = (next.misfit ≡ None) × (next.left ≡ rest)
 heads : (a b : Choice) (xs ys : List Choice) → a ∷ xs ≡ b ∷ ys → (a ≡ b) × (xs ≡ ys)
 heads a b xs ys e = (cc, cc)
 
-next_alike : (tids : List ℕ) (s : State) (f : Frame) (m : State) (g : Frame) (m' : State) (p : Plan) (picked : Choice) (next : Plan) (rest : List Choice) → FrameStep s f m → FrameStep s g m' →
-    FrameIsOfGuest f → IsTold f → p.misfit ≡ None → p.left ≡ cons_option (choice_of f) rest → AreRunning s tids → PicksAmong by_schedule tids p (Some picked) next → FitsChoice g.end s g picked →
+next_alike : (tids : List ℕ) (s : State) (f : Frame) (m : State) (g : Frame) (m' : State) (p : Plan) (picked : Choice) (next : Plan)
+    (rest : List Choice) → FrameStep s f m → FrameStep s g m' →
+    FrameIsOfGuest f → IsTold f → p.misfit ≡ None → p.left ≡ cons_option (choice_of f) rest → AreRunning s tids →
+    PicksAmong by_schedule tids p (Some picked) next → FitsChoice g.end s g picked →
     (IsSameSlice f g ⊎ IsCutShortOf s f g) × ((f.end ≡ ends.Stuck) ⊎ GoesOn next rest)
 next_alike [] s f m g m' p picked next rest step step' of told unrefused is are picks fits =
     let none = none_runs s are in (inl (both_stuck s f m g m' none step step'), inl (must_stick f.end s f.tid f.count m none step.goes).0)
@@ -174,25 +188,29 @@ next_alike (t ∷ tids) s f m g m' p picked next rest step step' of told unrefus
 pub all_rest : (P : Frame → Type 0) (f : Frame) (frames : List Frame) → All P (f ∷ frames) → All P frames
 all_rest P f frames all = λ k d low. all (suc k) d (omega arith)
 
-alike : (frames others : List Frame) (s : State) (p : Plan) (s' : State) (p' : Plan) → FramesFollow s frames → All FrameIsOfGuest frames → All IsTold frames → p.misfit ≡ None →
+alike : (frames others : List Frame) (s : State) (p : Plan) (s' : State) (p' : Plan) → FramesFollow s frames → All FrameIsOfGuest frames →
+    All IsTold frames → p.misfit ≡ None →
     p.left ≡ filter_map choice_of frames → AreChosen by_schedule s p others s' p' → RunsAlike s frames others
 alike [] others s p s' p' follow of told unrefused is chosen = tt
 alike (f ∷ frames) [] s p s' p' follow of told unrefused is chosen = tt
 alike (f ∷ frames) (g ∷ others) s p s' p' (m, step, follow) of told unrefused is (m', next, made, more) =
     let one =
-    next_alike made.picks.tids s f m g m' p made.choice next (filter_map choice_of frames) step made.step (of 0 f (omega arith)) (told 0 f (omega arith)) unrefused is made.picks.running
+    next_alike made.picks.tids s f m g m' p made.choice next (filter_map choice_of frames) step made.step (of 0 f (omega arith))
+    (told 0 f (omega arith)) unrefused is made.picks.running
     made.picks.picks made.fits in (
       one.0,
       λ new same step'.
           behind new one.1
           (λ go.
-          alike frames others new next s' p' (subst (λ (x : State). FramesFollow x frames) (one_state_after_frame s f m new step step') follow)
+          alike frames others new next s' p'
+          (subst (λ (x : State). FramesFollow x frames) (one_state_after_frame s f m new step step') follow)
           (all_rest FrameIsOfGuest f frames of) (all_rest IsTold f frames told) go.0 go.1
           (subst (λ (x : State). AreChosen by_schedule x next others s' p')
           (one_state_after_frame s f m' new (subst (λ (h : Frame). FrameStep s h m') same made.step) step') more)),
     )
   where
-    behind : (new : State) → (f.end ≡ ends.Stuck) ⊎ GoesOn next (filter_map choice_of frames) → (GoesOn next (filter_map choice_of frames) → RunsAlike new frames others) → RunsAlike new frames others
+    behind : (new : State) → (f.end ≡ ends.Stuck) ⊎ GoesOn next (filter_map choice_of frames) →
+        (GoesOn next (filter_map choice_of frames) → RunsAlike new frames others) → RunsAlike new frames others
     behind new (inl stuck) on = subst (λ (fs : List Frame). RunsAlike new fs others) (sym (none_behind s f m frames stuck step follow)) tt
     behind new (inr go) on = on go
 
@@ -201,7 +219,8 @@ alike (f ∷ frames) (g ∷ others) s p s' p' (m, step, follow) of told unrefuse
 pub all_of_guest : (s : State) (frames : List Frame) → IsState s → FramesFollow s frames → All FrameIsOfGuest frames
 all_of_guest s [] state follow = λ k d low. absurd (omega arith)
 all_of_guest s (f ∷ frames) state (new, step, follow) =
-    all_cons FrameIsOfGuest f frames (frames_are_of_guests s f new state step) (all_of_guest new frames (frames_keep_states s f new state step) follow)
+    all_cons FrameIsOfGuest f frames (frames_are_of_guests s f new state step)
+    (all_of_guest new frames (frames_keep_states s f new state step) follow)
 
 some_alike : (a b : List Choice) → Some a ≡ Some b → a ≡ b
 some_alike a b e = cc
@@ -212,11 +231,13 @@ printed_are s frames others h =
 
 pub run_again_is_alike : RunAgainIsAlike
 run_again_is_alike s frames others h =
-    alike frames others s (plan h.choices h.turns) h.state h.last h.follow (all_of_guest s frames h.start h.follow) h.told refl (printed_are s frames others h) h.chosen
+    alike frames others s (plan h.choices h.turns) h.state h.last h.follow (all_of_guest s frames h.start h.follow) h.told refl
+    (printed_are s frames others h) h.chosen
 
 -- ---- the same answers
 
-same_answer : (end other : End) → IsSameEnd end other → ((r r' : CallRecord) → end ≡ ends.Call r → other ≡ ends.Call r' → r' ≡ r) → other ≡ end
+same_answer : (end other : End) → IsSameEnd end other → ((r r' : CallRecord) → end ≡ ends.Call r → other ≡ ends.Call r' → r' ≡ r) →
+    other ≡ end
 same_answer ends.Preempt other is answered = is
 same_answer (ends.Call r) other (r', is) answered = is ∙ ap ends.Call (answered r r' refl is)
 same_answer (ends.Fault kind) other is answered = is
@@ -241,38 +262,46 @@ run_again_is_same s frames others h answered = all_same s frames others h.follow
 
 -- ---- before the frames are over
 
-never_none : (tids : List ℕ) (s : State) (f : Frame) (m : State) (p next : Plan) (rest : List Choice) → FrameStep s f m → FrameIsOfGuest f → IsTold f → p.misfit ≡ None →
+never_none : (tids : List ℕ) (s : State) (f : Frame) (m : State) (p next : Plan) (rest : List Choice) → FrameStep s f m → FrameIsOfGuest f →
+    IsTold f → p.misfit ≡ None →
     p.left ≡ cons_option (choice_of f) rest → AreRunning s tids → PicksAmong by_schedule tids p None next → ⊥
 never_none [] s f m p next rest step of told unrefused is are picks = let some = picks.0 in absurd cc
 never_none (t ∷ tids) s f m p next rest step of told unrefused is are picks =
     let runs = not_stuck f.end s f.tid f.count m t (first_runs s t tids are) step.goes in
     let c = tells f.end f.tid f.count runs told in
-    not_over (t ∷ tids) p.misfit p.left c.0 rest unrefused (is ∙ ap (λ (o : Option Choice). cons_option o rest) c.1) (can_choose s f m (t ∷ tids) c.0 runs step of are c.1) picks.over
+    not_over (t ∷ tids) p.misfit p.left c.0 rest unrefused (is ∙ ap (λ (o : Option Choice). cons_option o rest) c.1)
+    (can_choose s f m (t ∷ tids) c.0 runs step of are c.1) picks.over
 
 abbrev StandsBefore : State → Plan → Type 0
 StandsBefore s p = (s.ended ≡ None) × ((new : Plan) → ¬ Picks by_schedule s p None new)
 
-stands_before : (frames : List Frame) (h : Frame) (rest : List Frame) (s : State) (p : Plan) (s' : State) (p' : Plan) → FramesFollow s (frames ++ h ∷ rest) →
-    All FrameIsOfGuest (frames ++ h ∷ rest) → All IsTold (frames ++ h ∷ rest) → p.misfit ≡ None → p.left ≡ filter_map choice_of (frames ++ h ∷ rest) → AreChosen by_schedule s p frames s' p' →
+stands_before : (frames : List Frame) (h : Frame) (rest : List Frame) (s : State) (p : Plan) (s' : State) (p' : Plan) →
+    FramesFollow s (frames ++ h ∷ rest) →
+    All FrameIsOfGuest (frames ++ h ∷ rest) → All IsTold (frames ++ h ∷ rest) → p.misfit ≡ None →
+    p.left ≡ filter_map choice_of (frames ++ h ∷ rest) → AreChosen by_schedule s p frames s' p' →
     StandsBefore s' p'
 stands_before [] h rest s p s' p' (m, step, follow) of told unrefused is (there, same) =
     subst (λ (x : State × Plan). StandsBefore x.0 x.1) (λ i. (sym there i, sym same i)) (
       step.runs,
-      λ new picks. never_none picks.tids s h m p new (filter_map choice_of rest) step (of 0 h (omega arith)) (told 0 h (omega arith)) unrefused is picks.running picks.picks,
+      λ new picks. never_none picks.tids s h m p new (filter_map choice_of rest) step (of 0 h (omega arith)) (told 0 h (omega arith))
+          unrefused is picks.running picks.picks,
     )
 stands_before (f ∷ frames) h rest s p s' p' (m, step, follow) of told unrefused is (m', next, made, more) =
     behind
-    (next_alike made.picks.tids s f m f m' p made.choice next (filter_map choice_of (frames ++ h ∷ rest)) step made.step (of 0 f (omega arith)) (told 0 f (omega arith)) unrefused is made.picks.running
+    (next_alike made.picks.tids s f m f m' p made.choice next (filter_map choice_of (frames ++ h ∷ rest)) step made.step
+    (of 0 f (omega arith)) (told 0 f (omega arith)) unrefused is made.picks.running
     made.picks.picks made.fits).1
     (λ go.
-    stands_before frames h rest m next s' p' follow (all_rest FrameIsOfGuest f (frames ++ h ∷ rest) of) (all_rest IsTold f (frames ++ h ∷ rest) told) go.0 go.1
+    stands_before frames h rest m next s' p' follow (all_rest FrameIsOfGuest f (frames ++ h ∷ rest) of)
+    (all_rest IsTold f (frames ++ h ∷ rest) told) go.0 go.1
     (subst (λ (x : State). AreChosen by_schedule x next frames s' p') (one_state_after_frame s f m' m made.step step) more))
   where
     some_left : (fs : List Frame) → fs ++ h ∷ rest ≡ [] → ⊥
     some_left [] e = absurd cc
     some_left (g ∷ fs) e = absurd cc
 
-    behind : (f.end ≡ ends.Stuck) ⊎ GoesOn next (filter_map choice_of (frames ++ h ∷ rest)) → (GoesOn next (filter_map choice_of (frames ++ h ∷ rest)) → StandsBefore s' p') → StandsBefore s' p'
+    behind : (f.end ≡ ends.Stuck) ⊎ GoesOn next (filter_map choice_of (frames ++ h ∷ rest)) →
+        (GoesOn next (filter_map choice_of (frames ++ h ∷ rest)) → StandsBefore s' p') → StandsBefore s' p'
     behind (inl stuck) on = absurd (some_left frames (none_behind s f m (frames ++ h ∷ rest) stuck step follow))
     behind (inr go) on = on go
 
@@ -280,12 +309,15 @@ not_ended : (s : State) (p : Plan) → StandsBefore s p → HasEnded s p → ⊥
 not_ended s p stands (inl ended) = ended stands.0
 not_ended s p stands (inr (new, picks)) = stands.1 new picks
 
-not_before : (s : State) (frames others : List Frame) (again : IsRunAgain s frames others) (h : Frame) (rest : List Frame) → frames ≡ others ++ h ∷ rest →
+not_before : (s : State) (frames others : List Frame) (again : IsRunAgain s frames others) (h : Frame) (rest : List Frame) →
+    frames ≡ others ++ h ∷ rest →
     HasEnded again.state again.last → ⊥
 not_before s frames others again h rest are ended =
     not_ended again.state again.last
-    (stands_before others h rest s (plan again.choices again.turns) again.state again.last (subst (λ (fs : List Frame). FramesFollow s fs) are again.follow)
-    (subst (λ (fs : List Frame). All FrameIsOfGuest fs) are (all_of_guest s frames again.start again.follow)) (subst (λ (fs : List Frame). All IsTold fs) are again.told) refl
+    (stands_before others h rest s (plan again.choices again.turns) again.state again.last
+    (subst (λ (fs : List Frame). FramesFollow s fs) are again.follow)
+    (subst (λ (fs : List Frame). All FrameIsOfGuest fs) are (all_of_guest s frames again.start again.follow))
+    (subst (λ (fs : List Frame). All IsTold fs) are again.told) refl
     (printed_are s frames others again ∙ ap (λ (fs : List Frame). filter_map choice_of fs) are) again.chosen)
     ended
 
@@ -302,7 +334,8 @@ run_again_is_whole s frames others again answered ended = by (cases_lt (length o
   by : (length others < length frames) ⊎ (length frames ≤ length others) → take (length frames) others ≡ frames
   by (inl low) =
       let next = next_of frames (length others) low in
-      let are : frames ≡ others ++ next.0 ∷ next.1 = next.2 ∙ ap (λ (fs : List Frame). fs ++ next.0 ∷ next.1) (sym same ∙ take_all (length frames) others (omega arith)) in
+      let are : frames ≡ others ++ next.0 ∷ next.1 =
+      next.2 ∙ ap (λ (fs : List Frame). fs ++ next.0 ∷ next.1) (sym same ∙ take_all (length frames) others (omega arith)) in
       absurd (not_before s frames others again next.0 next.1 are ended)
   by (inr high) = same ∙ take_all (length others) frames high
 
@@ -312,7 +345,8 @@ frames_follow : (base s : State) (parts : List Part) (its : List Item) → Items
 frames_follow base s parts [] follow = tt
 frames_follow base s parts (items.Opening o ∷ rest) follow = absurd follow
 frames_follow base s parts (items.Frame f ∷ rest) (new, step, follow) = (new, step, frames_follow base new [] rest follow)
-frames_follow base s parts (items.Part p ∷ rest) (fits, follow) = frames_follow (base_after p.rest base s) s (row_after p.rest (parts ++ p ∷ [])) rest follow
+frames_follow base s parts (items.Part p ∷ rest) (fits, follow) =
+    frames_follow (base_after p.rest base s) s (row_after p.rest (parts ++ p ∷ [])) rest follow
 
 start_follows : (its : List Item) (o : Opening) → Starts its → slice_get its 0 ≡ Some (items.Opening o) →
     IsState (opening_state o.elf o.name o.random) × FramesFollow (opening_state o.elf o.name o.random) (frames_of its)

@@ -7,12 +7,14 @@ use Rattle.serial_sched.specs.Chosen.{AreChosen, PicksAmong}
 use Rattle.choices.specs.Schedule.{Plan, plan}
 use Rattle.choices.specs.Scheduled.{DoneIsAsked, by_schedule}
 
-same_done : (tids : List ℕ) (old : Plan) (choice : Choice) (next : Plan) → PicksAmong by_schedule tids old (Some choice) next → next.done ≡ old.done
+same_done : (tids : List ℕ) (old : Plan) (choice : Choice) (next : Plan) → PicksAmong by_schedule tids old (Some choice) next →
+    next.done ≡ old.done
 same_done [] old choice next picks = ap (λ (p : Plan). p.done) picks.1
 same_done (t ∷ tids) old choice next (inl taken) = ap (λ (p : Plan). p.done) taken.new_is
 same_done (t ∷ tids) old choice next (inr taken) = ap (λ (p : Plan). p.done) taken.new_is
 
-keeps_done : (frames : List Frame) (s : State) (old : Plan) (s' : State) (last : Plan) → AreChosen by_schedule s old frames s' last → last.done ≡ old.done
+keeps_done : (frames : List Frame) (s : State) (old : Plan) (s' : State) (last : Plan) → AreChosen by_schedule s old frames s' last →
+    last.done ≡ old.done
 keeps_done [] s old s' last (there, same) = ap (λ (p : Plan). p.done) same
 keeps_done (f ∷ frames) s old s' last (mid, next, is, rest) =
     keeps_done frames mid next s' last rest ∙ same_done is.picks.tids old is.choice next is.picks.picks

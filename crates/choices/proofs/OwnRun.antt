@@ -29,7 +29,8 @@ use Rattle.choices.proofs.Scheduled.{first_runs, none_runs}
 
 kept : (p : ℕ → Bool) (xs : List ℕ) (x : ℕ) → p x ≡ true → Contains xs x → Contains (filter p xs) x
 kept p [] x passes (k, low, at) = absurd (omega arith)
-kept p (y ∷ ys) x passes (zero, low, at) = subst (λ (b : Bool). Contains (cond b (y ∷ filter p ys) (filter p ys)) x) (sym (ap p at ∙ passes)) (0, omega arith, at)
+kept p (y ∷ ys) x passes (zero, low, at) =
+    subst (λ (b : Bool). Contains (cond b (y ∷ filter p ys) (filter p ys)) x) (sym (ap p at ∙ passes)) (0, omega arith, at)
 kept p (y ∷ ys) x passes (suc k, low, at) = by (p y) (kept p ys x passes (k, omega arith, at)) where
   by : (b : Bool) → Contains (filter p ys) x → Contains (cond b (y ∷ filter p ys) (filter p ys)) x
   by true c = (suc c.0, omega arith, c.2)
@@ -82,7 +83,8 @@ are_running s state = record {
     λ r.
         let threads = state.rules.threads in
         let within : (1 ≤ tid) × (tid < s.next_tid) = lives _ (thread_at s tid) r (threads.tids tid) in
-        kept (λ tid. runs_there (thread_at s tid)) (range_with_len 0 s.next_tid) tid (is_there (thread_at s tid) r) (below s.next_tid tid within.1),
+        kept (λ tid. runs_there (thread_at s tid)) (range_with_len 0 s.next_tid) tid (is_there (thread_at s tid) r)
+        (below s.next_tid tid within.1),
   );
 }
 
@@ -107,12 +109,19 @@ record IsNext (s : State) (f : Frame) (p : Plan) (rest : List Choice) : Type 0 w
   fits : FitsChoice f.end s f choice
   behind : (f.end ≡ ends.Stuck) ⊎ GoesOn next rest
 
-is_next : (tids : List ℕ) (s : State) (f : Frame) (m : State) (p : Plan) (rest : List Choice) → FrameStep s f m → FrameIsOfGuest f → IsTold f → p.misfit ≡ None →
+is_next : (tids : List ℕ) (s : State) (f : Frame) (m : State) (p : Plan) (rest : List Choice) → FrameStep s f m → FrameIsOfGuest f →
+    IsTold f → p.misfit ≡ None →
     p.left ≡ cons_option (choice_of f) rest → AreRunning s tids → IsNext s f p rest
 is_next [] s f m p rest step of told unrefused is are =
     let stuck : f.end ≡ ends.Stuck = (must_stick f.end s f.tid f.count m (none_runs s are) step.goes).0 in
     let any : Choice = record { tid = 0; quantum = 0 } in
-    record { choice = any; next = p; picks = record { tids = []; running = are; picks = (refl, refl) }; fits = stuck_fits f.end s f any stuck; behind = inl stuck }
+    record {
+      choice = any;
+      next = p;
+      picks = record { tids = []; running = are; picks = (refl, refl) };
+      fits = stuck_fits f.end s f any stuck;
+      behind = inl stuck;
+    }
 is_next (t ∷ tids) s f m p rest step of told unrefused is are =
     let runs = not_stuck f.end s f.tid f.count m t (first_runs s t tids are) step.goes in
     let c = tells f.end f.tid f.count runs told in
@@ -139,18 +148,24 @@ is_next (t ∷ tids) s f m p rest step of told unrefused is are =
 abbrev LeadsOn : State → Plan → List Frame → Type 0
 LeadsOn s p frames = (s' : State) × (p' : Plan) × AreChosen by_schedule s p frames s' p'
 
-own_run : (frames : List Frame) (s : State) (p : Plan) → IsState s → FramesFollow s frames → All IsTold frames → p.misfit ≡ None → p.left ≡ filter_map choice_of frames → LeadsOn s p frames
+own_run : (frames : List Frame) (s : State) (p : Plan) → IsState s → FramesFollow s frames → All IsTold frames → p.misfit ≡ None →
+    p.left ≡ filter_map choice_of frames → LeadsOn s p frames
 own_run [] s p state follow told unrefused is = (s, p, (refl, refl))
-own_run (f ∷ frames) s p state (m, step, follow) told unrefused is = first (behind one.behind (λ go. own_run frames m one.next (frames_keep_states s f m state step) follow (all_rest IsTold f frames told) go.0 go.1)) where
-  one : IsNext s f p (filter_map choice_of frames)
-  one = is_next (tids_below s s.next_tid) s f m p (filter_map choice_of frames) step (frames_are_of_guests s f m state step) (told 0 f (omega arith)) unrefused is (are_running s state)
+own_run (f ∷ frames) s p state (m, step, follow) told unrefused is =
+    first (behind one.behind
+    (λ go. own_run frames m one.next (frames_keep_states s f m state step) follow (all_rest IsTold f frames told) go.0 go.1)) where
+      one : IsNext s f p (filter_map choice_of frames)
+      one = is_next (tids_below s s.next_tid) s f m p (filter_map choice_of frames) step (frames_are_of_guests s f m state step)
+          (told 0 f (omega arith)) unrefused is (are_running s state)
 
-  behind : (f.end ≡ ends.Stuck) ⊎ GoesOn one.next (filter_map choice_of frames) → (GoesOn one.next (filter_map choice_of frames) → LeadsOn m one.next frames) → LeadsOn m one.next frames
-  behind (inl stuck) on = subst (λ (fs : List Frame). LeadsOn m one.next fs) (sym (none_behind s f m frames stuck step follow)) (m, one.next, (refl, refl))
-  behind (inr go) on = on go
+      behind : (f.end ≡ ends.Stuck) ⊎ GoesOn one.next (filter_map choice_of frames) →
+          (GoesOn one.next (filter_map choice_of frames) → LeadsOn m one.next frames) → LeadsOn m one.next frames
+      behind (inl stuck) on =
+          subst (λ (fs : List Frame). LeadsOn m one.next fs) (sym (none_behind s f m frames stuck step follow)) (m, one.next, (refl, refl))
+      behind (inr go) on = on go
 
-  first : LeadsOn m one.next frames → LeadsOn s p (f ∷ frames)
-  first rest = (rest.0, rest.1, (m, one.next, record { step = step; choice = one.choice; picks = one.picks; fits = one.fits }, rest.2))
+      first : LeadsOn m one.next frames → LeadsOn s p (f ∷ frames)
+      first rest = (rest.0, rest.1, (m, one.next, record { step = step; choice = one.choice; picks = one.picks; fits = one.fits }, rest.2))
 
 pub frames_run_again : FramesRunAgain
 frames_run_again s frames turns state follow told =

@@ -35,7 +35,8 @@ front_of (ends.Fault kind) n m tid s after low p = front n (m - 1) tid s after (
 front_of ends.Memory n m tid s after low p = absurd p
 
 -- an end before which another run goes on is that of plain steps
-pub earlier : (end other : RunEnd) (n m tid : ℕ) (s a b : State) → n < m → Reaches end n tid s a → Reaches other m tid s b → end ≡ ends.Limit
+pub earlier : (end other : RunEnd) (n m tid : ℕ) (s a b : State) → n < m → Reaches end n tid s a → Reaches other m tid s b →
+    end ≡ ends.Limit
 earlier end other n m tid s a b low p q =
     let on = front_of other n m tid s b low q in one_run_end end ends.Limit n tid s a on.0 p on.1
 
@@ -55,7 +56,8 @@ reaches (frame_ends.Fault kind) old tid count new runs p = (p.some, p.before, re
 reaches frame_ends.Stuck old tid count new runs p = absurd (runs refl)
 
 -- the thread of a frame that isn't stuck was running
-pub frame_runs : (end : End) (old : State) (tid count : ℕ) (new : State) → ¬ (end ≡ frame_ends.Stuck) → FrameStepBy end old tid count new → IsRunning (thread_at old tid)
+pub frame_runs : (end : End) (old : State) (tid count : ℕ) (new : State) → ¬ (end ≡ frame_ends.Stuck) → FrameStepBy end old tid count new →
+    IsRunning (thread_at old tid)
 frame_runs end old tid count new runs p = let r = reaches end old tid count new runs p in running_at (run_end end) count tid old r.1 r.0 r.2
 
 -- ---- two slices of one choice
@@ -79,25 +81,30 @@ quantum_or (Some choice) = choice.quantum
 -- the quantum of a frame's choice: as many instructions as the frame counts, and just so many where it was preempted
 pub chosen : (end : End) (tid count : ℕ) (choice : Choice) → choice_by_end end tid count ≡ Some choice →
     (choice.tid ≡ tid) × (count ≤ choice.quantum) × (run_end end ≡ ends.Limit → choice.quantum ≡ count) × ¬ (end ≡ frame_ends.Stuck)
-chosen frame_ends.Preempt tid count choice is = let e = whole (nat_le MIN_QUANTUM count) is in (e.0, omega (arith, e.1), λ _. e.1, λ stuck. absurd cc) where
-  whole : (b : Bool) → cond b (Some (record { tid = tid; quantum = count })) None ≡ Some choice → (choice.tid ≡ tid) × (choice.quantum ≡ count)
-  whole true h = (ap (λ (o : Option Choice). tid_or o) (sym h), ap (λ (o : Option Choice). quantum_or o) (sym h))
-  whole false h = absurd cc
+chosen frame_ends.Preempt tid count choice is = let e =
+    whole (nat_le MIN_QUANTUM count) is in (e.0, omega (arith, e.1), λ _. e.1, λ stuck. absurd cc) where
+      whole : (b : Bool) → cond b (Some (record { tid = tid; quantum = count })) None ≡ Some choice → (choice.tid ≡ tid) ×
+          (choice.quantum ≡ count)
+      whole true h = (ap (λ (o : Option Choice). tid_or o) (sym h), ap (λ (o : Option Choice). quantum_or o) (sym h))
+      whole false h = absurd cc
 chosen (frame_ends.Call r) tid count choice is = (
   ap (λ (o : Option Choice). tid_or o) (sym is),
-  (let q : choice.quantum ≡ max MIN_QUANTUM count = ap (λ (o : Option Choice). quantum_or o) (sym is) in omega (arith, le-max_right MIN_QUANTUM count)),
+  (let q : choice.quantum ≡ max MIN_QUANTUM count = ap (λ (o : Option Choice). quantum_or o) (sym is) in
+      omega (arith, le-max_right MIN_QUANTUM count)),
   λ e. absurd cc,
   λ stuck. absurd cc,
 )
 chosen (frame_ends.Fault kind) tid count choice is = (
   ap (λ (o : Option Choice). tid_or o) (sym is),
-  (let q : choice.quantum ≡ max MIN_QUANTUM count = ap (λ (o : Option Choice). quantum_or o) (sym is) in omega (arith, le-max_right MIN_QUANTUM count)),
+  (let q : choice.quantum ≡ max MIN_QUANTUM count = ap (λ (o : Option Choice). quantum_or o) (sym is) in
+      omega (arith, le-max_right MIN_QUANTUM count)),
   λ e. absurd cc,
   λ stuck. absurd cc,
 )
 chosen frame_ends.Stuck tid count choice is = absurd cc
 
-at_limits : (tid quantum : ℕ) (choice : Choice) → {count : ℕ} → IsOfGuest tid count → MIN_QUANTUM ≤ quantum → quantum ≤ MAX_QUANTUM → choice.tid ≡ tid → choice.quantum ≡ quantum →
+at_limits : (tid quantum : ℕ) (choice : Choice) → {count : ℕ} → IsOfGuest tid count → MIN_QUANTUM ≤ quantum → quantum ≤ MAX_QUANTUM →
+    choice.tid ≡ tid → choice.quantum ≡ quantum →
     (1 ≤ choice.tid) × (choice.tid ≤ MAX_TID) × (MIN_QUANTUM ≤ choice.quantum) × (choice.quantum ≤ MAX_QUANTUM)
 at_limits tid quantum choice of low high same same' =
     let from = of.tid_low in let to = of.tid_high in (omega arith, omega arith, omega arith, omega arith)
@@ -109,7 +116,9 @@ chosen_within frame_ends.Preempt tid count choice is of =
     whole (nat_le MIN_QUANTUM count) refl is where
       whole : (b : Bool) → nat_le MIN_QUANTUM count ≡ b → cond b (Some (record { tid = tid; quantum = count })) None ≡ Some choice →
           (1 ≤ choice.tid) × (choice.tid ≤ MAX_TID) × (MIN_QUANTUM ≤ choice.quantum) × (choice.quantum ≤ MAX_QUANTUM)
-      whole true low h = at_limits tid count choice of (leb-true MIN_QUANTUM count low) of.count_high (ap (λ (o : Option Choice). tid_or o) (sym h)) (ap (λ (o : Option Choice). quantum_or o) (sym h))
+      whole true low h =
+          at_limits tid count choice of (leb-true MIN_QUANTUM count low) of.count_high (ap (λ (o : Option Choice). tid_or o) (sym h))
+          (ap (λ (o : Option Choice). quantum_or o) (sym h))
       whole false low h = absurd cc
 chosen_within (frame_ends.Call r) tid count choice is of =
     at_limits tid (max MIN_QUANTUM count) choice of (le-max_left MIN_QUANTUM count) (let high = of.count_high in max-le (omega arith) high)
@@ -119,7 +128,8 @@ chosen_within (frame_ends.Fault kind) tid count choice is of =
     (ap (λ (o : Option Choice). tid_or o) (sym is)) (ap (λ (o : Option Choice). quantum_or o) (sym is))
 chosen_within frame_ends.Stuck tid count choice is of = absurd cc
 
-fitting : (end : End) (old : State) (g : Frame) (choice : Choice) → ¬ (end ≡ frame_ends.Stuck) → FitsChoice end old g choice → IsUncut end g.count choice →
+fitting : (end : End) (old : State) (g : Frame) (choice : Choice) → ¬ (end ≡ frame_ends.Stuck) → FitsChoice end old g choice →
+    IsUncut end g.count choice →
     (g.tid ≡ choice.tid) × (g.count ≤ choice.quantum) × (run_end end ≡ ends.Limit → g.count ≡ choice.quantum)
 fitting frame_ends.Preempt old g choice runs fits uncut = let whole = uncut refl in (fits.0, omega arith, λ _. whole)
 fitting (frame_ends.Call r) old g choice runs fits uncut = (fits.0, fits.1, λ e. absurd cc)
@@ -155,7 +165,8 @@ pub one_frame : (f g : Frame) → g.tid ≡ f.tid → g.count ≡ f.count → g.
 one_frame f g tids counts ends_alike = λ i. record { tid = tids i; count = counts i; end = ends_alike i }
 
 -- where a frame leads on, no frame says that no thread runs
-pub not_stuck : (end : End) (old : State) (tid count : ℕ) (other : State) → (t : ℕ) → IsRunning (thread_at old t) → FrameStepBy end old tid count other → ¬ (end ≡ frame_ends.Stuck)
+pub not_stuck : (end : End) (old : State) (tid count : ℕ) (other : State) → (t : ℕ) → IsRunning (thread_at old t) →
+    FrameStepBy end old tid count other → ¬ (end ≡ frame_ends.Stuck)
 not_stuck frame_ends.Preempt old tid count other t running p = λ e. absurd cc
 not_stuck (frame_ends.Call r) old tid count other t running p = λ e. absurd cc
 not_stuck (frame_ends.Fault kind) old tid count other t running p = λ e. absurd cc
@@ -193,12 +204,15 @@ of_guest old tid count state high running =
     let next = threads.next_tid in
     record { tid_low = within.0; tid_high = omega arith; count_high = high }
 
-end_is_of_guest : (end : End) (old : State) (tid count : ℕ) (new : State) → IsState old → count ≤ MAX_QUANTUM → FrameStepBy end old tid count new →
+end_is_of_guest : (end : End) (old : State) (tid count : ℕ) (new : State) → IsState old → count ≤ MAX_QUANTUM →
+    FrameStepBy end old tid count new →
     EndIsOfGuest end tid count
 end_is_of_guest frame_ends.Preempt old tid count new state high goes =
-    let p = reaches frame_ends.Preempt old tid count new (λ e. absurd cc) goes in of_guest old tid count state high (running_at ends.Limit count tid old p.1 p.0 p.2)
+    let p = reaches frame_ends.Preempt old tid count new (λ e. absurd cc) goes in
+    of_guest old tid count state high (running_at ends.Limit count tid old p.1 p.0 p.2)
 end_is_of_guest (frame_ends.Call r) old tid count new state high goes =
-    let p = reaches (frame_ends.Call r) old tid count new (λ e. absurd cc) goes in of_guest old tid count state high (running_at ends.Call count tid old p.1 p.0 p.2)
+    let p = reaches (frame_ends.Call r) old tid count new (λ e. absurd cc) goes in
+    of_guest old tid count state high (running_at ends.Call count tid old p.1 p.0 p.2)
 end_is_of_guest (frame_ends.Fault kind) old tid count new state high goes =
     let p = reaches (frame_ends.Fault kind) old tid count new (λ e. absurd cc) goes in
     of_guest old tid count state high (running_at (ends.Fault kind) count tid old p.1 p.0 p.2)

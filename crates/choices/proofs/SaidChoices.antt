@@ -67,7 +67,8 @@ at_lacks p none (b ∷ bytes) lacks zero = lacks 0 0 (omega arith)
 at_lacks p none (b ∷ bytes) lacks (suc k) = at_lacks p none bytes (λ j d low. lacks (suc j) d (omega arith)) k
 
 no_return : (line : List ℕ) → Lacks (λ b. b == 13) line → strip_carriage_return line ≡ line
-no_return line lacks = ap (λ (t : Bool). cond t (take (length line - 1) line) line) (at_lacks (λ b. b == 13) refl line lacks (length line - 1))
+no_return line lacks =
+    ap (λ (t : Bool). cond t (take (length line - 1) line) line) (at_lacks (λ b. b == 13) refl line lacks (length line - 1))
 
 no_comment : (line : List ℕ) → Lacks (λ b. b == 35) line → before_first (λ b. b == 35) line ≡ line
 no_comment line lacks =
@@ -96,13 +97,17 @@ line_lacks : (p : ℕ → Bool) → ((c : ℕ) → 48 ≤ c → c ≤ 57 → p c
 line_lacks p others none choice h =
     let high = h.tid_high in let most = h.quantum_high in
     lacks_append p (decimal choice.tid) (codes " " ++ decimal choice.quantum) (lacks_digits p others choice.tid (omega arith))
-    (lacks_append p (codes " ") (decimal choice.quantum) (lacks_all p (codes " ") (ap (λ (t : Bool). not t && true) none)) (lacks_digits p others choice.quantum (omega arith)))
+    (lacks_append p (codes " ") (decimal choice.quantum) (lacks_all p (codes " ") (ap (λ (t : Bool). not t && true) none))
+    (lacks_digits p others choice.quantum (omega arith)))
 
-fields_said : (tid quantum : ℕ) → tid < 2 ^ 64 → quantum < 2 ^ 64 → fields_of (decimal tid ++ 32 ∷ decimal quantum) ≡ decimal tid ∷ decimal quantum ∷ []
+fields_said : (tid quantum : ℕ) → tid < 2 ^ 64 → quantum < 2 ^ 64 →
+    fields_of (decimal tid ++ 32 ∷ decimal quantum) ≡ decimal tid ∷ decimal quantum ∷ []
 fields_said tid quantum small small' =
     ap (filter (λ field. not (length field == 0)))
-    (slice_split_at is_blank (decimal tid) 32 (decimal quantum) (lacks_digits is_blank (λ c low high. grind (arith, nat_tests)) tid small) refl
-    ∙ ap (λ (l : List (List ℕ)). decimal tid ∷ l) (slice_split_none is_blank (decimal quantum) (lacks_digits is_blank (λ c low high. grind (arith, nat_tests)) quantum small')))
+    (slice_split_at is_blank (decimal tid) 32 (decimal quantum) (lacks_digits is_blank (λ c low high. grind (arith, nat_tests)) tid small)
+    refl
+    ∙ ap (λ (l : List (List ℕ)). decimal tid ∷ l)
+    (slice_split_none is_blank (decimal quantum) (lacks_digits is_blank (λ c low high. grind (arith, nat_tests)) quantum small')))
     ∙ rw (filled tid small, filled quantum small') refl
 
 choice_said : (choice : Choice) → Sayable choice → line_says (line_text (lines.Ran choice)) ≡ Some (choice ∷ [])
@@ -115,7 +120,8 @@ choice_said choice h =
     ap (before_first (λ b. b == 35)) (no_return line (line_lacks (λ b. b == 13) (λ c low up. grind (arith, nat_tests)) refl choice h))
     ∙ no_comment line (line_lacks (λ b. b == 35) (λ c low up. grind (arith, nat_tests)) refl choice h) in
     ap (λ (l : List ℕ). fields_say (fields_of l)) whole ∙ ap fields_say (fields_said choice.tid choice.quantum small small')
-    ∙ ap (λ (o : Option ℕ). choice_by o (number_in MIN_QUANTUM MAX_QUANTUM (decimal choice.quantum))) (number_said 1 MAX_TID choice.tid small h.tid_low h.tid_high)
+    ∙ ap (λ (o : Option ℕ). choice_by o (number_in MIN_QUANTUM MAX_QUANTUM (decimal choice.quantum)))
+    (number_said 1 MAX_TID choice.tid small h.tid_low h.tid_high)
     ∙ ap (choice_by (Some choice.tid)) (number_said MIN_QUANTUM MAX_QUANTUM choice.quantum small' h.quantum_low h.quantum_high)
 
 -- ---- the line of a slice that was cut short
@@ -132,7 +138,8 @@ short_lacks p others first second third tid count small small' =
 short_said : (tid count : ℕ) → tid < 2 ^ 64 → count < 2 ^ 64 → line_says (line_text (lines.CutShort tid count)) ≡ Some []
 short_said tid count small small' =
     ap (λ (l : List ℕ). fields_say (fields_of (before_first (λ b. b == 35) l)))
-    (no_return (line_text (lines.CutShort tid count)) (short_lacks (λ b. b == 13) (λ c low up. grind (arith, nat_tests)) refl refl refl tid count small small'))
+    (no_return (line_text (lines.CutShort tid count))
+    (short_lacks (λ b. b == 13) (λ c low up. grind (arith, nat_tests)) refl refl refl tid count small small'))
 
 -- ---- texts
 
@@ -146,19 +153,24 @@ nothing_first : (o : Option (List Choice)) → o ≡ both (Some []) o
 nothing_first None = refl
 nothing_first (Some said) = refl
 
-sayable : (end : End) (tid count : ℕ) (choice : Choice) → EndIsOfGuest end tid count → choice_by_end end tid count ≡ Some choice → Sayable choice
-sayable end tid count choice of is = let e = chosen_within end tid count choice is of in record { tid_low = e.0; tid_high = e.1; quantum_low = e.2; quantum_high = e.3 }
+sayable : (end : End) (tid count : ℕ) (choice : Choice) → EndIsOfGuest end tid count → choice_by_end end tid count ≡ Some choice →
+    Sayable choice
+sayable end tid count choice of is = let e =
+    chosen_within end tid count choice is of in record { tid_low = e.0; tid_high = e.1; quantum_low = e.2; quantum_high = e.3 }
 
-frame_said : (o : Option Choice) (end : End) (tid count : ℕ) (rest : List ℕ) → choice_by_end end tid count ≡ o → EndIsOfGuest end tid count →
+frame_said : (o : Option Choice) (end : End) (tid count : ℕ) (rest : List ℕ) → choice_by_end end tid count ≡ o →
+    EndIsOfGuest end tid count →
     text_says (ended_line (line_by_end o end tid count) ++ rest) ≡ both (Some (option_to_list o)) (text_says rest)
 frame_said (Some choice) end tid count rest is of =
     let h = sayable end tid count choice of is in
-    next_line (line_text (lines.Ran choice)) rest (choice ∷ []) (line_lacks (λ b. b == 10) (λ c low up. grind (arith, nat_tests)) refl choice h) (choice_said choice h)
+    next_line (line_text (lines.Ran choice)) rest (choice ∷ [])
+    (line_lacks (λ b. b == 10) (λ c low up. grind (arith, nat_tests)) refl choice h) (choice_said choice h)
 frame_said None ends.Preempt tid count rest is of =
     let high = of.tid_high in let most = of.count_high in
     let small : tid < 2 ^ 64 = omega arith in
     let small' : count < 2 ^ 64 = omega arith in
-    next_line (line_text (lines.CutShort tid count)) rest [] (short_lacks (λ b. b == 10) (λ c low up. grind (arith, nat_tests)) refl refl refl tid count small small')
+    next_line (line_text (lines.CutShort tid count)) rest []
+    (short_lacks (λ b. b == 10) (λ c low up. grind (arith, nat_tests)) refl refl refl tid count small small')
     (short_said tid count small small')
 frame_said None (ends.Call r) tid count rest is of = nothing_first (text_says rest)
 frame_said None (ends.Fault kind) tid count rest is of = nothing_first (text_says rest)
@@ -183,11 +195,13 @@ all_cons P f frames first rest = at where
   at zero d low = first
   at (suc k) d low = rest k d (omega arith)
 
-all_follow : (base s : State) (parts : List Part) (its : List Item) → IsState s → ItemsFollow base parts s its → All FrameIsOfGuest (frames_of its)
+all_follow : (base s : State) (parts : List Part) (its : List Item) → IsState s → ItemsFollow base parts s its →
+    All FrameIsOfGuest (frames_of its)
 all_follow base s parts [] state follow = λ k d low. absurd (omega arith)
 all_follow base s parts (items.Opening o ∷ rest) state follow = absurd follow
 all_follow base s parts (items.Frame f ∷ rest) state (new, step, follow) =
-    all_cons FrameIsOfGuest f (frames_of rest) (frames_are_of_guests s f new state step) (all_follow base new [] rest (frames_keep_states s f new state step) follow)
+    all_cons FrameIsOfGuest f (frames_of rest) (frames_are_of_guests s f new state step)
+    (all_follow base new [] rest (frames_keep_states s f new state step) follow)
 all_follow base s parts (items.Part p ∷ rest) state (fits, follow) =
     all_follow (base_after p.rest base s) s (row_after p.rest (parts ++ p ∷ [])) rest state follow
 

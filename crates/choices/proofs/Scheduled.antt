@@ -28,14 +28,17 @@ first_runs s tid tids are = (are.running tid).0 (0, omega arith, refl)
 -- ---- the thread of a frame
 
 -- where no thread runs, the last stays
-no_thread : (end : End) (s : State) (tid count before : ℕ) (s' : State) → ((t : ℕ) → IsRunning (thread_at s t) → ⊥) → FrameStepBy end s tid count s' → thread_by end tid before ≡ before
+no_thread : (end : End) (s : State) (tid count before : ℕ) (s' : State) → ((t : ℕ) → IsRunning (thread_at s t) → ⊥) →
+    FrameStepBy end s tid count s' → thread_by end tid before ≡ before
 no_thread ends.Preempt s tid count before s' none p = absurd (none tid (frame_runs ends.Preempt s tid count s' (λ e. absurd cc) p))
 no_thread (ends.Call r) s tid count before s' none p = absurd (none tid (frame_runs (ends.Call r) s tid count s' (λ e. absurd cc) p))
-no_thread (ends.Fault kind) s tid count before s' none p = absurd (none tid (frame_runs (ends.Fault kind) s tid count s' (λ e. absurd cc) p))
+no_thread (ends.Fault kind) s tid count before s' none p =
+    absurd (none tid (frame_runs (ends.Fault kind) s tid count s' (λ e. absurd cc) p))
 no_thread ends.Stuck s tid count before s' none p = refl
 
 -- where one runs, the frame's is the chosen one
-own_thread : (end : End) (s : State) (f : Frame) (choice : Choice) (before t : ℕ) (s' : State) → IsRunning (thread_at s t) → FrameStepBy end s f.tid f.count s' → FitsChoice end s f choice →
+own_thread : (end : End) (s : State) (f : Frame) (choice : Choice) (before t : ℕ) (s' : State) → IsRunning (thread_at s t) →
+    FrameStepBy end s f.tid f.count s' → FitsChoice end s f choice →
     thread_by end f.tid before ≡ choice.tid
 own_thread ends.Preempt s f choice before t s' runs p fits = fits.0
 own_thread (ends.Call r) s f choice before t s' runs p fits = fits.0
@@ -48,9 +51,11 @@ last_of : (runnable : List ℕ) (old : Plan) (choice : Choice) (new : Plan) → 
 last_of runnable old choice new (inl taken) = ap (λ (p : Plan). p.last) taken.new_is
 last_of runnable old choice new (inr taken) = ap (λ (p : Plan). p.last) taken.new_is
 
-last_next : (tids : List ℕ) (s : State) (old : Plan) (f : Frame) (s' : State) (choice : Choice) (new : Plan) → AreRunning s tids → PicksAmong by_schedule tids old (Some choice) new →
+last_next : (tids : List ℕ) (s : State) (old : Plan) (f : Frame) (s' : State) (choice : Choice) (new : Plan) → AreRunning s tids →
+    PicksAmong by_schedule tids old (Some choice) new →
     FrameStepBy f.end s f.tid f.count s' → FitsChoice f.end s f choice → new.last ≡ thread_by f.end f.tid old.last
-last_next [] s old f s' choice new are picks goes fits = ap (λ (p : Plan). p.last) picks.1 ∙ sym (no_thread f.end s f.tid f.count old.last s' (none_runs s are) goes)
+last_next [] s old f s' choice new are picks goes fits =
+    ap (λ (p : Plan). p.last) picks.1 ∙ sym (no_thread f.end s f.tid f.count old.last s' (none_runs s are) goes)
 last_next (t ∷ tids) s old f s' choice new are picks goes fits =
     last_of (t ∷ tids) old choice new picks ∙ sym (own_thread f.end s f choice old.last t s' (first_runs s t tids are) goes fits)
 
@@ -58,7 +63,8 @@ pub last_chosen_ran_last : LastChosenRanLast
 last_chosen_ran_last s old [] s' new (there, same) = ap (λ (p : Plan). p.last) same
 last_chosen_ran_last s old (f ∷ frames) s' new (mid, next, is, rest) =
     last_chosen_ran_last mid next frames s' new rest
-    ∙ ap (λ (tid : ℕ). last_from tid frames) (last_next is.picks.tids s old f mid is.choice next is.picks.running is.picks.picks is.step.goes is.fits)
+    ∙ ap (λ (tid : ℕ). last_from tid frames)
+    (last_next is.picks.tids s old f mid is.choice next is.picks.running is.picks.picks is.step.goes is.fits)
 
 pub nothing_keeps_last : NothingKeepsLast
 nothing_keeps_last runnable old new taken = ap (λ (p : Plan). p.last) taken.new_is

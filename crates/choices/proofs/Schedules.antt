@@ -22,7 +22,8 @@ no_more_behind (Some misfit) left taken = tt
 refused_no_more : (p : Plan) → NoMore (refused p).misfit (refused p).left
 refused_no_more p = no_more_behind p.misfit p.left p.taken
 
-none_taken : (misfit : Option Misfit) (choice : Choice) (left more : List Choice) → NoMore misfit left → misfit ≡ None → left ≡ choice ∷ more → ⊥
+none_taken : (misfit : Option Misfit) (choice : Choice) (left more : List Choice) → NoMore misfit left → misfit ≡ None →
+    left ≡ choice ∷ more → ⊥
 none_taken None choice left more none unrefused next = cc
 none_taken (Some misfit) choice left more none unrefused next = cc
 
@@ -31,22 +32,26 @@ abbrev pub Beyond : List ℕ → Plan → Option Choice → Plan → Type 0
 Beyond runnable old (Some choice) new = TakesTurn runnable old choice new
 Beyond runnable old None new = TakesNone runnable old new
 
-beyond : (runnable : List ℕ) (old : Plan) (outcome : Option Choice) (new : Plan) → NoMore old.misfit old.left → Chooses runnable old outcome new →
+beyond : (runnable : List ℕ) (old : Plan) (outcome : Option Choice) (new : Plan) → NoMore old.misfit old.left →
+    Chooses runnable old outcome new →
     Beyond runnable old outcome new
 beyond runnable old None new none chosen = chosen
 beyond runnable old (Some choice) new none (inl listed) =
     absurd (none_taken old.misfit choice old.left new.left none listed.unrefused listed.next)
 beyond runnable old (Some choice) new none (inr turn) = turn
 
-no_more_after : (runnable : List ℕ) (old : Plan) (outcome : Option Choice) (new : Plan) → Beyond runnable old outcome new → NoMore new.misfit new.left
+no_more_after : (runnable : List ℕ) (old : Plan) (outcome : Option Choice) (new : Plan) → Beyond runnable old outcome new →
+    NoMore new.misfit new.left
 no_more_after runnable old None new taken = subst (λ (p : Plan). NoMore p.misfit p.left) (sym taken.new_is) (refused_no_more old)
 no_more_after runnable old (Some choice) new taken = subst (λ (p : Plan). NoMore p.misfit p.left) (sym taken.new_is) (refused_no_more old)
 
-same_turns : (runnable : List ℕ) (old : Plan) (outcome : Option Choice) (new : Plan) → Beyond runnable old outcome new → new.turns ≡ old.turns
+same_turns : (runnable : List ℕ) (old : Plan) (outcome : Option Choice) (new : Plan) → Beyond runnable old outcome new →
+    new.turns ≡ old.turns
 same_turns runnable old None new taken = ap (λ (p : Plan). p.turns) taken.new_is
 same_turns runnable old (Some choice) new taken = ap (λ (p : Plan). p.turns) taken.new_is
 
-one_behind : (turns : Option ℕ) (runnable : List ℕ) (more : List (List ℕ)) (old : Plan) (outcome : Option Choice) (new : Plan) (others : List (Option Choice)) →
+one_behind : (turns : Option ℕ) (runnable : List ℕ) (more : List (List ℕ)) (old : Plan) (outcome : Option Choice) (new : Plan)
+    (others : List (Option Choice)) →
     old.turns ≡ turns → Beyond runnable old outcome new → AreBehind turns new.last more others →
     AreBehind turns old.last (runnable ∷ more) (outcome ∷ others)
 one_behind None runnable more old None new others is taken rest = ap (λ (l : List (Option Choice)). None ∷ l) rest
@@ -76,7 +81,8 @@ all_behind turns (runnable ∷ more) old outcomes is none (outcome, new, others,
 -- ---- from the list on
 
 -- no choice of the list is taken
-stopped : (runnable : List ℕ) (more : List (List ℕ)) (old : Plan) (outcome : Option Choice) (new : Plan) (others outcomes : List (Option Choice)) →
+stopped : (runnable : List ℕ) (more : List (List ℕ)) (old : Plan) (outcome : Option Choice) (new : Plan)
+    (others outcomes : List (Option Choice)) →
     old.misfit ≡ None → outcomes ≡ outcome ∷ others → IsOver runnable old.misfit old.left → Beyond runnable old outcome new →
     ChoosesInTurn more new others → IsSchedule old.left old.turns old.last (runnable ∷ more) outcomes
 stopped runnable more old outcome new others outcomes unrefused are over taken rest = record {
@@ -87,7 +93,8 @@ stopped runnable more old outcome new others outcomes unrefused are over taken r
   behind =
       subst (AreBehind old.turns old.last (runnable ∷ more)) (sym are)
       (one_behind old.turns runnable more old outcome new others refl taken
-      (all_behind old.turns more new others (same_turns runnable old outcome new taken) (no_more_after runnable old outcome new taken) rest));
+      (all_behind old.turns more new others (same_turns runnable old outcome new taken) (no_more_after runnable old outcome new taken)
+      rest));
 }
 
 -- the next choice of the list is taken
@@ -102,13 +109,16 @@ took runnable more old choice new others outcomes are listed rest =
       fit = (listed.fits, rest.fit);
       stops = rest.stops;
       behind =
-          subst (λ (turns : Option ℕ). AreBehind turns (last_tid choice.tid (take rest.count new.left)) (drop rest.count more) (drop rest.count others))
+          subst (λ (turns : Option ℕ). AreBehind turns (last_tid choice.tid (take rest.count new.left)) (drop rest.count more)
+          (drop rest.count others))
           (ap (λ (p : Plan). p.turns) listed.new_is)
-          (subst (λ (tid : ℕ). AreBehind new.turns (last_tid tid (take rest.count new.left)) (drop rest.count more) (drop rest.count others))
+          (subst (λ (tid : ℕ). AreBehind new.turns (last_tid tid (take rest.count new.left)) (drop rest.count more)
+          (drop rest.count others))
           (ap (λ (p : Plan). p.last) listed.new_is) rest.behind);
     }))
 
-from_plan : (runnables : List (List ℕ)) (old : Plan) (outcomes : List (Option Choice)) → old.misfit ≡ None → ChoosesInTurn runnables old outcomes →
+from_plan : (runnables : List (List ℕ)) (old : Plan) (outcomes : List (Option Choice)) → old.misfit ≡ None →
+    ChoosesInTurn runnables old outcomes →
     IsSchedule old.left old.turns old.last runnables outcomes
 from_plan [] old outcomes unrefused chosen = record {
   count = 0;
@@ -129,7 +139,8 @@ pub schedules_are_lists : SchedulesAreLists
 schedules_are_lists list turns runnables outcomes chosen = from_plan runnables (plan list turns) outcomes refl chosen
 
 pub empty_list_is_turns : EmptyListIsTurns
-empty_list_is_turns quantum runnables outcomes chosen = all_behind (Some quantum) runnables (plan [] (Some quantum)) outcomes refl refl chosen
+empty_list_is_turns quantum runnables outcomes chosen =
+    all_behind (Some quantum) runnables (plan [] (Some quantum)) outcomes refl refl chosen
 
 -- ---- one turn
 
@@ -141,7 +152,8 @@ get_or_any [] k d e low = absurd (omega arith)
 get_or_any (x ∷ xs) zero d e low = refl
 get_or_any (x ∷ xs) (suc k) d e low = get_or_any xs k d e (omega arith)
 
-turn_before : (quantum last : ℕ) (runnable : List ℕ) (choice : Choice) (tid : ℕ) → IsTurn quantum last runnable choice → Contains runnable tid →
+turn_before : (quantum last : ℕ) (runnable : List ℕ) (choice : Choice) (tid : ℕ) → IsTurn quantum last runnable choice →
+    Contains runnable tid →
     turn last choice.tid ≤ turn last tid
 turn_before quantum last runnable choice tid is (k, low, at) =
     subst (λ (t : ℕ). turn last choice.tid ≤ turn last t) (get_or_any runnable k 0 tid low ∙ at) (is.least k low)

@@ -14,16 +14,20 @@ use Rattle.choices.proofs.Again.{must_stick, none_behind}
 use Rattle.choices.proofs.Scheduled.{none_runs}
 use Rattle.choices.proofs.Schedules.{schedules_are_lists}
 
-follows : (frames : List Frame) (s : State) (old : Plan) (s' : State) (new : Plan) → AreChosen by_schedule s old frames s' new → FramesFollow s frames
+follows : (frames : List Frame) (s : State) (old : Plan) (s' : State) (new : Plan) → AreChosen by_schedule s old frames s' new →
+    FramesFollow s frames
 follows [] s old s' new chosen = tt
 follows (f ∷ frames) s old s' new (mid, next, is, rest) = (mid, is.step, follows frames mid next s' new rest)
 
 abbrev HasOutcomes : State → Plan → List Frame → Type 0
 HasOutcomes s old frames =
-    (runnables : List (List ℕ)) × (outcomes : List (Option Choice)) × AreSlicesOf s frames runnables outcomes × ChoosesInTurn runnables old outcomes
+    (runnables : List (List ℕ)) × (outcomes : List (Option Choice)) × AreSlicesOf s frames runnables outcomes ×
+    ChoosesInTurn runnables old outcomes
 
-one_more : (tids : List ℕ) (s : State) (f : Frame) (frames : List Frame) (mid : State) (old : Plan) (choice : Choice) (next : Plan) → AreRunning s tids →
-    PicksAmong by_schedule tids old (Some choice) next → FrameStep s f mid → FitsChoice f.end s f choice → FramesFollow mid frames → HasOutcomes mid next frames →
+one_more : (tids : List ℕ) (s : State) (f : Frame) (frames : List Frame) (mid : State) (old : Plan) (choice : Choice) (next : Plan) →
+    AreRunning s tids →
+    PicksAmong by_schedule tids old (Some choice) next → FrameStep s f mid → FitsChoice f.end s f choice → FramesFollow mid frames →
+    HasOutcomes mid next frames →
     HasOutcomes s old (f ∷ frames)
 one_more [] s f frames mid old choice next are picks step fits follow rest =
     let stuck = (must_stick f.end s f.tid f.count mid (none_runs s are) step.goes).0 in
@@ -35,10 +39,12 @@ one_more (t ∷ tids) s f frames mid old choice next are picks step fits follow 
   (Some choice, next, outcomes, refl, picks, chosen),
 )
 
-outcomes_of : (frames : List Frame) (s : State) (old : Plan) (s' : State) (new : Plan) → AreChosen by_schedule s old frames s' new → HasOutcomes s old frames
+outcomes_of : (frames : List Frame) (s : State) (old : Plan) (s' : State) (new : Plan) → AreChosen by_schedule s old frames s' new →
+    HasOutcomes s old frames
 outcomes_of [] s old s' new chosen = ([], [], (refl, refl), refl)
 outcomes_of (f ∷ frames) s old s' new (mid, next, is, rest) =
-    one_more is.picks.tids s f frames mid old is.choice next is.picks.running is.picks.picks is.step is.fits (follows frames mid next s' new rest)
+    one_more is.picks.tids s f frames mid old is.choice next is.picks.running is.picks.picks is.step is.fits
+    (follows frames mid next s' new rest)
     (outcomes_of frames mid next s' new rest)
 
 pub frames_are_lists : FramesAreLists

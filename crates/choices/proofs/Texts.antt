@@ -71,14 +71,16 @@ next_says lines i line before said low at so_far says =
     ∙ ap lines_say (take-suc lines i [] low ∙ ap (λ (l : List ℕ). take i lines ++ l ∷ []) (sym at)) ∙ lines_more (take i lines) line
     ∙ ap (λ (o : Option (List Choice)). both o (line_says line)) so_far ∙ ap (both (Some before)) says
 
-pub first_bad : (text : List ℕ) (i : ℕ) (line : List ℕ) (before : List Choice) → i < length (lines_of text) → line ≡ get_or (lines_of text) i [] →
+pub first_bad : (text : List ℕ) (i : ℕ) (line : List ℕ) (before : List Choice) → i < length (lines_of text) →
+    line ≡ get_or (lines_of text) i [] →
     lines_say (take i (lines_of text)) ≡ Some before → line_says line ≡ None → IsFirstBad text (i + 1)
 first_bad text i line before low at so_far says = record {
   before = take i (lines_of text);
   line = line;
   after = drop (suc i) (lines_of text);
   lines_are =
-      sym (take-append-drop i (lines_of text)) ∙ ap (λ (l : List (List ℕ)). take i (lines_of text) ++ l) (drop-cons (lines_of text) i [] low)
+      sym (take-append-drop i (lines_of text))
+      ∙ ap (λ (l : List (List ℕ)). take i (lines_of text) ++ l) (drop-cons (lines_of text) i [] low)
       ∙ ap (λ (l : List ℕ). take i (lines_of text) ++ l ∷ drop (suc i) (lines_of text)) (sym at);
   number_is = omega (arith, length-take i (lines_of text));
   fine = ap is_some so_far;
@@ -86,7 +88,8 @@ first_bad text i line before low at so_far says = record {
 }
 
 -- a line behind a reference
-pub line_at : (refs : List (Bor (List ℕ))) (i : ℕ) (d : Bor (List ℕ)) → d.now ≡ [] → (get_or refs i d).now ≡ get_or (map (λ x. x.now) refs) i []
+pub line_at : (refs : List (Bor (List ℕ))) (i : ℕ) (d : Bor (List ℕ)) → d.now ≡ [] →
+    (get_or refs i d).now ≡ get_or (map (λ x. x.now) refs) i []
 line_at [] i d e = e
 line_at (r ∷ refs) zero d e = refl
 line_at (r ∷ refs) (suc i) d e = line_at refs i d e
@@ -95,10 +98,12 @@ pub turn : (refs : List (Bor (List ℕ))) (i : ℕ) (d : Bor (List ℕ)) (before
     lines_say (take i (map (λ x. x.now) refs)) ≡ Some before → line_says (get_or refs i d).now ≡ Some said →
     lines_say (take (i + 1) (map (λ x. x.now) refs)) ≡ Some (before ++ said)
 turn refs i d before said low empty =
-    next_says (map (λ x. x.now) refs) i (get_or refs i d).now before said (omega (arith, length-map refs (λ (x : Bor (List ℕ)). x.now))) (line_at refs i d empty)
+    next_says (map (λ x. x.now) refs) i (get_or refs i d).now before said (omega (arith, length-map refs (λ (x : Bor (List ℕ)). x.now)))
+    (line_at refs i d empty)
 
 pub stop : (refs : List (Bor (List ℕ))) (text : List ℕ) (i : ℕ) (d : Bor (List ℕ)) (before : List Choice) → i < length refs → d.now ≡ [] →
-    map (λ x. x.now) refs ≡ lines_of text → lines_say (take i (map (λ x. x.now) refs)) ≡ Some before → line_says (get_or refs i d).now ≡ None →
+    map (λ x. x.now) refs ≡ lines_of text → lines_say (take i (map (λ x. x.now) refs)) ≡ Some before →
+    line_says (get_or refs i d).now ≡ None →
     IsFirstBad text (i + 1)
 stop refs text i d before low empty all so_far says =
     first_bad text i (get_or refs i d).now before
@@ -108,7 +113,8 @@ stop refs text i d before low empty all so_far says =
 
 -- ---- bad texts
 
-bad_behind : (before : List (List ℕ)) (line : List ℕ) (after : List (List ℕ)) → line_says line ≡ None → lines_say (before ++ line ∷ after) ≡ None
+bad_behind : (before : List (List ℕ)) (line : List ℕ) (after : List (List ℕ)) → line_says line ≡ None →
+    lines_say (before ++ line ∷ after) ≡ None
 bad_behind [] line after bad = ap (λ (o : Option (List Choice)). both o (lines_say after)) bad
 bad_behind (l ∷ ls) line after bad = ap (both (line_says l)) (bad_behind ls line after bad) ∙ both_bad (line_says l) where
   both_bad : (o : Option (List Choice)) → both o None ≡ None

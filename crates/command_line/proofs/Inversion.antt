@@ -34,7 +34,8 @@ passed {Q = Q} r e is f p = passed_up r e (λ e. OnBad e Q) is (on_bad e f p)
 -- ---- a place that isn't there
 
 -- is nowhere, by any reading
-pub none_at : (rows : List Row) (at other : Option Place) → HasPlaceOrNone rows (codes "at") at → HasPlaceOrNone rows (codes "at") other → at ≡ None → other ≡ None
+pub none_at : (rows : List Row) (at other : Option Place) → HasPlaceOrNone rows (codes "at") at → HasPlaceOrNone rows (codes "at") other →
+    at ≡ None → other ≡ None
 none_at rows at None h o none = refl
 none_at rows (Some place) (Some p) h o none = absurd (none-some place (sym none))
 none_at rows None (Some p) h o none = absurd (none-some o.text (sym h ∙ o.found))
@@ -50,7 +51,8 @@ Asked name rows =
     × NamesReplay rows guest at memory progress) (
     cond (bytes_eq name (codes "back")) ((guest : GuestOf) × (from : Place) × (count : ℕ) × (memory : List MemoryRange) × (progress : Bool)
     × NamesBack rows guest from count memory progress) (
-    cond (bytes_eq name (codes "last")) ((guest : GuestOf) × (from : Place) × (address : ℕ) × (memory : List MemoryRange) × (progress : Bool)
+    cond (bytes_eq name (codes "last"))
+    ((guest : GuestOf) × (from : Place) × (address : ℕ) × (memory : List MemoryRange) × (progress : Bool)
     × NamesLast rows guest from address memory progress) (
     cond (bytes_eq name (codes "choices")) ((guest : GuestOf) × NamesGuest rows guest) (
     cond (bytes_eq name (codes "core")) ((guest : GuestOf) × (at : Place) × (file : Text) × (progress : Bool)

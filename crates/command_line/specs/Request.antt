@@ -142,14 +142,16 @@ pub record NamesReplay (rows : List Row) (guest : GuestOf) (at : Option Place) (
   pub beside_at : at ≡ None → memory ≡ []
   pub progress_is : HasFlag rows (codes "progress") progress
 
-pub record NamesBack (rows : List Row) (guest : GuestOf) (from : Place) (count : ℕ) (memory : List MemoryRange) (progress : Bool) : Type 0 where
+pub record NamesBack (rows : List Row) (guest : GuestOf) (from : Place) (count : ℕ) (memory : List MemoryRange) (progress : Bool) : Type
+    0 where
   pub guest_is : NamesGuest rows guest
   pub from_is : HasPlace rows (codes "FROM") from
   pub count_is : HasNumber rows (codes "N") count
   pub memory_is : HasMemory rows memory
   pub progress_is : HasFlag rows (codes "progress") progress
 
-pub record NamesLast (rows : List Row) (guest : GuestOf) (from : Place) (address : ℕ) (memory : List MemoryRange) (progress : Bool) : Type 0 where
+pub record NamesLast (rows : List Row) (guest : GuestOf) (from : Place) (address : ℕ) (memory : List MemoryRange) (progress : Bool) : Type
+    0 where
   pub guest_is : NamesGuest rows guest
   pub from_is : HasPlace rows (codes "FROM") from
   pub address_is : HasAddress rows (codes "ADDR") address

@@ -5,7 +5,8 @@ use Rattle.std.specs.declared.alloc.Global.{Global}
 use Rattle.rrv_model.specs.declared.record.Choice.{Choice}
 use Rattle.commands.specs.Jobs.{list_at, lists_of}
 
-pub list_there : (lists : List (Vec Choice Global)) (place : ℕ) (own : Vec Choice Global) → slice_get lists place ≡ Some own → vec_items own ≡ list_at (lists_of lists) place
+pub list_there : (lists : List (Vec Choice Global)) (place : ℕ) (own : Vec Choice Global) → slice_get lists place ≡ Some own →
+    vec_items own ≡ list_at (lists_of lists) place
 list_there [] place own is = cc
 list_there (list ∷ lists) zero own is = let same : own ≡ list = cc in ap vec_items same
 list_there (list ∷ lists) (suc place) own is = list_there lists place own is

@@ -15,7 +15,8 @@ split_at [] i x e = cc
 split_at (y ∷ xs) zero x e = let same : y ≡ x = cc in ap (λ q. q ∷ xs) same
 split_at (y ∷ xs) (suc i) x e = ap (λ rest. y ∷ rest) (split_at xs i x e)
 
-pub runs_next : (frames : List Frame) (i t left : ℕ) (f : Frame) → slice_get frames i ≡ Some f → left + total (take i frames) ≡ t → left < f.count
+pub runs_next : (frames : List Frame) (i t left : ℕ) (f : Frame) → slice_get frames i ≡ Some f → left + total (take i frames) ≡ t →
+    left < f.count
     → RunsNext frames t f.tid
 runs_next frames i t left f is sum low = record {
   before = take i frames;

@@ -6,14 +6,16 @@ use Rattle.session.specs.declared.job.Job.{Job}
 use Rattle.commands.specs.Jobs.{AreJobs, IsJob, Terms}
 
 module _ {S : Type 0} (terms : Terms) where
-  pub as_many : (place : ℕ) (files : List (List ℕ)) (jobs : List (Job Plan Seen S)) → AreJobs terms place files jobs → length jobs ≡ length files
+  pub as_many : (place : ℕ) (files : List (List ℕ)) (jobs : List (Job Plan Seen S)) → AreJobs terms place files jobs →
+      length jobs ≡ length files
   as_many place [] [] are = omega arith
   as_many place [] (job ∷ jobs) are = absurd are
   as_many place (file ∷ files) [] are = absurd are
   as_many place (file ∷ files) (job ∷ jobs) are = let e = as_many (place + 1) files jobs are.1 in omega (arith, e)
 
   pub jobs_on : (place at : ℕ) (files : List (List ℕ)) (jobs : List (Job Plan Seen S)) (file : List ℕ) (job : Job Plan Seen S)
-      → AreJobs terms place files jobs → at ≡ place + length jobs → IsJob terms at file job → AreJobs terms place (files ++ file ∷ []) (jobs ++ job ∷ [])
+      → AreJobs terms place files jobs → at ≡ place + length jobs → IsJob terms at file job →
+      AreJobs terms place (files ++ file ∷ []) (jobs ++ job ∷ [])
   jobs_on place at [] [] file job are there is =
       let here : at ≡ place = omega (arith, there) in (subst (λ n. IsJob terms n file job) here is, tt)
   jobs_on place at [] (first ∷ jobs) file job are there is = absurd are

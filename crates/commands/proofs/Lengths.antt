@@ -10,31 +10,38 @@ use Rattle.session.specs.Sessions.{AreLeft, AreReported}
 use Rattle.session.specs.Works.{Choosers, Sinks}
 
 module _ {C O S : Type 0} where
-  reported_length : (choosers : Choosers C) (sinks : Sinks S) (committed : List Record) (number : ℕ) (jobs jobs' : List (Job C O S)) (reports : List GuestReport)
+  reported_length : (choosers : Choosers C) (sinks : Sinks S) (committed : List Record) (number : ℕ) (jobs jobs' : List (Job C O S))
+      (reports : List GuestReport)
       → AreReported choosers sinks committed number jobs jobs' reports → length jobs' ≡ length reports
   reported_length choosers sinks committed number [] [] [] h = refl
   reported_length choosers sinks committed number [] [] (x ∷ xs) h = absurd h
   reported_length choosers sinks committed number [] (y ∷ ys) xs h = absurd h
   reported_length choosers sinks committed number (z ∷ zs) [] xs h = absurd h
   reported_length choosers sinks committed number (z ∷ zs) (y ∷ ys) [] h = absurd h
-  reported_length choosers sinks committed number (z ∷ zs) (y ∷ ys) (x ∷ xs) h = ap suc (reported_length choosers sinks committed (number + 1) zs ys xs h.1)
+  reported_length choosers sinks committed number (z ∷ zs) (y ∷ ys) (x ∷ xs) h =
+      ap suc (reported_length choosers sinks committed (number + 1) zs ys xs h.1)
 
-  left_length : (committed : List Record) (number : ℕ) (jobs : List (Job C O S)) (guests : List GuestValue) → AreLeft committed number jobs guests → length jobs ≡ length guests
+  left_length : (committed : List Record) (number : ℕ) (jobs : List (Job C O S)) (guests : List GuestValue) →
+      AreLeft committed number jobs guests → length jobs ≡ length guests
   left_length committed number [] [] h = refl
   left_length committed number [] (x ∷ xs) h = absurd h
   left_length committed number (y ∷ ys) [] h = absurd h
   left_length committed number (y ∷ ys) (x ∷ xs) h = ap suc (left_length committed (number + 1) ys xs h.1)
 
   -- a guest for each report
-  pub guests_length : (choosers : Choosers C) (sinks : Sinks S) (committed : List Record) (number : ℕ) (jobs jobs' : List (Job C O S)) (reports : List GuestReport) (guests : List GuestValue)
-      → AreReported choosers sinks committed number jobs jobs' reports × AreLeft committed number jobs' guests → length guests ≡ length reports
+  pub guests_length : (choosers : Choosers C) (sinks : Sinks S) (committed : List Record) (number : ℕ) (jobs jobs' : List (Job C O S))
+      (reports : List GuestReport) (guests : List GuestValue)
+      → AreReported choosers sinks committed number jobs jobs' reports × AreLeft committed number jobs' guests →
+      length guests ≡ length reports
   guests_length choosers sinks committed number jobs jobs' reports guests h =
       sym (left_length committed number jobs' guests h.1) ∙ reported_length choosers sinks committed number jobs jobs' reports h.0
 
   -- and a thread that ran last
-  pub lasts_length : (choosers : Choosers C) (sinks : Sinks S) (committed : List Record) (number : ℕ) (jobs jobs' : List (Job C O S)) (reports : List GuestReport) (guests : List GuestValue)
+  pub lasts_length : (choosers : Choosers C) (sinks : Sinks S) (committed : List Record) (number : ℕ) (jobs jobs' : List (Job C O S))
+      (reports : List GuestReport) (guests : List GuestValue)
       (last : Job C O S → ℕ) (lasts : List ℕ)
-      → lasts ≡ map last jobs' → AreReported choosers sinks committed number jobs jobs' reports × AreLeft committed number jobs' guests → length lasts ≡ length reports
+      → lasts ≡ map last jobs' → AreReported choosers sinks committed number jobs jobs' reports × AreLeft committed number jobs' guests →
+      length lasts ≡ length reports
   lasts_length choosers sinks committed number jobs jobs' reports guests last lasts is h =
       ap length is ∙ length-map jobs' last ∙ reported_length choosers sinks committed number jobs jobs' reports h.0
 

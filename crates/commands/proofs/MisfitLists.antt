@@ -32,13 +32,15 @@ module _ {O S : Type 0} where
   -- one more that didn't fit, or none
   pub misfits_more : (jobs : List (Job Plan O S)) (i : ℕ) (job : Job Plan O S) (m : Misfit) (old new : List GuestMisfit)
       → new ≡ old ++ record { place = i; misfit = m } ∷ [] → old ≡ misfits_from 0 (take i jobs) → job.chooser.misfit ≡ Some m
-      → misfits_from 0 (take (i + 1) jobs) ≡ misfits_from 0 (take i jobs) ++ misfit_at i job.chooser.misfit → new ≡ misfits_from 0 (take (i + 1) jobs)
+      → misfits_from 0 (take (i + 1) jobs) ≡ misfits_from 0 (take i jobs) ++ misfit_at i job.chooser.misfit →
+      new ≡ misfits_from 0 (take (i + 1) jobs)
   misfits_more jobs i job m old new more before some on =
       more ∙ ap (λ l. l ++ record { place = i; misfit = m } ∷ []) before
       ∙ ap (λ o. misfits_from 0 (take i jobs) ++ misfit_at i o) (sym some) ∙ sym on
 
   pub misfits_same : (jobs : List (Job Plan O S)) (i : ℕ) (job : Job Plan O S) (old new : List GuestMisfit)
       → new ≡ old → old ≡ misfits_from 0 (take i jobs) → job.chooser.misfit ≡ None
-      → misfits_from 0 (take (i + 1) jobs) ≡ misfits_from 0 (take i jobs) ++ misfit_at i job.chooser.misfit → new ≡ misfits_from 0 (take (i + 1) jobs)
+      → misfits_from 0 (take (i + 1) jobs) ≡ misfits_from 0 (take i jobs) ++ misfit_at i job.chooser.misfit →
+      new ≡ misfits_from 0 (take (i + 1) jobs)
   misfits_same jobs i job old new same before none on =
       same ∙ before ∙ sym (append-nil _) ∙ ap (λ o. misfits_from 0 (take i jobs) ++ misfit_at i o) (sym none) ∙ sym on

@@ -16,14 +16,16 @@ use Rattle.commands.specs.Stores.{IsFailed, RefusesGuest}
 use Rattle.commands.specs.Told.{open_told, read_told, verify_told}
 
 -- a disk that was only read
-pub still_on : {D : Type 0} (honest : D → Type 0) (state : D → DiskState) (old new : D) (spots : List Spot) → (honest old → state new ≡ state old) → (honest old → honest new) → StandOn honest state old spots
+pub still_on : {D : Type 0} (honest : D → Type 0) (state : D → DiskState) (old new : D) (spots : List Spot) →
+    (honest old → state new ≡ state old) → (honest old → honest new) → StandOn honest state old spots
     → StandOn honest state new spots
 still_on honest state old new spots same still on = record {
   is_honest = still on.is_honest;
   stand = subst (λ (s : DiskState). StandIn s.content spots) (sym (same on.is_honest)) on.stand;
 }
 
-pub was_on : {D : Type 0} (honest : D → Type 0) (state : D → DiskState) (old new : D) (spots : List Spot) → (honest old → state new ≡ state old) → (honest new → honest old) → StandOn honest state new spots
+pub was_on : {D : Type 0} (honest : D → Type 0) (state : D → DiskState) (old new : D) (spots : List Spot) →
+    (honest old → state new ≡ state old) → (honest new → honest old) → StandOn honest state new spots
     → StandOn honest state old spots
 was_on honest state old new spots same was on =
     let first = was on.is_honest in
@@ -35,15 +37,18 @@ read_failed e index disk_faults.DeviceFailed is other = inl is
 read_failed e index disk_faults.Damaged is other = absurd (other refl)
 read_failed e index disk_faults.Memory is other = inr is
 
-source_refused : (e : Refusal) (fault : VerifyFault) (records : List Record) → 1 ≤ length records → e ≡ verify_told fault → RefusesSource fault records → RefusesGuest e records
+source_refused : (e : Refusal) (fault : VerifyFault) (records : List Record) → 1 ≤ length records → e ≡ verify_told fault →
+    RefusesSource fault records → RefusesGuest e records
 source_refused e verify_faults.BadOpening records some is refuses = subst (λ (r : Refusal). RefusesGuest r records) (sym is) (some, refuses)
 source_refused e (verify_faults.Mismatch index) records some is refuses = subst (λ (r : Refusal). RefusesGuest r records) (sym is) refuses
-source_refused e (verify_faults.BadCheckpoint index) records some is refuses = subst (λ (r : Refusal). RefusesGuest r records) (sym is) refuses
+source_refused e (verify_faults.BadCheckpoint index) records some is refuses =
+    subst (λ (r : Refusal). RefusesGuest r records) (sym is) refuses
 source_refused e verify_faults.Memory records some is refuses = subst (λ (r : Refusal). RefusesGuest r records) (sym is) refuses
 source_refused e (verify_faults.Unreadable index) records some is refuses = subst (λ (r : Refusal). RefusesGuest r records) (sym is) refuses
 
 -- a verification is refused as its source's is
-pub guest_refused : {T : Type 0} (result : Result T Refusal) (records : List Record) → 1 ≤ length records → IfErr result (λ e. (fault : VerifyFault) × (e ≡ verify_told fault) × RefusesSource fault records)
+pub guest_refused : {T : Type 0} (result : Result T Refusal) (records : List Record) → 1 ≤ length records →
+    IfErr result (λ e. (fault : VerifyFault) × (e ≡ verify_told fault) × RefusesSource fault records)
     → IfErr result (λ e. RefusesGuest e records)
 guest_refused (Ok x) records some refused = tt
 guest_refused (Err e) records some refused = source_refused e refused.0 records some refused.1 refused.2

@@ -4,7 +4,8 @@ use Rattle.clap.specs.declared.error.kind.ErrorKind.{ErrorKind}
 use Rattle.clap.specs.declared.error.kind.ErrorKind.TheVariants as kinds
 use Rattle.commands.specs.Status.{IsStatusOf}
 
-pub mistake_status : (kind : ErrorKind) → kind ≢ kinds.OutOfMemory → kind ≢ kinds.DisplayHelp → kind ≢ kinds.DisplayVersion → IsStatusOf kind 2
+pub mistake_status : (kind : ErrorKind) → kind ≢ kinds.OutOfMemory → kind ≢ kinds.DisplayHelp → kind ≢ kinds.DisplayVersion →
+    IsStatusOf kind 2
 mistake_status kinds.InvalidValue memory help version = refl
 mistake_status kinds.UnknownArgument memory help version = refl
 mistake_status kinds.InvalidSubcommand memory help version = refl

@@ -20,7 +20,8 @@ use Rattle.commands.proofs.Texts.{appends_none, appends_on, take_next}
 -- one record more
 pub turn_printed : (form : DumpForm) (records : List Record) (n : ℕ) (r : Record) (from : ℕ) (f : FollowingValue) (a b c : Option (List ℕ))
     → slice_get records n ≡ Some r → from ≡ count_before records n → IsBehind f (take n records ++ r ∷ []) → PrintsTurns form records n a b
-    → Appends b c (turn_text form r from f.total (state_of f.guest)) → IsBehind f (take (n + 1) records) × PrintsTurns form records (n + 1) a c
+    → Appends b c (turn_text form r from f.total (state_of f.guest)) → IsBehind f (take (n + 1) records) ×
+    PrintsTurns form records (n + 1) a c
 turn_printed form records n r from f a b c there before behind printed now =
     let one : suc n ≡ n + 1 = omega arith in
     let taken = ap (λ k. take k records) one ∙ take_next records n r there in
@@ -28,8 +29,14 @@ turn_printed form records n r from f a b c there before behind printed now =
     let s = state_of f.guest in
     let line = ap (λ k. turn_text form r k f.total s) before ∙ ap (λ k. turn_text form r (count_before records n) k s) on.total in
     let text = printed.0 ++ turn_text form r (count_before records n) (count_before records (suc n)) s in
-    subst (λ k. IsBehind f (take k records) × PrintsTurns form records k a c) one
-    (on, (text, (printed.0, r, s, printed.1, there, on.ends, refl), appends_on a b c _ _ text printed.2 now (ap (λ l. printed.0 ++ l) (sym line))))
+    subst (λ k. IsBehind f (take k records) × PrintsTurns form records k a c) one (
+      on,
+      (
+        text,
+        (printed.0, r, s, printed.1, there, on.ends, refl),
+        appends_on a b c _ _ text printed.2 now (ap (λ l. printed.0 ++ l) (sym line)),
+      ),
+    )
 
 -- and the end of all
 pub all_printed : {T E : Type 0} (result : Result T E) (form : DumpForm) (records : List Record) (a b c : Option (List ℕ))
@@ -40,19 +47,25 @@ all_printed (Err e) form records a b c printed now = tt
 -- ---- the end of a recording
 
 -- and what ended its guest
-pub end_printed_long : {T E : Type 0} (result : Result T E) (is_long : Bool) (len total place last tid : ℕ) (guest shown : GuestValue) (a b c : Option (List ℕ))
-    → is_long ≡ true → place ≡ total → tid ≡ last → shown ≡ guest → Appends a b (with_newline (verify_line len total (state_of guest).ended))
-    → OnOk result (Appends b c (end_lines place tid (state_of shown))) → OnOk result (Appends a c (end_told is_long len total last (state_of guest)))
+pub end_printed_long : {T E : Type 0} (result : Result T E) (is_long : Bool) (len total place last tid : ℕ) (guest shown : GuestValue)
+    (a b c : Option (List ℕ))
+    → is_long ≡ true → place ≡ total → tid ≡ last → shown ≡ guest →
+    Appends a b (with_newline (verify_line len total (state_of guest).ended))
+    → OnOk result (Appends b c (end_lines place tid (state_of shown))) →
+    OnOk result (Appends a c (end_told is_long len total last (state_of guest)))
 end_printed_long (Ok x) is_long len total place last tid guest shown a b c long places tids guests first then =
-    let lines = ap (λ n. end_lines n tid (state_of shown)) places ∙ ap (λ n. end_lines total n (state_of shown)) tids ∙ ap (λ g. end_lines total last (state_of g)) guests in
+    let lines = ap (λ n. end_lines n tid (state_of shown)) places ∙ ap (λ n. end_lines total n (state_of shown)) tids
+    ∙ ap (λ g. end_lines total last (state_of g)) guests in
     let line = with_newline (verify_line len total (state_of guest).ended) in
-    subst (λ l. Appends a c (end_told l len total last (state_of guest))) (sym long) (appends_on a b c line _ _ first then (ap (λ t. line ++ t) (sym lines)))
+    subst (λ l. Appends a c (end_told l len total last (state_of guest))) (sym long)
+    (appends_on a b c line _ _ first then (ap (λ t. line ++ t) (sym lines)))
 end_printed_long (Err e) is_long len total place last tid guest shown a b c long places tids guests first then = tt
 
 -- ---- refusals
 
 -- the first record is none that a recording begins with
-pub first_refused : (e : Refusal) (fault : VerifyFault) (records : List Record) (r : Record) → slice_get records 0 ≡ Some r → 1 ≤ length records → e ≡ verify_told fault
+pub first_refused : (e : Refusal) (fault : VerifyFault) (records : List Record) (r : Record) → slice_get records 0 ≡ Some r →
+    1 ≤ length records → e ≡ verify_told fault
     → RefusesFirst fault r → RefusesTurns e records
 first_refused e verify_faults.BadOpening [] r there some is refused = absurd (omega (arith, some))
 first_refused e verify_faults.BadOpening (x ∷ xs) r there some is refused =
@@ -64,8 +77,10 @@ first_refused e (verify_faults.BadCheckpoint index) records r there some is refu
 first_refused e (verify_faults.Unreadable index) records r there some is refused = absurd refused
 
 -- the record behind those that were followed doesn't follow
-pub next_refused : (e : Refusal) (fault : VerifyFault) (records : List Record) (n : ℕ) (r : Record) (f : FollowingValue) → slice_get records n ≡ Some r → 1 ≤ length records
-    → e ≡ verify_told fault → IsBehind f (take n records) → n ≡ f.len → Names fault f.len → RefusesVerify fault (take n records ++ r ∷ []) → RefusesTurns e records
+pub next_refused : (e : Refusal) (fault : VerifyFault) (records : List Record) (n : ℕ) (r : Record) (f : FollowingValue) →
+    slice_get records n ≡ Some r → 1 ≤ length records
+    → e ≡ verify_told fault → IsBehind f (take n records) → n ≡ f.len → Names fault f.len → RefusesVerify fault (take n records ++ r ∷ []) →
+    RefusesTurns e records
 next_refused e (verify_faults.Mismatch index) records n r f there some is behind len named refused =
     let place : suc index ≡ n + 1 = omega (arith, named, len) in
     let taken = ap (λ k. take k records) place ∙ take_next records n r there in
@@ -81,10 +96,12 @@ next_refused e (verify_faults.Unreadable index) records n r f there some is behi
 -- ---- the loop
 
 -- the first record
-pub first_printed : (form : DumpForm) (records : List Record) (r : Record) (f : FollowingValue) (a b : Option (List ℕ)) → slice_get records 0 ≡ Some r → IsBehind f (r ∷ [])
+pub first_printed : (form : DumpForm) (records : List Record) (r : Record) (f : FollowingValue) (a b : Option (List ℕ)) →
+    slice_get records 0 ≡ Some r → IsBehind f (r ∷ [])
     → Appends a b (turn_text form r 0 f.total (state_of f.guest)) → IsBehind f (take 1 records) × PrintsTurns form records 1 a b
 first_printed form [] r f a b there behind now = cc
-first_printed form (x ∷ xs) r f a b there behind now = turn_printed form (x ∷ xs) 0 r 0 f a a b there refl behind ([], refl, appends_none a) now
+first_printed form (x ∷ xs) r f a b there behind now =
+    turn_printed form (x ∷ xs) 0 r 0 f a a b there refl behind ([], refl, appends_none a) now
 
 pub take_length : {X : Type 0} (xs : List X) (n : ℕ) → n ≤ length xs → length (take n xs) ≡ n
 take_length [] zero h = refl

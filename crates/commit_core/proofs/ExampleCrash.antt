@@ -17,7 +17,8 @@ use Rattle.commit_core.proofs.Recovery.{hand_recovered}
 use Rattle.commit_core.proofs.Stages.{DiskAt, staged, tail, sound_by, store_text-push}
 
 -- a byte changed leaves the others
-same_outside : (front behind : List ℕ) (g h place : ℕ) → place ≢ length front → get_or (front ++ g ∷ behind) place 0 ≡ get_or (front ++ h ∷ behind) place 0
+same_outside : (front behind : List ℕ) (g h place : ℕ) → place ≢ length front →
+    get_or (front ++ g ∷ behind) place 0 ≡ get_or (front ++ h ∷ behind) place 0
 same_outside [] behind g h zero differs = absurd (differs refl)
 same_outside [] behind g h (suc k) differs = refl
 same_outside (x ∷ front) behind g h zero differs = refl
@@ -32,7 +33,8 @@ any_byte bodies body gate =
     record {
       no_shorter = omega (arith, old, new);
       no_longer = omega (arith, old, new);
-      kept = λ place low outside. same_outside (store_text bodies) (tail bodies body) gate 0 place (λ is. outside (inl (omega (arith, is), omega (arith, is))));
+      kept = λ place low outside. same_outside (store_text bodies) (tail bodies body) gate 0 place
+          (λ is. outside (inl (omega (arith, is), omega (arith, is))));
     }
 
 module _ (guest : Ended) where
@@ -40,7 +42,8 @@ module _ (guest : Ended) where
   world = run example_start (up_to_gate guest.written guest.ended)
 
   invariant : Invariant world []
-  invariant = invariant_of_run example_start [] (up_to_gate guest.written guest.ended) (invariant_at_start example_start [] starts) (gate_schedule guest)
+  invariant = invariant_of_run example_start [] (up_to_gate guest.written guest.ended) (invariant_at_start example_start [] starts)
+      (gate_schedule guest)
 
   gate_opened : DiskAt Opened world.disk [] all_three
   gate_opened = invariant.disk
@@ -68,7 +71,9 @@ module _ (guest : Ended) where
   may_leave_all = subst (λ (l : List ℕ). IsCrash world.disk.pending l) open_text (may_leave 0xA5)
 
   open_sound : IsSound (torn_at_gate 0xA5) (body_text all_three ∷ [])
-  open_sound = sound_by (torn_at_gate 0xA5) [] 0 (body_text all_three ∷ []) open_text (λ e. absurd (omega (arith, e))) (is_body, tt) (omega arith) (inl refl)
+  open_sound =
+      sound_by (torn_at_gate 0xA5) [] 0 (body_text all_three ∷ []) open_text (λ e. absurd (omega (arith, e))) (is_body, tt) (omega arith)
+      (inl refl)
 
   tears : GateMayTear world
   tears = record {
@@ -76,5 +81,6 @@ module _ (guest : Ended) where
     with_all = record { crash = may_leave 0xA5; bodies = body_text all_three ∷ []; sound = open_sound; recovered = finds_all };
   }
 
-pub crash_in_gate : (written ended : State) × IsSchedule example_start (up_to_gate written ended) × GateMayTear (run example_start (up_to_gate written ended))
+pub crash_in_gate : (written ended : State) × IsSchedule example_start (up_to_gate written ended) ×
+    GateMayTear (run example_start (up_to_gate written ended))
 crash_in_gate = (guest_ends.written, guest_ends.ended, gate_schedule guest_ends, tears guest_ends)

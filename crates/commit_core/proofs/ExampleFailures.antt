@@ -14,14 +14,16 @@ use Rattle.commit_core.proofs.ExampleGuest.{Ended, guest_ends}
 use Rattle.commit_core.proofs.ExampleWorld.{all_received, can_commit, then_schedule}
 use Rattle.commit_core.proofs.Stages.{tail, write_gives}
 
-torn_behind : (bodies : List (List ℕ)) (count : ℕ) (behind : List ℕ) → length behind ≤ count → IsTorn (length (store_text bodies) + 1) count (closed_store bodies) (closed_store bodies ++ behind)
+torn_behind : (bodies : List (List ℕ)) (count : ℕ) (behind : List ℕ) → length behind ≤ count →
+    IsTorn (length (store_text bodies) + 1) count (closed_store bodies) (closed_store bodies ++ behind)
 torn_behind bodies count behind le =
     let place = length (store_text bodies) + 1 in
     let size : length (closed_store bodies) ≡ place = length-append (store_text bodies) (0 ∷ []) in
     let longer = length-append (closed_store bodies) behind in
     record {
       before = take_at (closed_store bodies) behind place size ∙ sym (take_all place (closed_store bodies) (omega (arith, size)));
-      after = drop_all (place + count) (closed_store bodies ++ behind) (omega (arith, longer, size, le)) ∙ sym (drop_all (place + count) (closed_store bodies) (omega (arith, size)));
+      after = drop_all (place + count) (closed_store bodies ++ behind) (omega (arith, longer, size, le))
+          ∙ sym (drop_all (place + count) (closed_store bodies) (omega (arith, size)));
       no_shorter = omega (arith, longer);
       no_longer = omega (arith, longer, size, le);
     }
@@ -42,7 +44,8 @@ torn_gate front behind old new =
         ap (λ (l : List ℕ). drop (length front + 1) l) (sym (append_assoc front (gate ∷ []) behind))
         ∙ drop_at (front ++ gate ∷ []) behind (length front + 1) (length-append front (gate ∷ []))
 
-fails_with : (disk : DiskState) (place count : ℕ) (content : List ℕ) → IsTorn place count disk.content content → FailsToWrite place count disk (torn_disk disk place count content)
+fails_with : (disk : DiskState) (place count : ℕ) (content : List ℕ) → IsTorn place count disk.content content →
+    FailsToWrite place count disk (torn_disk disk place count content)
 fails_with disk place count content torn = record {
   content = torn;
   passes = record { later = (torn_disk disk place count content).pending ∷ []; goes_on = refl; each = (λ c crash. crash, tt) };

@@ -12,9 +12,11 @@ use Rattle.commit_core.proofs.ExampleGuest.{Ended, guest_ends}
 use Rattle.commit_core.proofs.ExampleWorld.{gate_len, is_ready, starts_with, writes_short, writes_frame, nothing_recovered, first_put}
 
 pub pair_starts : IsStart pair_start []
-pair_starts = starts_with [] 0 2 example_recorder pair_start.disk [] (omega arith) (omega arith) (omega arith) nothing_recovered refl tt (omega arith)
+pair_starts =
+    starts_with [] 0 2 example_recorder pair_start.disk [] (omega arith) (omega arith) (omega arith) nothing_recovered refl tt (omega arith)
     (record { read = refl; synced = refl })
-    (λ g two. let same : g ≡ 0 + g = omega arith in subst (λ (n : ℕ). IsReady n (example_recorder g)) same (is_ready g (omega (arith, two))))
+    (λ g two. let same : g ≡ 0 + g = omega arith in
+    subst (λ (n : ℕ). IsReady n (example_recorder g)) same (is_ready g (omega (arith, two))))
 
 both_len : length (body_text of_both) ≡ 352
 unfolding record_text payload opening_text call_text
@@ -38,7 +40,9 @@ module _ (guest : Ended) where
       ∷ Pop (wrote_by 1) (wrote_by 0 ∷ []) ∷ Pop (wrote_by 0) [] ∷ [])
 
   can_commit : CanWrite both_received 4
-  can_commit = writes_short both_received 4 refl (omega arith) (omega arith) (omega arith) (omega (arith, both_len)) (omega arith) (omega (arith, gate_len))
+  can_commit =
+      writes_short both_received 4 refl (omega arith) (omega arith) (omega arith) (omega (arith, both_len)) (omega arith)
+      (omega (arith, gate_len))
 
   pair_schedule : IsSchedule pair_start (pair_events guest.written)
   pair_schedule = (
@@ -53,7 +57,37 @@ module _ (guest : Ended) where
             record { guest = omega arith; next = refl; room = omega arith; here = refl },
             (
               record { guest = omega arith; next = refl; room = omega arith; here = refl },
-              (refl, (refl, (refl, (refl, (can_commit, (refl, (refl, (refl, (omega arith, (omega arith, (omega arith, ((omega arith, first_put guest 1), (omega arith, ((omega arith, first_put guest 0), tt)))))))))))))),
+              (
+                refl,
+                (
+                  refl,
+                  (
+                    refl,
+                    (
+                      refl,
+                      (
+                        can_commit,
+                        (
+                          refl,
+                          (
+                            refl,
+                            (
+                              refl,
+                              (
+                                omega arith,
+                                (
+                                  omega arith,
+                                  (omega arith, ((omega arith, first_put guest 1), (omega arith, ((omega arith, first_put guest 0), tt)))),
+                                ),
+                              ),
+                            ),
+                          ),
+                        ),
+                      ),
+                    ),
+                  ),
+                ),
+              ),
             ),
           ),
         ),

@@ -54,13 +54,18 @@ accepted = rw few_pages refl
 
 are_bytes : (bytes : List ℕ) → list_all (λ (b : ℕ). nat_lt b 256) bytes ≡ true → All (λ (b : ℕ). b < 256) bytes
 are_bytes bytes pass =
-    (Decides-by_and (λ (b : ℕ). nat_lt b 256) (λ (b : ℕ). b < 256) (list_all (λ (b : ℕ). nat_lt b 256)) (λ b. Decides-ltb b 256) refl (λ _ _. refl) bytes).0 pass
+    (Decides-by_and (λ (b : ℕ). nat_lt b 256) (λ (b : ℕ). b < 256) (list_all (λ (b : ℕ). nat_lt b 256)) (λ b. Decides-ltb b 256) refl
+    (λ _ _. refl) bytes).0 pass
 
 pub opens : Opens example_elf example_opening.name example_opening.random example_state
 opens = record {
   accepted = accepted;
   file_bytes = are_bytes example_elf refl;
-  is_name = (omega arith, omega arith, All-from_recursion (λ (b : ℕ). (0x21 ≤ b) × (b ≤ 0x7E)) example_opening.name ((omega arith, omega arith), tt));
+  is_name = (
+    omega arith,
+    omega arith,
+    All-from_recursion (λ (b : ℕ). (0x21 ≤ b) × (b ≤ 0x7E)) example_opening.name ((omega arith, omega arith), tt),
+  );
   sixteen = refl;
   random_bytes = are_bytes example_opening.random refl;
   state_is = refl;
@@ -124,7 +129,8 @@ stepped rd value t = record t { regs = record (with_register rd value t.regs) { 
 abbrev called_by : Thread → Thread
 called_by t = record t { regs = record t.regs { pc = plus t.regs.pc 4 } }
 
-step_of : (s : State) (t : Thread) (word : ℕ) (o : Outcome) → At s t → fetched memory t.regs.pc ≡ Ok word → StepOfWord (Ok word) (hart_of s t) o →
+step_of : (s : State) (t : Thread) (word : ℕ) (o : Outcome) → At s t → fetched memory t.regs.pc ≡ Ok word →
+    StepOfWord (Ok word) (hart_of s t) o →
     StepOfWord (fetched s.memory t.regs.pc) (hart_of s t) o
 step_of s t word o at fetches does =
     let here : fetched s.memory t.regs.pc ≡ Ok word = ap (λ (m : Memory). fetched m t.regs.pc) at.memory_is ∙ fetches in
@@ -132,7 +138,8 @@ step_of s t word o at fetches does =
 
 -- one instruction that sets a register
 sets_one : (s : State) (t : Thread) (word : ℕ) (i : Instr) (rd value : ℕ) → At s t → fetched memory t.regs.pc ≡ Ok word → Stands word i →
-    executed (Some i) (hart_of s t) ≡ Next (goes_on (with_register rd value t.regs) (hart_of s t)) → (mid : State) × StepsTo s 1 mid × At mid (stepped rd value t)
+    executed (Some i) (hart_of s t) ≡ Next (goes_on (with_register rd value t.regs) (hart_of s t)) → (mid : State) × StepsTo s 1 mid ×
+    At mid (stepped rd value t)
 sets_one s t word i rd value at fetches stands does =
     let hart : Hart = goes_on (with_register rd value t.regs) (hart_of s t) in (
       with_hart 1 t hart s,
@@ -199,7 +206,8 @@ step_6 : (s : State) → At s t6 → (mid : State) × StepsTo s 1 mid × At mid 
 unfolding executed t0 t1 t2 t3 t4 t5 t6 t7
 step_6 s at = sets_one s t6 0x05D00893 (OpImm Addi 17 0 93) 17 93 at program.word_6 li_a7_again refl
 
-call_one : (s : State) (t : Thread) → At s t → fetched memory t.regs.pc ≡ Ok 0x00000073 → (called : State) × CallsFrom s 1 called × At called (called_by t)
+call_one : (s : State) (t : Thread) → At s t → fetched memory t.regs.pc ≡ Ok 0x00000073 → (called : State) × CallsFrom s 1 called ×
+    At called (called_by t)
 unfolding executed
 call_one s t at fetches =
     let hart : Hart = goes_on t.regs (hart_of s t) in (
@@ -207,7 +215,8 @@ call_one s t at fetches =
       record {
         thread = t;
         hart = hart;
-        step = record { there = at.there; running = at.running; does = step_of s t 0x00000073 (Called hart) at fetches (Some Ecall, refl, refl) };
+        step = record
+            { there = at.there; running = at.running; does = step_of s t 0x00000073 (Called hart) at fetches (Some Ecall, refl, refl) };
         after_is = refl;
       },
       record {
@@ -239,7 +248,9 @@ byte_is = refl
 
 write_row_is : (s : State) → s.memory ≡ memory → call_row s 1 t5 ≡ only_returns 1
 unfolding row_of t0 t1 t2 t3 t4 t5
-write_row_is s is = ap (λ (m : Memory). if not (readable m 0x10000 1) then fails 14 else only_returns 1) is ∙ ap (λ (b : Bool). if not b then fails 14 else only_returns 1) readable_byte
+write_row_is s is =
+    ap (λ (m : Memory). if not (readable m 0x10000 1) then fails 14 else only_returns 1) is
+    ∙ ap (λ (b : Bool). if not b then fails 14 else only_returns 1) readable_byte
 
 exit_row_is : (s : State) → call_row s 1 t8 ≡ NoResult [] (leaves 1 1)
 unfolding row_of t0 t1 t2 t3 t4 t5 t6 t7 t8
@@ -262,13 +273,15 @@ one_byte = record { result = 1; written = [] }
 abbrev after_write : State → State
 after_write called = after_call (only_returns 1) 1 one_byte called
 
-changed_there : (change : Thread → Thread) (s : State) (t : Thread) → thread_at s 1 ≡ Some t → change_thread 1 change s ≡ with_thread 1 (change t) s
+changed_there : (change : Thread → Thread) (s : State) (t : Thread) → thread_at s 1 ≡ Some t →
+    change_thread 1 change s ≡ with_thread 1 (change t) s
 changed_there change s t there = rw there refl
 
 at_written : (called : State) → At called t5 → At (closed (after_write called)) t6
 unfolding one_byte write_all t6
 at_written called at =
-    let changed : after_write called ≡ with_thread 1 (set_register 10 1 t5) (writes [] called) = changed_there (set_register 10 1) (writes [] called) t5 at.there in
+    let changed : after_write called ≡ with_thread 1 (set_register 10 1 t5) (writes [] called) =
+    changed_there (set_register 10 1) (writes [] called) t5 at.there in
     subst (λ (s : State). At (closed s) (set_register 10 1 t5)) (sym changed)
     (record {
       there = thread_there called.threads 1 (set_register 10 1 t5);
@@ -283,7 +296,8 @@ ends_by : (called : State) (t : Thread) → At called t → (leaves 1 1 called).
 ends_by called t at =
     let rest : State = record called { threads = remove called.threads 1 } in
     let none : len (remove called.threads 1) ≡ 0 =
-    len-remove nat_cmp_total called.threads 1 ∙ ap (λ (o : Option Thread). cond (is_some o) (len called.threads - 1) (len called.threads)) at.there
+    len-remove nat_cmp_total called.threads 1
+    ∙ ap (λ (o : Option Thread). cond (is_some o) (len called.threads - 1) (len called.threads)) at.there
     ∙ ap (λ (n : ℕ). n - 1) at.alone in
     ap (λ (n : ℕ). (if n == 0 then ends 1 rest else rest).ended) none
 
@@ -317,7 +331,8 @@ at_start = record {
   runs = refl;
   alone =
       len-insert nat_cmp_total empty 1 (opening_thread example_elf example_opening.name)
-      ∙ ap (λ (o : Option Thread). cond (is_some o) (len (empty {X = Thread} {R = nat_cmp})) (len (empty {X = Thread} {R = nat_cmp}) + 1)) (get-empty nat_cmp 1)
+      ∙ ap (λ (o : Option Thread). cond (is_some o) (len (empty {X = Thread} {R = nat_cmp})) (len (empty {X = Thread} {R = nat_cmp}) + 1))
+      (get-empty nat_cmp 1)
       ∙ ap (λ (n : ℕ). n + 1) (len-empty nat_cmp Thread);
 }
 

@@ -39,37 +39,48 @@ unfolding record_text payload call_text
 one_len = refl
 
 segment_len : (number : ℕ) (body : List ℕ) → number ≤ 1 → length body ≤ 1000 → length (segment number body ++ 0 ∷ []) ≡ 41 + length body
-segment_len number body low short = let size = (segment_reads number body (0 ∷ []) (omega (arith, low)) (omega (arith, short))).size in omega (arith, size)
+segment_len number body low short = let size =
+    (segment_reads number body (0 ∷ []) (omega (arith, low)) (omega (arith, short))).size in omega (arith, size)
 
 store_len : length (store_text first_body) ≡ 233
 store_len =
     let behind = segment_len 0 (body_text first_two) (omega arith) (omega (arith, two_len)) in
     let more = length-append (segment 0 (body_text first_two)) (0 ∷ []) in
-    let size = ap length (store_text-push [] (body_text first_two)) ∙ length-append (store_text []) (0xA5 ∷ segment 0 (body_text first_two)) in
+    let size = ap length (store_text-push [] (body_text first_two))
+    ∙ length-append (store_text []) (0xA5 ∷ segment 0 (body_text first_two)) in
     omega (arith, behind, more, size, gate_len, two_len)
 
 -- ---- the first session
 
 module _ (guest : Ended) where
   can_first : CanWrite (all_received guest) 2
-  can_first = writes_short (all_received guest) 2 refl (omega arith) (omega arith) (omega arith) (omega (arith, two_len)) (omega arith) (omega (arith, gate_len))
+  can_first = writes_short (all_received guest) 2 refl (omega arith) (omega arith) (omega arith) (omega (arith, two_len)) (omega arith)
+      (omega (arith, gate_len))
 
   abbrev one_committed : World
   one_committed = run (all_received guest) (WriteBody 2 ∷ Sync1 ∷ OpenGate ∷ Sync2 ∷ Publish 0 ∷ Look 0 ∷ Release 0 ((1, 0x7F) ∷ []) ∷ [])
 
   can_second : CanWrite one_committed 1
-  can_second = writes_short one_committed 1 refl (omega arith) (omega arith) (omega arith) (omega (arith, one_len)) (omega arith) (omega (arith, store_len))
+  can_second =
+      writes_short one_committed 1 refl (omega arith) (omega arith) (omega arith) (omega (arith, one_len)) (omega arith)
+      (omega (arith, store_len))
 
   schedule : IsSchedule example_start (up_to_second_gate guest.written guest.ended)
   schedule = then_schedule guest
-      (WriteBody 2 ∷ Sync1 ∷ OpenGate ∷ Sync2 ∷ Publish 0 ∷ Look 0 ∷ Release 0 ((1, 0x7F) ∷ []) ∷ WriteBody 1 ∷ Sync1 ∷ OpenGate ∷ [])
-      (can_first, (refl, (refl, (refl, (omega arith, (omega arith, ((omega arith, first_put guest 0), (can_second, (refl, (refl, tt))))))))))
+      (WriteBody 2 ∷ Sync1 ∷ OpenGate ∷ Sync2 ∷ Publish 0 ∷ Look 0 ∷ Release 0 ((1, 0x7F) ∷ []) ∷ WriteBody 1 ∷ Sync1 ∷ OpenGate ∷ []) (
+        can_first,
+        (
+          refl,
+          (refl, (refl, (omega arith, (omega arith, ((omega arith, first_put guest 0), (can_second, (refl, (refl, tt)))))))),
+        ),
+      )
 
   abbrev world : World
   world = run example_start (up_to_second_gate guest.written guest.ended)
 
   invariant : Invariant world []
-  invariant = invariant_of_run example_start [] (up_to_second_gate guest.written guest.ended) (invariant_at_start example_start [] starts) schedule
+  invariant = invariant_of_run example_start [] (up_to_second_gate guest.written guest.ended) (invariant_at_start example_start [] starts)
+      schedule
 
   gate_opened : DiskAt Opened world.disk first_body (exited ∷ [])
   gate_opened = invariant.disk
@@ -109,7 +120,8 @@ module _ (guest : Ended) where
       (cuts place behind (omega (arith, segment_len 1 (body_text (exited ∷ [])) (omega arith) (omega (arith, one_len)))))
 
   rests : IsAtRest repaired_disk (closed_store first_body)
-  rests = subst (λ (disk : DiskState). IsAtRest disk (closed_store first_body)) (sym repaired_is) (open_end (fresh_disk torn_store) first_body store)
+  rests = subst (λ (disk : DiskState). IsAtRest disk (closed_store first_body)) (sym repaired_is)
+      (open_end (fresh_disk torn_store) first_body store)
 
   again : IsStart repaired_start first_two
   again = starts_at first_body 1 repaired_disk first_two (omega arith) found refl sizes (omega arith) rests

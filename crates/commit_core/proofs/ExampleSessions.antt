@@ -22,23 +22,34 @@ closed_text bodies = refl
 -- a store with these bodies, whose gate is closed and has nothing behind it
 module _ (bodies : List (List ℕ)) (sizes : AllByRecursion IsBody bodies) (few : length bodies ≤ 1) where
   abbrev closed_at_end : IsStore (closed_store bodies) bodies
-  closed_at_end = record { gate = 0; behind = []; text = closed_text bodies; not_open = λ e. absurd (omega (arith, e)); each = sizes; count = omega (arith, few) }
+  closed_at_end =
+      record {
+        gate = 0;
+        behind = [];
+        text = closed_text bodies;
+        not_open = λ e. absurd (omega (arith, e));
+        each = sizes;
+        count = omega (arith, few);
+      }
 
-  pub session_on : (number : ℕ) (old : List Record) (events : List Event) → IsStart (start_on bodies number) old → IsSchedule (start_on bodies number) events →
+  pub session_on : (number : ℕ) (old : List Record) (events : List Event) → IsStart (start_on bodies number) old →
+      IsSchedule (start_on bodies number) events →
       IsSession (fresh_disk (closed_store bodies)) (Ran (start_on bodies number) old events) (run (start_on bodies number) events).disk
   session_on number old events is schedule = (closed_at_end, refl, is, schedule, refl)
 
 pub first_opens : CanOpen (closed_store [])
 first_opens = record { bodies = []; store = closed_at_end [] tt (omega arith); are = ([], nothing_recovered); next = inl refl }
 
-pub sessions_follow : (written ended : State) × (end : DiskState) × AreSessions (fresh_disk (closed_store [])) (two_sessions written ended) end
+pub sessions_follow : (written ended : State) × (end : DiskState) ×
+    AreSessions (fresh_disk (closed_store [])) (two_sessions written ended) end
 sessions_follow =
     let guest = guest_ends in
     let bodies : List (List ℕ) = body_text all_three ∷ [] in
     let schedule : IsSchedule example_start (up_to_gate guest.written guest.ended) = gate_schedule guest in
     let stop : DiskState = (run example_start (up_to_gate guest.written guest.ended)).disk in
     let next : DiskState = fresh_disk (closed_store bodies) in
-    let again : IsStart (start_on bodies 1) all_three = starts_on bodies 1 all_three (omega arith) (finds_all guest) refl (is_body guest, tt) (omega arith) in
+    let again : IsStart (start_on bodies 1) all_three =
+    starts_on bodies 1 all_three (omega arith) (finds_all guest) refl (is_body guest, tt) (omega arith) in
     let end : DiskState = (start_on bodies 1).disk in (
       guest.written,
       guest.ended,

@@ -38,7 +38,8 @@ opened_has_text number low = record {
 abbrev call_frame : ℕ → ℕ → Frame
 call_frame count result = record { tid = 1; count = count; end = ends.Call (record { result = result; written = [] }) }
 
-call_has_text : (number index count result : ℕ) → number ≤ 1 → index ≤ 2 → 1 ≤ count → count ≤ 5 → result ≤ 1 → HasText (frame_record number index (call_frame count result))
+call_has_text : (number index count result : ℕ) → number ≤ 1 → index ≤ 2 → 1 ≤ count → count ≤ 5 → result ≤ 1 →
+    HasText (frame_record number index (call_frame count result))
 call_has_text number index count result one low some few small = record {
   guest = omega (arith, one);
   index = omega (arith, low);
@@ -62,7 +63,8 @@ gate_len = refl
 -- ---- the start
 
 pub is_ready : (number : ℕ) → number ≤ 1 → IsReady number (example_recorder number)
-is_ready number low = record { opening = example_opening; state = example_state; opens = opens; has_text = opened_has_text number low; is = refl }
+is_ready number low =
+    record { opening = example_opening; state = example_state; opens = opens; has_text = opened_has_text number low; is = refl }
 
 ready : (number g : ℕ) → number ≤ 1 → g < 1 → IsReady (number + g) (example_recorder number)
 ready number zero low one = subst (λ (n : ℕ). IsReady n (example_recorder number)) (sym (add-zero number)) (is_ready number low)
@@ -70,7 +72,8 @@ ready number (suc g) low one = absurd (omega (arith, one))
 
 -- a store with these bodies, from which these records are recovered, can be recorded into
 pub starts_with : (bodies : List (List ℕ)) (number guests : ℕ) (recorders : ℕ → Recorder) (disk : DiskState) (old : List Record)
-    → number ≤ 1 → 1 ≤ guests → guests ≤ 2 → IsRecovered bodies old → number ≡ next_guest old → AllByRecursion IsBody bodies → length bodies ≤ 1
+    → number ≤ 1 → 1 ≤ guests → guests ≤ 2 → IsRecovered bodies old → number ≡ next_guest old → AllByRecursion IsBody bodies →
+    length bodies ≤ 1
     → IsAtRest disk (closed_store bodies) → ((g : ℕ) → g < guests → IsReady (number + g) (recorders g))
     → IsStart (record (start_on bodies number) { guests = guests; recorders = recorders; disk = disk }) old
 starts_with bodies number guests recorders disk old low some two recovered next sizes few rests ready = record {
@@ -89,10 +92,13 @@ starts_with bodies number guests recorders disk old low some two recovered next 
 }
 
 -- one guest
-pub starts_at : (bodies : List (List ℕ)) (number : ℕ) (disk : DiskState) (old : List Record) → number ≤ 1 → IsRecovered bodies old → number ≡ next_guest old
-    → AllByRecursion IsBody bodies → length bodies ≤ 1 → IsAtRest disk (closed_store bodies) → IsStart (record (start_on bodies number) { disk = disk }) old
+pub starts_at : (bodies : List (List ℕ)) (number : ℕ) (disk : DiskState) (old : List Record) → number ≤ 1 → IsRecovered bodies old →
+    number ≡ next_guest old
+    → AllByRecursion IsBody bodies → length bodies ≤ 1 → IsAtRest disk (closed_store bodies) →
+    IsStart (record (start_on bodies number) { disk = disk }) old
 starts_at bodies number disk old low recovered next sizes few rests =
-    starts_with bodies number 1 (λ g. example_recorder number) disk old low (omega arith) (omega arith) recovered next sizes few rests (λ g one. ready number g low one)
+    starts_with bodies number 1 (λ g. example_recorder number) disk old low (omega arith) (omega arith) recovered next sizes few rests
+    (λ g one. ready number g low one)
 
 pub starts_on : (bodies : List (List ℕ)) (number : ℕ) (old : List Record) → number ≤ 1 → IsRecovered bodies old → number ≡ next_guest old →
     AllByRecursion IsBody bodies → length bodies ≤ 1 → IsStart (start_on bodies number) old
@@ -125,14 +131,20 @@ module _ (guest : Ended) where
   one_more = after example_start (Slice 0 wrote guest.written)
 
   -- a recorder that has its Opening alone makes the frame that writes
-  pub writes_frame : (w : World) (g : ℕ) → g < w.guests → w.first_guest + g ≤ 1 → made (w.recorders g) ≡ opening_record (w.first_guest + g) example_opening ∷ []
+  pub writes_frame : (w : World) (g : ℕ) → g < w.guests → w.first_guest + g ≤ 1 →
+      made (w.recorders g) ≡ opening_record (w.first_guest + g) example_opening ∷ []
       → CanSlice w g (frame_record (w.first_guest + g) 1 write_frame) guest.written
   writes_frame w g there low is =
       let number = w.first_guest + g in
       let frame = frame_record number 1 write_frame in
       let both = opening_record number example_opening ∷ frame ∷ [] in
       let same : made (w.recorders g) ++ frame ∷ [] ≡ both = ap (λ (l : List Record). l ++ frame ∷ []) is in
-      let recording : IsRecording both = record { guest = number; numbered = (refl, refl, (refl, refl, tt)); starts = (example_state, opens, (guest.written, guest.writes, tt)) } in
+      let recording : IsRecording both =
+      record {
+        guest = number;
+        numbered = (refl, refl, (refl, refl, tt));
+        starts = (example_state, opens, (guest.written, guest.writes, tt));
+      } in
       let numbered : IsNumbered number 0 both = (refl, refl, (refl, refl, tt)) in
       let ends : EndsIn (items_of both) guest.written = (example_state, opens, (guest.written, guest.writes, (refl, refl))) in
       record {
@@ -163,7 +175,9 @@ module _ (guest : Ended) where
   all_received = run example_start (up_to_received guest.written guest.ended)
 
   pub can_commit : CanWrite all_received 3
-  can_commit = writes_short all_received 3 refl (omega arith) (omega arith) (omega arith) (omega (arith, body_len)) (omega arith) (omega (arith, gate_len))
+  can_commit =
+      writes_short all_received 3 refl (omega arith) (omega arith) (omega arith) (omega (arith, body_len)) (omega arith)
+      (omega (arith, gate_len))
 
   pub received_schedule : IsSchedule example_start (up_to_received guest.written guest.ended)
   received_schedule = (
@@ -181,7 +195,8 @@ module _ (guest : Ended) where
   )
 
   -- the records are received, and then this happens
-  pub then_schedule : (events : List Event) → IsSchedule all_received events → IsSchedule example_start (up_to_received guest.written guest.ended ++ events)
+  pub then_schedule : (events : List Event) → IsSchedule all_received events →
+      IsSchedule example_start (up_to_received guest.written guest.ended ++ events)
   then_schedule events schedule = schedule-append example_start (up_to_received guest.written guest.ended) events received_schedule schedule
 
   pub gate_schedule : IsSchedule example_start (up_to_gate guest.written guest.ended)
@@ -189,12 +204,25 @@ module _ (guest : Ended) where
 
   -- of any number
   pub first_put : (number : ℕ) → IsOutput ((1, 0x7F) ∷ []) (opening_record number example_opening ∷ frame_record number 1 write_frame ∷ [])
-  first_put number = (the_byte, (example_state, opens, (guest.written, the_byte, [], guest.writes, guest.puts_byte, refl, refl)), ([], refl))
+  first_put number =
+      (the_byte, (example_state, opens, (guest.written, the_byte, [], guest.writes, guest.puts_byte, refl, refl)), ([], refl))
 
   byte_put : IsOutput ((1, 0x7F) ∷ []) all_three
   byte_put = (
     the_byte,
-    (example_state, opens, (guest.written, the_byte, [], guest.writes, guest.puts_byte, (guest.ended, [], [], guest.exits, guest.puts_nothing, refl, refl), refl)),
+    (
+      example_state,
+      opens,
+      (
+        guest.written,
+        the_byte,
+        [],
+        guest.writes,
+        guest.puts_byte,
+        (guest.ended, [], [], guest.exits, guest.puts_nothing, refl, refl),
+        refl,
+      ),
+    ),
     ([], refl),
   )
 

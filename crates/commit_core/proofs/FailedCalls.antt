@@ -51,7 +51,8 @@ breaks w (OpenGateFails disk) fails = refl
 breaks w Sync2Fails fails = refl
 breaks w _ fails = absurd fails
 
-pub last_call : (start : World) (before : List Event) (failed : Event) (later : List Event) → IsFailedCall failed → IsSchedule start (before ++ failed ∷ later)
+pub last_call : (start : World) (before : List Event) (failed : Event) (later : List Event) → IsFailedCall failed →
+    IsSchedule start (before ++ failed ∷ later)
     → IsLastCall start before failed later
 last_call start [] failed later fails schedule =
     let rest = none_later (after start failed) later (breaks start failed fails) schedule.1 in

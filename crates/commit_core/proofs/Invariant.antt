@@ -38,7 +38,8 @@ pub record LeftInvariant (says word heard : ℕ) : Type 0 where
   pub known : (heard ≡ 0) ⊎ (heard ≡ says)
 
 -- one recorder, with the shared parts as they are
-pub record RecorderInvariant (first_guest guests : ℕ) (sent_by_all : List Record) (words : ℕ → ℕ) (halted : Bool) (totals : ℕ → ℕ) (k : ℕ) (r : Recorder) : Type 0 where
+pub record RecorderInvariant (first_guest guests : ℕ) (sent_by_all : List Record) (words : ℕ → ℕ) (halted : Bool) (totals : ℕ → ℕ) (k : ℕ)
+    (r : Recorder) : Type 0 where
   pub sent : of_guest (first_guest + k) sent_by_all ≡ r.sent
   pub recording : RecordingInvariant (first_guest + k) (made r) r.states
   pub seen : SeenInvariant r.seen (words k) r.sent
@@ -67,5 +68,6 @@ pub record Invariant (w : World) (old : List Record) : Type 0 where
   pub words : WordInvariant w.guests w.words w.flusher.told w.flusher.halted
   pub told : ToldInvariant w.first_guest w.guests w.flusher.told w.flusher
   pub own : AllByRecursion (IsOwn w.first_guest w.guests) (total w)
-  pub each : (k : ℕ) → k < w.guests → RecorderInvariant w.first_guest w.guests (total w) w.words w.flusher.halted w.flusher.totals k (w.recorders k)
+  pub each : (k : ℕ) → k < w.guests →
+      RecorderInvariant w.first_guest w.guests (total w) w.words w.flusher.halted w.flusher.totals k (w.recorders k)
   pub disk : DiskAt w.flusher.stage w.disk (stored_bodies w) w.flusher.hand

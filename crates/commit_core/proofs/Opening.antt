@@ -22,21 +22,26 @@ place_is bodies = refl
 -- ---- one byte of a text
 
 -- a write of one byte leaves any byte there, and the rest as it was
-torn_byte : (front behind : List ℕ) (gate : ℕ) (c : List ℕ) → IsTorn (length front) 1 (front ++ gate ∷ behind) c → (g : ℕ) × (c ≡ front ++ g ∷ behind)
+torn_byte : (front behind : List ℕ) (gate : ℕ) (c : List ℕ) → IsTorn (length front) 1 (front ++ gate ∷ behind) c → (g : ℕ) ×
+    (c ≡ front ++ g ∷ behind)
 torn_byte front behind gate c torn =
     let place = length front in
     let first : take place c ≡ front = torn.before ∙ take_at front (gate ∷ behind) place refl in
     let size = length-append front (gate ∷ behind) in
     let back : drop (place + 1) (front ++ gate ∷ behind) ≡ behind =
-    ap (λ (l : List ℕ). drop (place + 1) l) (sym (append_assoc front (gate ∷ []) behind)) ∙ drop_at (front ++ gate ∷ []) behind (place + 1) (length-append front (gate ∷ [])) in
-    let rest : drop place c ≡ get_or c place 0 ∷ behind = drop_more c place 0 (omega (arith, torn.no_shorter, size)) ∙ ap (λ (l : List ℕ). get_or c place 0 ∷ l) (torn.after ∙ back) in
+    ap (λ (l : List ℕ). drop (place + 1) l) (sym (append_assoc front (gate ∷ []) behind))
+    ∙ drop_at (front ++ gate ∷ []) behind (place + 1) (length-append front (gate ∷ [])) in
+    let rest : drop place c ≡ get_or c place 0 ∷ behind =
+    drop_more c place 0 (omega (arith, torn.no_shorter, size)) ∙ ap (λ (l : List ℕ). get_or c place 0 ∷ l) (torn.after ∙ back) in
     (get_or c place 0, sym (take-append-drop place c) ∙ ap (λ (l : List ℕ). l ++ drop place c) first ∙ ap (λ (l : List ℕ). front ++ l) rest)
 
-written_byte : (front behind : List ℕ) (gate byte : ℕ) → overwritten (front ++ gate ∷ behind) (length front) (byte ∷ []) ≡ front ++ byte ∷ behind
+written_byte : (front behind : List ℕ) (gate byte : ℕ) →
+    overwritten (front ++ gate ∷ behind) (length front) (byte ∷ []) ≡ front ++ byte ∷ behind
 written_byte front behind gate byte =
     let place = length front in
     let back : drop (place + 1) (front ++ gate ∷ behind) ≡ behind =
-    ap (λ (l : List ℕ). drop (place + 1) l) (sym (append_assoc front (gate ∷ []) behind)) ∙ drop_at (front ++ gate ∷ []) behind (place + 1) (length-append front (gate ∷ [])) in
+    ap (λ (l : List ℕ). drop (place + 1) l) (sym (append_assoc front (gate ∷ []) behind))
+    ∙ drop_at (front ++ gate ∷ []) behind (place + 1) (length-append front (gate ∷ [])) in
     ap (λ (l : List ℕ). l ++ (byte ∷ []) ++ drop (place + 1) (front ++ gate ∷ behind)) (take_at front (gate ∷ behind) place refl)
     ∙ ap (λ (l : List ℕ). front ++ (byte ∷ []) ++ l) back
     ∙ append_assoc front (byte ∷ []) behind
@@ -54,7 +59,8 @@ module _ (fine : List (List ℕ) → Type 0) where
 
   pub good_rest : (disk : DiskState) (bytes : List ℕ) → IsAtRest disk bytes → IsStoreOf fine bytes → Good disk
   good_rest disk bytes rest is c (inl same) = subst (IsStoreOf fine) (sym (same ∙ rest.read)) is
-  good_rest disk bytes rest is c (inr crash) = subst (IsStoreOf fine) (sym (crash_synced bytes c (subst (λ (p : Pending). IsCrash p c) rest.synced crash))) is
+  good_rest disk bytes rest is c (inr crash) =
+      subst (IsStoreOf fine) (sym (crash_synced bytes c (subst (λ (p : Pending). IsCrash p c) rest.synced crash))) is
 
   pub at_rest_after_sync : (disk : DiskState) (bytes : List ℕ) → disk.content ≡ bytes → IsAtRest (after_sync disk) bytes
   at_rest_after_sync disk bytes is = record { read = is; synced = ap all_synced is }
@@ -72,26 +78,34 @@ module _ (fine : List (List ℕ) → Type 0) where
     -- what keeps the closed gate and all before it can be opened
     kept_front : (behind c : List ℕ) → take (place + 1) c ≡ take (place + 1) (store_text bodies ++ 0 ∷ behind) → IsStoreOf fine c
     kept_front behind c same =
-        let start : take (place + 1) c ≡ closed_store bodies = same ∙ ap (λ (l : List ℕ). take (place + 1) l) (closed_text behind) ∙ take_at (closed_store bodies) behind (place + 1) closed_size in
+        let start : take (place + 1) c ≡ closed_store bodies =
+        same ∙ ap (λ (l : List ℕ). take (place + 1) l) (closed_text behind)
+        ∙ take_at (closed_store bodies) behind (place + 1) closed_size in
         closed_store_of fine c (drop (place + 1) c) bodies sizes few are
-        (sym (take-append-drop (place + 1) c) ∙ ap (λ (l : List ℕ). l ++ drop (place + 1) c) start ∙ append_assoc (store_text bodies) (0 ∷ []) (drop (place + 1) c))
+        (sym (take-append-drop (place + 1) c) ∙ ap (λ (l : List ℕ). l ++ drop (place + 1) c) start
+        ∙ append_assoc (store_text bodies) (0 ∷ []) (drop (place + 1) c))
 
     module _ (disk : DiskState) (behind : List ℕ) (rest : IsAtRest disk (store_text bodies ++ 0 ∷ behind)) where
       good_closed : Good disk
-      good_closed = good_rest disk (store_text bodies ++ 0 ∷ behind) rest (closed_store_of fine (store_text bodies ++ 0 ∷ behind) behind bodies sizes few are refl)
+      good_closed =
+          good_rest disk (store_text bodies ++ 0 ∷ behind) rest
+          (closed_store_of fine (store_text bodies ++ 0 ∷ behind) behind bodies sizes few are refl)
 
       long : place + 1 ≤ length (store_text bodies ++ 0 ∷ behind)
       long = omega (arith, length-append (store_text bodies) (0 ∷ behind))
 
       cut_crash : (c : List ℕ) → IsCrash (pending_cut disk.pending (place + 1)) c → IsStoreOf fine c
       cut_crash c crash = kept_front behind c
-          (crash_cut (store_text bodies ++ 0 ∷ behind) (place + 1) long c (subst (λ (p : Pending). IsCrash (pending_cut p (place + 1)) c) rest.synced crash)).front
+          (crash_cut (store_text bodies ++ 0 ∷ behind) (place + 1) long c
+          (subst (λ (p : Pending). IsCrash (pending_cut p (place + 1)) c) rest.synced crash)).front
 
       cut_text : take (place + 1) disk.content ≡ closed_store bodies
-      cut_text = ap (λ (l : List ℕ). take (place + 1) l) (rest.read ∙ closed_text behind) ∙ take_at (closed_store bodies) behind (place + 1) closed_size
+      cut_text = ap (λ (l : List ℕ). take (place + 1) l) (rest.read ∙ closed_text behind)
+          ∙ take_at (closed_store bodies) behind (place + 1) closed_size
 
       good_cut : Good (after_cut disk (place + 1))
-      good_cut c (inl is) = subst (IsStoreOf fine) (sym (is ∙ cut_text)) (closed_store_of fine (closed_store bodies) [] bodies sizes few are refl)
+      good_cut c (inl is) =
+          subst (IsStoreOf fine) (sym (is ∙ cut_text)) (closed_store_of fine (closed_store bodies) [] bodies sizes few are refl)
       good_cut c (inr crash) = cut_crash c crash
 
       cut_fails : (new : DiskState) → FailsToCut (place + 1) disk new → Good new
@@ -100,12 +114,14 @@ module _ (fine : List (List ℕ) → Type 0) where
           kept_front behind c (ap (λ (l : List ℕ). take (place + 1) l) (is ∙ sym short.front)
           ∙ take-take (place + 1) (length new.content) disk.content (omega (arith, short.no_shorter))
           ∙ ap (λ (l : List ℕ). take (place + 1) l) rest.read)
-      cut_fails new failed c (inr crash) = ⊎_elim (λ before. good_closed c (inr before)) (cut_crash c) (crash_failed_cut (place + 1) disk new failed c crash)
+      cut_fails new failed c (inr crash) =
+          ⊎_elim (λ before. good_closed c (inr before)) (cut_crash c) (crash_failed_cut (place + 1) disk new failed c crash)
 
       after_cut_rest : IsAtRest (after_sync (after_cut disk (place + 1))) (closed_store bodies)
       after_cut_rest = at_rest_after_sync (after_cut disk (place + 1)) (closed_store bodies) cut_text
 
-    good_tail : (behind : List ℕ) (disk : DiskState) → IsAtRest disk (store_text bodies ++ 0 ∷ behind) → (end : DiskState) → IsWithin disk (tail_calls place behind) end → Good end
+    good_tail : (behind : List ℕ) (disk : DiskState) → IsAtRest disk (store_text bodies ++ 0 ∷ behind) → (end : DiskState) →
+        IsWithin disk (tail_calls place behind) end → Good end
     good_tail [] disk rest end is = subst Good (sym is) (good_closed disk [] rest)
     good_tail (x ∷ behind) disk rest end (inl is) = subst Good (sym is) (good_closed disk (x ∷ behind) rest)
     good_tail (x ∷ behind) disk rest end (inr (inl failed)) = cut_fails disk (x ∷ behind) rest end failed
@@ -130,7 +146,9 @@ module _ (fine : List (List ℕ) → Type 0) where
       torn_gate c torn = let byte = torn_byte (store_text bodies) behind gate c torn in any_gate byte.0 c byte.1
 
       gate_crash : (c : List ℕ) → IsCrash (pending_write disk.pending place 1) c → IsStoreOf fine c
-      gate_crash c crash = torn_gate c (crash_torn (store_text bodies ++ gate ∷ behind) place 1 within c (subst (λ (p : Pending). IsCrash (pending_write p place 1) c) rest.synced crash))
+      gate_crash c crash =
+          torn_gate c (crash_torn (store_text bodies ++ gate ∷ behind) place 1 within c
+          (subst (λ (p : Pending). IsCrash (pending_write p place 1) c) rest.synced crash))
 
       gate_text : (after_write disk place (0 ∷ [])).content ≡ store_text bodies ++ 0 ∷ behind
       gate_text = ap (λ (l : List ℕ). overwritten l place (0 ∷ [])) rest.read ∙ written_byte (store_text bodies) behind gate 0
@@ -140,8 +158,11 @@ module _ (fine : List (List ℕ) → Type 0) where
       good_gate c (inr crash) = gate_crash c crash
 
       gate_fails : (new : DiskState) → FailsToWrite place 1 disk new → Good new
-      gate_fails new failed c (inl is) = torn_gate c (subst (λ (l : List ℕ). IsTorn place 1 l c) rest.read (subst (λ (l : List ℕ). IsTorn place 1 disk.content l) (sym is) failed.content))
-      gate_fails new failed c (inr crash) = ⊎_elim (λ before. good_now c (inr before)) (gate_crash c) (crash_failed place 1 disk new failed c crash)
+      gate_fails new failed c (inl is) =
+          torn_gate c (subst (λ (l : List ℕ). IsTorn place 1 l c) rest.read
+          (subst (λ (l : List ℕ). IsTorn place 1 disk.content l) (sym is) failed.content))
+      gate_fails new failed c (inr crash) =
+          ⊎_elim (λ before. good_now c (inr before)) (gate_crash c) (crash_failed place 1 disk new failed c crash)
 
       good_write : (end : DiskState) → IsWithin disk (Write place (0 ∷ []) ∷ Sync ∷ tail_calls place behind) end → Good end
       good_write end (inl is) = subst Good (sym is) good_now
@@ -149,7 +170,8 @@ module _ (fine : List (List ℕ) → Type 0) where
       good_write end (inr (inr (inl is))) = subst Good (sym is) good_gate
       good_write end (inr (inr (inr (inl is)))) = subst Good (sym is) good_gate
       good_write end (inr (inr (inr (inr tail)))) =
-          good_tail behind (after_sync (after_write disk place (0 ∷ []))) (at_rest_after_sync (after_write disk place (0 ∷ [])) (store_text bodies ++ 0 ∷ behind) gate_text) end tail
+          good_tail behind (after_sync (after_write disk place (0 ∷ [])))
+          (at_rest_after_sync (after_write disk place (0 ∷ [])) (store_text bodies ++ 0 ∷ behind) gate_text) end tail
 
     good_calls : (gate : ℕ) (behind : List ℕ) (disk : DiskState) → IsAtRest disk (store_text bodies ++ gate ∷ behind)
         → (gate ≡ 0) ⊎ ((next : IsNextSegment (length bodies) behind) × fine (bodies ++ next.body ∷ []))
@@ -159,7 +181,8 @@ module _ (fine : List (List ℕ) → Type 0) where
           (subst (λ (b : Bool). IsWithin disk (cond b [] (Write place (0 ∷ []) ∷ Sync ∷ []) ++ tail_calls place behind) end) is.0 within)
       | inr shut ↦ ⊎_elim (λ is. absurd (shut.1 is))
           (λ next. good_write gate behind next.0 next.1 disk rest end
-          (subst (λ (b : Bool). IsWithin disk (cond b [] (Write place (0 ∷ []) ∷ Sync ∷ []) ++ tail_calls place behind) end) shut.0 within)) after
+          (subst (λ (b : Bool). IsWithin disk (cond b [] (Write place (0 ∷ []) ∷ Sync ∷ []) ++ tail_calls place behind) end) shut.0 within))
+          after
     ]
 
   -- each moment of `open`
@@ -177,7 +200,9 @@ module _ (fine : List (List ℕ) → Type 0) where
       (subst (λ (n : ℕ). IsWithin (after_sync disk) (gate_calls n store.gate ++ tail_calls n store.behind) end) (place_is bodies) rest)
     where
       moved : (xs ys : List (List ℕ)) (g h : ℕ) (p q : List ℕ) → xs ≡ ys → g ≡ h → p ≡ q → Next fine xs g p → Next fine ys h q
-      moved xs ys g h p q a b c next = subst (λ (l : List ℕ). Next fine ys h l) c (subst (λ (n : ℕ). Next fine ys n p) b (subst (λ (l : List (List ℕ)). Next fine l g p) a next))
+      moved xs ys g h p q a b c next =
+          subst (λ (l : List ℕ). Next fine ys h l) c
+          (subst (λ (n : ℕ). Next fine ys n p) b (subst (λ (l : List (List ℕ)). Next fine l g p) a next))
 
 -- ---- once its calls have answered
 
@@ -191,19 +216,25 @@ tail_end bodies (x ∷ behind) disk rest =
     record { read = text; synced = ap all_synced text }
 
 gate_end : (bodies : List (List ℕ)) (gate : ℕ) (behind : List ℕ) (disk : DiskState) → IsAtRest disk (store_text bodies ++ gate ∷ behind)
-    → IsAtRest (after_disk_calls disk (gate_calls (length (store_text bodies)) gate ++ tail_calls (length (store_text bodies)) behind)) (closed_store bodies)
+    → IsAtRest (after_disk_calls disk (gate_calls (length (store_text bodies)) gate ++ tail_calls (length (store_text bodies)) behind))
+    (closed_store bodies)
 gate_end bodies gate behind disk rest =
     let place = length (store_text bodies) in
-    let P = λ (b : Bool). IsAtRest (after_disk_calls disk (cond b [] (Write place (0 ∷ []) ∷ Sync ∷ []) ++ tail_calls place behind)) (closed_store bodies) in
+    let P = λ (b : Bool). IsAtRest (after_disk_calls disk (cond b [] (Write place (0 ∷ []) ∷ Sync ∷ []) ++ tail_calls place behind))
+    (closed_store bodies) in
     elim (eqb_tells gate 0) [
-      | inl is ↦ subst P (sym is.0) (tail_end bodies behind disk (subst (λ (g : ℕ). IsAtRest disk (store_text bodies ++ g ∷ behind)) is.1 rest))
+      | inl is ↦ subst P (sym is.0)
+          (tail_end bodies behind disk (subst (λ (g : ℕ). IsAtRest disk (store_text bodies ++ g ∷ behind)) is.1 rest))
       | inr shut ↦ subst P (sym shut.0) (tail_end bodies behind (after_sync (after_write disk place (0 ∷ [])))
-          (let text : (after_write disk place (0 ∷ [])).content ≡ store_text bodies ++ 0 ∷ behind = ap (λ (l : List ℕ). overwritten l place (0 ∷ [])) rest.read ∙ written_byte (store_text bodies) behind gate 0 in
+          (let text : (after_write disk place (0 ∷ [])).content ≡ store_text bodies ++ 0
+          ∷ behind = ap (λ (l : List ℕ). overwritten l place (0 ∷ [])) rest.read ∙ written_byte (store_text bodies) behind gate 0 in
           record { read = text; synced = ap all_synced text }))
     ]
 
-pub open_end : (disk : DiskState) (bodies : List (List ℕ)) (store : IsStore disk.content bodies) → IsAtRest (after_disk_calls disk (open_calls disk.content bodies store)) (closed_store bodies)
+pub open_end : (disk : DiskState) (bodies : List (List ℕ)) (store : IsStore disk.content bodies) →
+    IsAtRest (after_disk_calls disk (open_calls disk.content bodies store)) (closed_store bodies)
 open_end disk bodies store =
     let text = text_of_store disk.content bodies store in
-    subst (λ (n : ℕ). IsAtRest (after_disk_calls (after_sync disk) (gate_calls n store.gate ++ tail_calls n store.behind)) (closed_store bodies)) (sym (place_is bodies))
+    subst (λ (n : ℕ). IsAtRest (after_disk_calls (after_sync disk) (gate_calls n store.gate ++ tail_calls n store.behind))
+    (closed_store bodies)) (sym (place_is bodies))
     (gate_end bodies store.gate store.behind (after_sync disk) (record { read = text; synced = ap all_synced text }))

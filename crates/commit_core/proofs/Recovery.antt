@@ -28,7 +28,11 @@ use Rattle.commit_core.proofs.Stages.{Outcome, some_records, outcome_at, sound_o
 -- each record's guest is below the next one's number
 pub all_below : (records : List Record) → AllByRecursion (λ (r : Record). r.guest < next_guest records) records
 all_below [] = tt
-all_below (r ∷ records) = (omega arith, AllByRecursion-weaker (λ q. q.guest < next_guest records) (λ q. q.guest < next_guest (r ∷ records)) records (λ q l. omega (arith, l)) (all_below records))
+all_below (r ∷ records) = (
+  omega arith,
+  AllByRecursion-weaker (λ q. q.guest < next_guest records) (λ q. q.guest < next_guest (r ∷ records)) records (λ q l. omega (arith, l))
+      (all_below records),
+)
 
 pub less_or_more : (a b : ℕ) → (a < b) ⊎ (b ≤ a)
 less_or_more a b = grind arith
@@ -36,14 +40,16 @@ less_or_more a b = grind arith
 -- ---- texts of batches
 
 -- batches of records that have texts, none of them empty, are body texts
-batch_texts : (batches : List (List Record)) → AllByRecursion HasText (joined batches) → AllByRecursion IsBody (map body_text batches) → AreBodyTexts (map body_text batches) batches
+batch_texts : (batches : List (List Record)) → AllByRecursion HasText (joined batches) → AllByRecursion IsBody (map body_text batches) →
+    AreBodyTexts (map body_text batches) batches
 batch_texts [] texts sizes = tt
 batch_texts (batch ∷ batches) texts sizes = (
   record { some = some_records batch sizes.0.0; each = AllByRecursion-front HasText batch (joined batches) texts; spelled = refl },
   batch_texts batches (AllByRecursion-back HasText batch (joined batches) texts) sizes.1,
 )
 
-texts_both : (bodies more : List (List ℕ)) (batches others : List (List Record)) → AreBodyTexts bodies batches → AreBodyTexts more others → AreBodyTexts (bodies ++ more) (batches ++ others)
+texts_both : (bodies more : List (List ℕ)) (batches others : List (List Record)) → AreBodyTexts bodies batches → AreBodyTexts more others →
+    AreBodyTexts (bodies ++ more) (batches ++ others)
 texts_both [] more [] others a b = b
 texts_both [] more (batch ∷ batches) others a b = absurd a
 texts_both (body ∷ bodies) more [] others a b = absurd a
@@ -51,7 +57,8 @@ texts_both (body ∷ bodies) more (batch ∷ batches) others a b = (a.0, texts_b
 
 -- ---- replaying a beginning of a run
 
-replays_front : (front rest whole : List Record) (number : ℕ) (states : List State) → front ++ rest ≡ whole → front ≢ [] → IsRun number whole states → Replays front whole states
+replays_front : (front rest whole : List Record) (number : ℕ) (states : List State) → front ++ rest ≡ whole → front ≢ [] →
+    IsRun number whole states → Replays front whole states
 replays_front [] rest whole number states is some run = absurd (some refl)
 replays_front (x ∷ front) rest whole number states is some run =
     let k = length front in
@@ -59,12 +66,15 @@ replays_front (x ∷ front) rest whole number states is some run =
     let front_is : take (suc k) whole ≡ x ∷ front =
     ap (take (suc k)) (sym is) ∙ ap (λ (l : List Record). x ∷ l) (take-append-le k front rest (omega arith) ∙ take_own front) in
     let had : IsSomeAnd (slice_get states k) (EndsIn (items_of (x ∷ front))) =
-    subst (λ (l : List Record). IsSomeAnd (slice_get states k) (EndsIn (items_of l))) front_is (run.had k (omega (arith, ap length is, length-append (x ∷ front) rest))) in
+    subst (λ (l : List Record). IsSomeAnd (slice_get states k) (EndsIn (items_of l))) front_is
+    (run.had k (omega (arith, ap length is, length-append (x ∷ front) rest))) in
     record {
       recording = recording_front (x ∷ front) rest (subst IsRecording (sym is) run.recording) some;
       there = there_is (items_of (x ∷ front)) (recording_front (x ∷ front) rest (subst IsRecording (sym is) run.recording) some).starts;
-      below = λ t s l. subst (λ (w : List Item). IsAt (items_of (x ∷ front)) t s ↔ IsAt w t s) (sym whole_is) (below_total (items_of (x ∷ front)) (items_of rest) t s l);
-      at_total = λ s. subst (λ (n : ℕ). IsAt (items_of (x ∷ front)) (total_of (items_of (x ∷ front))) s ↔ slice_get states n ≡ Some s) (omega arith) (had_state (slice_get states k) had s);
+      below = λ t s l. subst (λ (w : List Item). IsAt (items_of (x ∷ front)) t s ↔ IsAt w t s) (sym whole_is)
+          (below_total (items_of (x ∷ front)) (items_of rest) t s l);
+      at_total = λ s. subst (λ (n : ℕ). IsAt (items_of (x ∷ front)) (total_of (items_of (x ∷ front))) s ↔ slice_get states n ≡ Some s)
+          (omega arith) (had_state (slice_get states k) had s);
     }
   where
     take_own : (xs : List Record) → take (length xs) xs ≡ xs
@@ -101,9 +111,11 @@ pub record LeftBehind (w : World) (old : List Record) (bodies : List (List ℕ))
 module _ (w : World) (old : List Record) (invariant : Invariant w old) (batches : List (List Record)) (rest : List Record)
     (front : joined batches ++ rest ≡ total w) (bodies : List (List ℕ)) (text : bodies ≡ w.bodies ++ map body_text batches)
     (sizes : AllByRecursion IsBody (map body_text batches))
-    (enough : (g : ℕ) → g < w.guests → committed_count (w.first_guest + g) w.flusher ≤ length (of_guest (w.first_guest + g) (joined batches))) where
+    (enough : (g : ℕ) → g < w.guests →
+    committed_count (w.first_guest + g) w.flusher ≤ length (of_guest (w.first_guest + g) (joined batches))) where
   own : AllByRecursion (IsOwn w.first_guest w.guests) (joined batches)
-  own = AllByRecursion-front (IsOwn w.first_guest w.guests) (joined batches) rest (subst (AllByRecursion (IsOwn w.first_guest w.guests)) (sym front) invariant.own)
+  own = AllByRecursion-front (IsOwn w.first_guest w.guests) (joined batches) rest
+      (subst (AllByRecursion (IsOwn w.first_guest w.guests)) (sym front) invariant.own)
 
   own_low : AllByRecursion (λ (r : Record). w.first_guest ≤ r.guest) (joined batches)
   own_low = AllByRecursion-weaker (IsOwn w.first_guest w.guests) (λ r. w.first_guest ≤ r.guest) (joined batches) (λ r o. o.low) own
@@ -116,7 +128,8 @@ module _ (w : World) (old : List Record) (invariant : Invariant w old) (batches 
 
   none_over : (h : ℕ) → w.first_guest + w.guests ≤ h → of_guest h (joined batches) ≡ []
   none_over h high = none_higher h (w.first_guest + w.guests) (joined batches)
-      (AllByRecursion-weaker (IsOwn w.first_guest w.guests) (λ r. r.guest < w.first_guest + w.guests) (joined batches) (λ r o. o.high) own) high
+      (AllByRecursion-weaker (IsOwn w.first_guest w.guests) (λ r. r.guest < w.first_guest + w.guests) (joined batches) (λ r o. o.high) own)
+      high
 
   -- of a lower number there are the records of before
   lower : (h : ℕ) → h < w.first_guest → of_guest h (old ++ joined batches) ≡ of_guest h old
@@ -127,8 +140,10 @@ module _ (w : World) (old : List Record) (invariant : Invariant w old) (batches 
   upper h high = of_guest-back h old (joined batches) (none_higher h w.first_guest old old_below high)
 
   -- which are a beginning of what its recorder sent
-  sent_is : (g : ℕ) → g < w.guests → of_guest (w.first_guest + g) (joined batches) ++ of_guest (w.first_guest + g) rest ≡ (w.recorders g).sent
-  sent_is g l = sym (of_guest-append (w.first_guest + g) (joined batches) rest) ∙ ap (of_guest (w.first_guest + g)) front ∙ (invariant.each g l).sent
+  sent_is : (g : ℕ) → g < w.guests →
+      of_guest (w.first_guest + g) (joined batches) ++ of_guest (w.first_guest + g) rest ≡ (w.recorders g).sent
+  sent_is g l =
+      sym (of_guest-append (w.first_guest + g) (joined batches) rest) ∙ ap (of_guest (w.first_guest + g)) front ∙ (invariant.each g l).sent
 
   sent_first : AreSentIn (w ∷ []) (joined batches)
   sent_first h some = ⊎_elim
@@ -144,11 +159,17 @@ module _ (w : World) (old : List Record) (invariant : Invariant w old) (batches 
             g = g;
             guest = omega (arith, l, high);
             number_is = is;
-            sent = (of_guest h rest, subst (λ (k : ℕ). of_guest k (joined batches) ++ of_guest k rest ≡ (w.recorders g).sent) is (sent_is g (omega (arith, l, high))));
+            sent = (
+              of_guest h rest,
+              subst (λ (k : ℕ). of_guest k (joined batches) ++ of_guest k rest ≡ (w.recorders g).sent) is
+                  (sent_is g (omega (arith, l, high))),
+            );
           })
 
-  made_is : (g : ℕ) → g < w.guests → of_guest (w.first_guest + g) (joined batches) ++ (of_guest (w.first_guest + g) rest ++ (w.recorders g).backlog) ≡ made (w.recorders g)
-  made_is g l = sym (append_assoc (of_guest (w.first_guest + g) (joined batches)) (of_guest (w.first_guest + g) rest) (w.recorders g).backlog)
+  made_is : (g : ℕ) → g < w.guests →
+      of_guest (w.first_guest + g) (joined batches) ++ (of_guest (w.first_guest + g) rest ++ (w.recorders g).backlog) ≡ made (w.recorders g)
+  made_is g l =
+      sym (append_assoc (of_guest (w.first_guest + g) (joined batches)) (of_guest (w.first_guest + g) rest) (w.recorders g).backlog)
       ∙ ap (λ (k : List Record). k ++ (w.recorders g).backlog) (sent_is g l)
 
   numbered : (h : ℕ) → IsNumbered h 0 (of_guest h (old ++ joined batches))
@@ -162,8 +183,10 @@ module _ (w : World) (old : List Record) (invariant : Invariant w old) (batches 
           let g = h - w.first_guest in
           let is : w.first_guest + g ≡ h = omega (arith, high) in
           subst (λ (k : ℕ). IsNumbered k 0 (of_guest k (joined batches))) is
-          (numbered_front (w.first_guest + g) 0 (of_guest (w.first_guest + g) (joined batches)) (of_guest (w.first_guest + g) rest ++ (w.recorders g).backlog)
-          (subst (IsNumbered (w.first_guest + g) 0) (sym (made_is g (omega (arith, l, high)))) (invariant.each g (omega (arith, l, high))).recording.run.numbered))
+          (numbered_front (w.first_guest + g) 0 (of_guest (w.first_guest + g) (joined batches))
+          (of_guest (w.first_guest + g) rest ++ (w.recorders g).backlog)
+          (subst (IsNumbered (w.first_guest + g) 0) (sym (made_is g (omega (arith, l, high))))
+          (invariant.each g (omega (arith, l, high))).recording.run.numbered))
 
       above : w.first_guest + w.guests ≤ h → IsNumbered h 0 (of_guest h (joined batches))
       above l = subst (IsNumbered h 0) (sym (none_over h l)) tt
@@ -173,11 +196,14 @@ module _ (w : World) (old : List Record) (invariant : Invariant w old) (batches 
     batches = invariant.store.recovered.batches ++ batches;
     texts = subst (λ (b : List (List ℕ)). AreBodyTexts b (invariant.store.recovered.batches ++ batches)) (sym text)
         (texts_both w.bodies (map body_text batches) invariant.store.recovered.batches batches invariant.store.recovered.texts
-        (batch_texts batches (AllByRecursion-weaker (IsOwn w.first_guest w.guests) HasText (joined batches) (λ r o. o.has_text) own) sizes));
-    joined = ap (λ (l : List Record). l ++ joined batches) invariant.store.recovered.joined ∙ sym (joined-append invariant.store.recovered.batches batches);
+        (batch_texts batches (AllByRecursion-weaker (IsOwn w.first_guest w.guests) HasText (joined batches) (λ r o. o.has_text) own)
+        sizes));
+    joined = ap (λ (l : List Record). l ++ joined batches) invariant.store.recovered.joined
+        ∙ sym (joined-append invariant.store.recovered.batches batches);
     in_order = record {
       numbered = numbered;
-      opened = AllByRecursion-append OpensAtZero old (joined batches) invariant.store.recovered.in_order.opened (AllByRecursion-weaker (IsOwn w.first_guest w.guests) OpensAtZero (joined batches) (λ r o. o.opens) own);
+      opened = AllByRecursion-append OpensAtZero old (joined batches) invariant.store.recovered.in_order.opened
+          (AllByRecursion-weaker (IsOwn w.first_guest w.guests) OpensAtZero (joined batches) (λ r o. o.opens) own);
     };
   }
 
@@ -190,7 +216,8 @@ module _ (w : World) (old : List Record) (invariant : Invariant w old) (batches 
       let seen = (w.recorders g).seen in
       let ours = of_guest n (joined batches) in
       let behind = of_guest n rest ++ (w.recorders g).backlog in
-      let same : take seen (made (w.recorders g)) ≡ take seen ours = ap (take seen) (sym (made_is g l)) ∙ take-append-le seen ours behind (seen_in g l) in
+      let same : take seen (made (w.recorders g)) ≡ take seen ours =
+      ap (take seen) (sym (made_is g l)) ∙ take-append-le seen ours behind (seen_in g l) in
       let whole = take-append-drop seen ours in
       subst (IsOutput (w.recorders g).out) whole
       (output_further (w.recorders g).out (take seen ours) (drop seen ours) behind
@@ -203,7 +230,8 @@ module _ (w : World) (old : List Record) (invariant : Invariant w old) (batches 
     recovered = is_recovered;
     beginning = λ g l. (
       of_guest (w.first_guest + g) rest ++ (w.recorders g).backlog,
-      ap (λ (k : List Record). k ++ (of_guest (w.first_guest + g) rest ++ (w.recorders g).backlog)) (upper (w.first_guest + g) (omega arith)) ∙ made_is g l,
+      ap (λ (k : List Record). k ++ (of_guest (w.first_guest + g) rest ++ (w.recorders g).backlog))
+          (upper (w.first_guest + g) (omega arith)) ∙ made_is g l,
     );
     seen = λ g l. omega (arith, seen_in g l, ap length (upper (w.first_guest + g) (omega arith)));
     output = λ g l. subst (IsOutput (w.recorders g).out) (sym (upper (w.first_guest + g) (omega arith))) (put_out g l);
@@ -211,7 +239,8 @@ module _ (w : World) (old : List Record) (invariant : Invariant w old) (batches 
     kept = lower;
     replays = λ g l some.
         subst (λ (k : List Record). Replays k (made (w.recorders g)) (w.recorders g).states) (sym (upper (w.first_guest + g) (omega arith)))
-        (replays_front (of_guest (w.first_guest + g) (joined batches)) (of_guest (w.first_guest + g) rest ++ (w.recorders g).backlog) (made (w.recorders g)) (w.first_guest + g) (w.recorders g).states
+        (replays_front (of_guest (w.first_guest + g) (joined batches)) (of_guest (w.first_guest + g) rest ++ (w.recorders g).backlog)
+        (made (w.recorders g)) (w.first_guest + g) (w.recorders g).states
         (made_is g l) (λ e. some (upper (w.first_guest + g) (omega arith) ∙ e)) (invariant.each g l).recording.run);
   }
 
@@ -235,7 +264,8 @@ module _ (w : World) (old : List Record) (invariant : Invariant w old) (batches 
 
 -- ---- with the finished bodies, and with the one in hand
 
-sizes_behind : (bodies : List (List ℕ)) (batches : List (List Record)) → AllByRecursion IsBody (bodies ++ map body_text batches) → AllByRecursion IsBody (map body_text batches)
+sizes_behind : (bodies : List (List ℕ)) (batches : List (List Record)) → AllByRecursion IsBody (bodies ++ map body_text batches) →
+    AllByRecursion IsBody (map body_text batches)
 sizes_behind bodies batches all = AllByRecursion-back IsBody bodies (map body_text batches) all
 
 module _ (w : World) (old : List Record) (invariant : Invariant w old) where
@@ -255,25 +285,34 @@ module _ (w : World) (old : List Record) (invariant : Invariant w old) where
 
   sizes_hand : IsBody (body_text w.flusher.hand) → AllByRecursion IsBody (map body_text (w.flusher.finished ++ w.flusher.hand ∷ []))
   sizes_hand is = subst (AllByRecursion IsBody) (sym (map-append body_text w.flusher.finished (w.flusher.hand ∷ [])))
-      (AllByRecursion-append IsBody (map body_text w.flusher.finished) (body_text w.flusher.hand ∷ []) (sizes_behind w.bodies w.flusher.finished invariant.store.sizes) (is, tt))
+      (AllByRecursion-append IsBody (map body_text w.flusher.finished) (body_text w.flusher.hand ∷ [])
+      (sizes_behind w.bodies w.flusher.finished invariant.store.sizes) (is, tt))
 
-  enough_hand : (g : ℕ) → committed_count (w.first_guest + g) w.flusher ≤ length (of_guest (w.first_guest + g) (joined (w.flusher.finished ++ w.flusher.hand ∷ [])))
+  enough_hand : (g : ℕ) →
+      committed_count (w.first_guest + g) w.flusher
+      ≤ length (of_guest (w.first_guest + g) (joined (w.flusher.finished ++ w.flusher.hand ∷ [])))
   enough_hand g = omega (
     arith,
-    ap length (ap (of_guest (w.first_guest + g)) (joined-push w.flusher.finished w.flusher.hand) ∙ of_guest-append (w.first_guest + g) (joined w.flusher.finished) w.flusher.hand),
+    ap length (ap (of_guest (w.first_guest + g)) (joined-push w.flusher.finished w.flusher.hand)
+        ∙ of_guest-append (w.first_guest + g) (joined w.flusher.finished) w.flusher.hand),
     length-append (of_guest (w.first_guest + g) (joined w.flusher.finished)) (of_guest (w.first_guest + g) w.flusher.hand),
   )
 
   pub stored_recovered : IsRecovered (stored_bodies w) (old ++ joined w.flusher.finished)
-  stored_recovered = is_recovered w old invariant w.flusher.finished ((w.flusher.hand ++ w.flusher.waiting) ++ w.queue) front_finished (stored_bodies w) refl
+  stored_recovered =
+      is_recovered w old invariant w.flusher.finished ((w.flusher.hand ++ w.flusher.waiting) ++ w.queue) front_finished (stored_bodies w)
+      refl
       (sizes_behind w.bodies w.flusher.finished invariant.store.sizes) (λ g l. omega arith)
 
-  pub hand_recovered : IsBody (body_text w.flusher.hand) → IsRecovered (stored_bodies w ++ body_text w.flusher.hand ∷ []) (old ++ joined (w.flusher.finished ++ w.flusher.hand ∷ []))
+  pub hand_recovered : IsBody (body_text w.flusher.hand) →
+      IsRecovered (stored_bodies w ++ body_text w.flusher.hand ∷ []) (old ++ joined (w.flusher.finished ++ w.flusher.hand ∷ []))
   hand_recovered is = is_recovered w old invariant (w.flusher.finished ++ w.flusher.hand ∷ []) (w.flusher.waiting ++ w.queue) front_hand
       (stored_bodies w ++ body_text w.flusher.hand ∷ []) (sym with_hand) (sizes_hand is) (λ g l. enough_hand g)
 
   pub left_finished : LeftBehind w old (stored_bodies w)
-  left_finished = left_behind w old invariant w.flusher.finished ((w.flusher.hand ++ w.flusher.waiting) ++ w.queue) front_finished (stored_bodies w) refl
+  left_finished =
+      left_behind w old invariant w.flusher.finished ((w.flusher.hand ++ w.flusher.waiting) ++ w.queue) front_finished (stored_bodies w)
+      refl
       (sizes_behind w.bodies w.flusher.finished invariant.store.sizes) (λ g l. omega arith)
 
   pub left_hand : IsBody (body_text w.flusher.hand) → LeftBehind w old (stored_bodies w ++ body_text w.flusher.hand ∷ [])
@@ -283,20 +322,25 @@ module _ (w : World) (old : List Record) (invariant : Invariant w old) where
   recovers_finished : (content : List ℕ) → IsSound content (stored_bodies w) → Recovers w old content
   recovers_finished content sound = record { bodies = stored_bodies w; sound = sound; from = left_finished.from }
 
-  recovers_hand : (content : List ℕ) → IsBody (body_text w.flusher.hand) → IsSound content (stored_bodies w ++ body_text w.flusher.hand ∷ []) → Recovers w old content
-  recovers_hand content is sound = record { bodies = stored_bodies w ++ body_text w.flusher.hand ∷ []; sound = sound; from = (left_hand is).from }
+  recovers_hand : (content : List ℕ) → IsBody (body_text w.flusher.hand) →
+      IsSound content (stored_bodies w ++ body_text w.flusher.hand ∷ []) → Recovers w old content
+  recovers_hand content is sound =
+      record { bodies = stored_bodies w ++ body_text w.flusher.hand ∷ []; sound = sound; from = (left_hand is).from }
 
   -- what a read gives or a crash leaves
   pub recovers : (content : List ℕ) → Gives w.disk content → Recovers w old content
   recovers content gives = by_outcome (outcome_at w.flusher.stage w.disk (stored_bodies w) w.flusher.hand invariant.disk content gives)
     where
       by_outcome : Outcome (stored_bodies w) (body_text w.flusher.hand) content → Recovers w old content
-      by_outcome (inl closed) = recovers_finished content (closed_sound (stored_bodies w) (body_text w.flusher.hand) invariant.store.sizes invariant.store.few content closed)
+      by_outcome (inl closed) =
+          recovers_finished content
+          (closed_sound (stored_bodies w) (body_text w.flusher.hand) invariant.store.sizes invariant.store.few content closed)
       by_outcome (inr ajar) = ⊎_elim (recovers_finished content) (recovers_hand content ajar.0.0)
           (sound_outcome (stored_bodies w) (body_text w.flusher.hand) invariant.store.sizes invariant.store.few content (inr ajar))
 
   -- it is a store whose bodies the group left
   pub store_left : (content : List ℕ) → Gives w.disk content → IsStoreOf (LeftBehind w old) content
   store_left content gives =
-      outcome_store_of (stored_bodies w) (body_text w.flusher.hand) invariant.store.sizes invariant.store.few (LeftBehind w old) left_finished (λ can. left_hand can.0)
+      outcome_store_of (stored_bodies w) (body_text w.flusher.hand) invariant.store.sizes invariant.store.few (LeftBehind w old)
+      left_finished (λ can. left_hand can.0)
       content (outcome_at w.flusher.stage w.disk (stored_bodies w) w.flusher.hand invariant.disk content gives)

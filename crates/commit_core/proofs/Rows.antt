@@ -29,21 +29,24 @@ use Rattle.commit_core.proofs.Stages.{IsCommittable, DiskAt, outcome_at, to_writ
 
 -- a row of one recorder, which keeps what it sent and its word
 recorder_keeps : (w : World) (old : List Record) (g : ℕ) (r : Recorder) → Invariant w old
-    → (g < w.guests → RecorderInvariant w.first_guest w.guests (total w) w.words w.flusher.halted w.flusher.totals g r) → Invariant (with_recorder w g r) old
+    → (g < w.guests → RecorderInvariant w.first_guest w.guests (total w) w.words w.flusher.halted w.flusher.totals g r) →
+    Invariant (with_recorder w g r) old
 recorder_keeps w old g r h one = record {
   store = h.store;
   words = h.words;
   told = h.told;
   own = h.own;
   disk = h.disk;
-  each = put_each (λ k x. k < w.guests → RecorderInvariant w.first_guest w.guests (total w) w.words w.flusher.halted w.flusher.totals k x) w.recorders g r h.each one;
+  each = put_each (λ k x. k < w.guests → RecorderInvariant w.first_guest w.guests (total w) w.words w.flusher.halted w.flusher.totals k x)
+      w.recorders g r h.each one;
 }
 
 -- where the same is sent by all, the recorders are as they were
 same_total : (w : World) (old sent : List Record) → Invariant w old → sent ≡ total w → (k : ℕ) → k < w.guests
     → RecorderInvariant w.first_guest w.guests sent w.words w.flusher.halted w.flusher.totals k (w.recorders k)
 same_total w old sent h same k l =
-    subst (λ (t : List Record). RecorderInvariant w.first_guest w.guests t w.words w.flusher.halted w.flusher.totals k (w.recorders k)) (sym same) (h.each k l)
+    subst (λ (t : List Record). RecorderInvariant w.first_guest w.guests t w.words w.flusher.halted w.flusher.totals k (w.recorders k))
+    (sym same) (h.each k l)
 
 -- ---- the recorder makes a record
 
@@ -60,21 +63,25 @@ take_all_of : (xs : List Record) (x : Record) → take (suc (length xs)) (xs ++ 
 take_all_of [] x = refl
 take_all_of (y ∷ xs) x = ap (λ (l : List Record). y ∷ l) (take_all_of xs x)
 
-states_grow : (records : List Record) (states : List State) (entry : Record) (s : State) → length states ≡ length records → HadStates records states
+states_grow : (records : List Record) (states : List State) (entry : Record) (s : State) → length states ≡ length records →
+    HadStates records states
     → EndsIn (items_of (records ++ entry ∷ [])) s → HadStates (records ++ entry ∷ []) (states ++ s ∷ [])
 states_grow records states entry s same had ends k l = elim (cases_eq k (length records)) [
   | inl is ↦
       subst (λ (o : Option State). IsSomeAnd o (EndsIn (items_of (take (suc k) (records ++ entry ∷ [])))))
       (sym (ap (slice_get (states ++ s ∷ [])) (is ∙ sym same) ∙ last_is states s))
-      (subst (λ (m : List Record). EndsIn (items_of m) s) (sym (ap (λ n. take (suc n) (records ++ entry ∷ [])) is ∙ take_all_of records entry)) ends)
+      (subst (λ (m : List Record). EndsIn (items_of m) s)
+      (sym (ap (λ n. take (suc n) (records ++ entry ∷ [])) is ∙ take_all_of records entry)) ends)
   | inr differs ↦
       let before : k < length records = omega (arith, length-append records (entry ∷ []), l, differs) in
       subst (λ (o : Option State). IsSomeAnd o (EndsIn (items_of (take (suc k) (records ++ entry ∷ [])))))
       (sym (front_is states s k (omega (arith, same, before))))
-      (subst (λ (m : List Record). IsSomeAnd (slice_get states k) (EndsIn (items_of m))) (sym (take-append-le (suc k) records (entry ∷ []) (omega (arith, before)))) (had k before))
+      (subst (λ (m : List Record). IsSomeAnd (slice_get states k) (EndsIn (items_of m)))
+      (sym (take-append-le (suc k) records (entry ∷ []) (omega (arith, before)))) (had k before))
 ]
 
-slice_keeps : (w : World) (old : List Record) (g : ℕ) (entry : Record) (s : State) → Invariant w old → CanSlice w g entry s → Invariant (after w (Slice g entry s)) old
+slice_keeps : (w : World) (old : List Record) (g : ℕ) (entry : Record) (s : State) → Invariant w old → CanSlice w g entry s →
+    Invariant (after w (Slice g entry s)) old
 slice_keeps w old g entry s h may =
     let r = w.recorders g in
     let one = h.each g may.guest in
@@ -103,24 +110,35 @@ numbered_at : (guest index : ℕ) (xs ys : List Record) (y : Record) → IsNumbe
 numbered_at guest index [] ys y h = h.0
 numbered_at guest index (x ∷ xs) ys y h = numbered_at guest (index + 1) xs ys y h.2
 
-push_keeps : (w : World) (old : List Record) (g : ℕ) (entry : Record) (rest : List Record) → Invariant w old → CanPush w g entry rest → Invariant (after w (Push g entry rest)) old
+push_keeps : (w : World) (old : List Record) (g : ℕ) (entry : Record) (rest : List Record) → Invariant w old → CanPush w g entry rest →
+    Invariant (after w (Push g entry rest)) old
 push_keeps w old g entry rest h may =
     let r = w.recorders g in
     let one = h.each g may.guest in
     let made_is : made r ≡ r.sent ++ entry ∷ rest = ap (λ (l : List Record). r.sent ++ l) may.next in
     let same : (r.sent ++ entry ∷ []) ++ rest ≡ made r = append_assoc r.sent (entry ∷ []) rest ∙ sym made_is in
-    let guest_is : entry.guest ≡ w.first_guest + g = numbered_at (w.first_guest + g) 0 r.sent rest entry (subst (IsNumbered (w.first_guest + g) 0) made_is one.recording.run.numbered) in
-    let opens = AllByRecursion-back OpensAtZero r.sent (entry ∷ rest) (subst (AllByRecursion OpensAtZero) made_is (recording_opens (w.first_guest + g) (made r) one.recording.run.recording one.recording.run.numbered)) in
+    let guest_is : entry.guest ≡ w.first_guest + g =
+    numbered_at (w.first_guest + g) 0 r.sent rest entry (subst (IsNumbered (w.first_guest + g) 0) made_is one.recording.run.numbered) in
+    let opens = AllByRecursion-back OpensAtZero r.sent (entry ∷ rest)
+    (subst (AllByRecursion OpensAtZero) made_is
+    (recording_opens (w.first_guest + g) (made r) one.recording.run.recording one.recording.run.numbered)) in
     let texts = AllByRecursion-back HasText r.sent (entry ∷ rest) (subst (AllByRecursion HasText) made_is one.recording.texts) in
-    let grown : total (after w (Push g entry rest)) ≡ total w ++ entry ∷ [] = sym (append_assoc (received w.flusher) w.queue (entry ∷ [])) in
+    let grown : total (after w (Push g entry rest)) ≡ total w ++ entry ∷ [] =
+    sym (append_assoc (received w.flusher) w.queue (entry ∷ [])) in
     record {
       store = h.store;
       words = h.words;
       told = h.told;
       disk = h.disk;
       own = subst (AllByRecursion (IsOwn w.first_guest w.guests)) (sym grown)
-          (AllByRecursion-append (IsOwn w.first_guest w.guests) (total w) (entry ∷ []) h.own (record { low = omega (arith, guest_is); high = omega (arith, guest_is, may.guest); has_text = texts.0; opens = opens.0 }, tt));
-      each = put_cases (λ k x. k < w.guests → RecorderInvariant w.first_guest w.guests (total (after w (Push g entry rest))) w.words w.flusher.halted w.flusher.totals k x) w.recorders g (pushed entry rest r)
+          (AllByRecursion-append (IsOwn w.first_guest w.guests) (total w) (entry ∷ []) h.own (
+            record { low = omega (arith, guest_is); high = omega (arith, guest_is, may.guest); has_text = texts.0; opens = opens.0 },
+            tt,
+          ));
+      each = put_cases
+          (λ k x. k < w.guests →
+          RecorderInvariant w.first_guest w.guests (total (after w (Push g entry rest))) w.words w.flusher.halted w.flusher.totals k x)
+          w.recorders g (pushed entry rest r)
           (λ k differs l. let o = h.each k l in record {
             recording = o.recording;
             seen = o.seen;
@@ -128,7 +146,8 @@ push_keeps w old g entry rest h may =
             left = o.left;
             output = o.output;
             sent = ap (of_guest (w.first_guest + k)) grown ∙ of_guest-append (w.first_guest + k) (total w) (entry ∷ [])
-                ∙ ap (λ (l : List Record). of_guest (w.first_guest + k) (total w) ++ l) (of_guest_other (w.first_guest + k) entry (λ e. differs (omega (arith, e, guest_is))))
+                ∙ ap (λ (l : List Record). of_guest (w.first_guest + k) (total w) ++ l)
+                (of_guest_other (w.first_guest + k) entry (λ e. differs (omega (arith, e, guest_is))))
                 ∙ append-nil (of_guest (w.first_guest + k) (total w)) ∙ o.sent;
           })
           (λ l. record {
@@ -151,11 +170,13 @@ push_keeps w old g entry rest h may =
 
     -- one that hasn't left says nothing yet
     here_still : (r : Recorder) (entry : Record) (rest : List Record) → r.left ≡ false → left_word r ≡ left_word (pushed entry rest r)
-    here_still r entry rest here = ap (λ (b : Bool). word_of b (length r.sent)) here ∙ sym (ap (λ (b : Bool). word_of b (length (r.sent ++ entry ∷ []))) here)
+    here_still r entry rest here =
+        ap (λ (b : Bool). word_of b (length r.sent)) here ∙ sym (ap (λ (b : Bool). word_of b (length (r.sent ++ entry ∷ []))) here)
 
 -- ---- the flusher receives one
 
-pop_keeps : (w : World) (old : List Record) (r : Record) (rest : List Record) → Invariant w old → w.queue ≡ r ∷ rest → Invariant (after w (Pop r rest)) old
+pop_keeps : (w : World) (old : List Record) (r : Record) (rest : List Record) → Invariant w old → w.queue ≡ r ∷ rest →
+    Invariant (after w (Pop r rest)) old
 pop_keeps w old r rest h may =
     let f = w.flusher in
     let front = joined f.finished ++ f.hand in
@@ -193,26 +214,32 @@ into_hand_keeps w old count stage disk h none at =
       disk = at;
     }
 
-disk_at : (w : World) (old : List Record) (stage : Stage) → Invariant w old → w.flusher.stage ≡ stage → DiskAt stage w.disk (stored_bodies w) w.flusher.hand
+disk_at : (w : World) (old : List Record) (stage : Stage) → Invariant w old → w.flusher.stage ≡ stage →
+    DiskAt stage w.disk (stored_bodies w) w.flusher.hand
 disk_at w old stage h is = subst (λ (s : Stage). DiskAt s w.disk (stored_bodies w) w.flusher.hand) is h.disk
 
 committable : (w : World) (count : ℕ) → CanWrite w count → IsCommittable (stored_bodies w) (next_body w count)
-committable w count may =
-    ((some_body (take count w.flusher.waiting) (omega (arith, length-take-le count w.flusher.waiting may.there, may.some)), may.body), may.number)
+committable w count may = (
+  (some_body (take count w.flusher.waiting) (omega (arith, length-take-le count w.flusher.waiting may.there, may.some)), may.body),
+  may.number,
+)
 
 write_keeps : (w : World) (old : List Record) (count : ℕ) → Invariant w old → CanWrite w count → Invariant (after w (WriteBody count)) old
 write_keeps w old count h may =
     let at = disk_at w old Idle h may.idle in
-    into_hand_keeps w old count Written _ h at.1 (to_written w.disk (stored_bodies w) w.flusher.hand (take count w.flusher.waiting) at (committable w count may))
+    into_hand_keeps w old count Written _ h at.1
+    (to_written w.disk (stored_bodies w) w.flusher.hand (take count w.flusher.waiting) at (committable w count may))
 
 write_fails_keeps : (w : World) (old : List Record) (count : ℕ) (disk : DiskState) → Invariant w old → CanWrite w count
     → FailsToWrite (gate_place w + 1) (length (behind_gate w count)) w.disk disk → Invariant (after w (WriteBodyFails count disk)) old
 write_fails_keeps w old count disk h may failed =
     let at = disk_at w old Idle h may.idle in
-    into_hand_keeps w old count Broken disk h at.1 (to_written_fails w.disk disk (stored_bodies w) w.flusher.hand (take count w.flusher.waiting) at failed)
+    into_hand_keeps w old count Broken disk h at.1
+    (to_written_fails w.disk disk (stored_bodies w) w.flusher.hand (take count w.flusher.waiting) at failed)
 
 -- a row that moves the disk and the stage alone
-stage_keeps : (w : World) (old : List Record) (stage : Stage) (disk : DiskState) → Invariant w old → DiskAt stage disk (stored_bodies w) w.flusher.hand
+stage_keeps : (w : World) (old : List Record) (stage : Stage) (disk : DiskState) → Invariant w old →
+    DiskAt stage disk (stored_bodies w) w.flusher.hand
     → Invariant (with_flusher w (at_stage stage w.flusher) disk) old
 stage_keeps w old stage disk h at =
     record { store = h.store; words = h.words; told = h.told; own = h.own; each = h.each; disk = at }
@@ -226,20 +253,29 @@ sync2_keeps w old h may =
     let f = w.flusher in
     let at = disk_at w old Opened h may in
     let pushed_hand = joined-push f.finished f.hand in
-    let same : total (after w Sync2) ≡ total w = ap (λ (l : List Record). (l ++ f.waiting) ++ w.queue) (append-nil (joined (f.finished ++ f.hand ∷ [])) ∙ pushed_hand) in
+    let same : total (after w Sync2) ≡ total w =
+    ap (λ (l : List Record). (l ++ f.waiting) ++ w.queue) (append-nil (joined (f.finished ++ f.hand ∷ [])) ∙ pushed_hand) in
     let bodies : stored_bodies (after w Sync2) ≡ stored_bodies w ++ body_text f.hand ∷ [] =
-    ap (λ (l : List (List ℕ)). w.bodies ++ l) (map-append body_text f.finished (f.hand ∷ [])) ∙ sym (append_assoc w.bodies (map body_text f.finished) (body_text f.hand ∷ [])) in
+    ap (λ (l : List (List ℕ)). w.bodies ++ l) (map-append body_text f.finished (f.hand ∷ []))
+    ∙ sym (append_assoc w.bodies (map body_text f.finished) (body_text f.hand ∷ [])) in
     record {
       words = h.words;
       store = record {
         recovered = h.store.recovered;
         next = h.store.next;
-        sizes = subst (AllByRecursion IsBody) (sym bodies) (AllByRecursion-push IsBody (stored_bodies w) (body_text f.hand) h.store.sizes at.2.0);
+        sizes = subst (AllByRecursion IsBody) (sym bodies)
+            (AllByRecursion-push IsBody (stored_bodies w) (body_text f.hand) h.store.sizes at.2.0);
         few = omega (arith, ap length bodies, length-append (stored_bodies w) (body_text f.hand ∷ []), at.2.1);
       };
       own = subst (AllByRecursion (IsOwn w.first_guest w.guests)) (sym same) h.own;
-      told = λ k l. let more = ap length (ap (of_guest (w.first_guest + k)) pushed_hand ∙ of_guest-append (w.first_guest + k) (joined f.finished) f.hand) in
-          omega (arith, more, h.told k l, length-append (of_guest (w.first_guest + k) (joined f.finished)) (of_guest (w.first_guest + k) f.hand));
+      told = λ k l. let more =
+          ap length (ap (of_guest (w.first_guest + k)) pushed_hand ∙ of_guest-append (w.first_guest + k) (joined f.finished) f.hand) in
+          omega (
+            arith,
+            more,
+            h.told k l,
+            length-append (of_guest (w.first_guest + k) (joined f.finished)) (of_guest (w.first_guest + k) f.hand),
+          );
       disk = to_idle w.disk (stored_bodies w) (stored_bodies (after w Sync2)) f.hand at bodies;
       each = same_total w old (total (after w Sync2)) h same;
     }
@@ -247,8 +283,10 @@ sync2_keeps w old h may =
 -- ---- the words
 
 -- a recorder whose word of having left stays, and whose count is no less than it has seen
-with_words : (w : World) (words : ℕ → ℕ) (halted : Bool) (k : ℕ) → RecorderInvariant w.first_guest w.guests (total w) w.words w.flusher.halted w.flusher.totals k (w.recorders k)
-    → ((w.recorders k).knows_halt ≡ true → halted ≡ true) → (w.recorders k).seen ≤ words k → words (w.guests + 1 + k) ≡ w.words (w.guests + 1 + k)
+with_words : (w : World) (words : ℕ → ℕ) (halted : Bool) (k : ℕ) →
+    RecorderInvariant w.first_guest w.guests (total w) w.words w.flusher.halted w.flusher.totals k (w.recorders k)
+    → ((w.recorders k).knows_halt ≡ true → halted ≡ true) → (w.recorders k).seen ≤ words k →
+    words (w.guests + 1 + k) ≡ w.words (w.guests + 1 + k)
     → RecorderInvariant w.first_guest w.guests (total w) words halted w.flusher.totals k (w.recorders k)
 with_words w words halted k o halt_known seen same = record {
   sent = o.sent;
@@ -269,10 +307,12 @@ publish_keeps w old g h may =
       disk = h.disk;
       words = record {
         counts = λ k l. put_cases (λ j x. j < w.guests → x ≡ put w.flusher.told g n j) w.words g n
-            (λ j differs lj. h.words.counts j lj ∙ sym (put_other w.flusher.told g n j differs)) (λ lj. sym (put_same w.flusher.told g n)) k l;
+            (λ j differs lj. h.words.counts j lj ∙ sym (put_other w.flusher.told g n j differs)) (λ lj. sym (put_same w.flusher.told g n)) k
+            l;
         halt = put_other w.words g n w.guests (λ e. omega (arith, e, may)) ∙ h.words.halt;
       };
-      told = put_each (λ k x. k < w.guests → x ≤ committed_count (w.first_guest + k) w.flusher) w.flusher.told g n h.told (λ l. omega arith);
+      told = put_each (λ k x. k < w.guests → x ≤ committed_count (w.first_guest + k) w.flusher) w.flusher.told g n h.told
+          (λ l. omega arith);
       each = λ k l. with_words w words w.flusher.halted k (h.each k l) (λ knows. (h.each k l).halt_known knows)
           (put_cases (λ j x. j < w.guests → (w.recorders j).seen ≤ x) w.words g n
           (λ j differs lj. (h.each j lj).seen.in_word) (λ lj. omega (arith, told_seen g lj, h.told g lj)) k l)
@@ -289,10 +329,12 @@ take_less (suc m) (suc n) [] l = ([], refl)
 take_less (suc m) (suc n) (x ∷ xs) l = let more = take_less m n xs (omega arith) in (more.0, ap (λ (k : List Record). x ∷ k) more.1)
 
 -- the output of more records of a recording goes on
-more_seen : (out : List (ℕ × ℕ)) (m n : ℕ) (records : List Record) → IsRecording records → m ≤ n → IsOutput out (take m records) → IsOutput out (take n records)
+more_seen : (out : List (ℕ × ℕ)) (m n : ℕ) (records : List Record) → IsRecording records → m ≤ n → IsOutput out (take m records) →
+    IsOutput out (take n records)
 more_seen out m n records is l put =
     let more = take_less m n records l in
-    let whole : (take m records ++ more.0) ++ drop n records ≡ records = ap (λ (k : List Record). k ++ drop n records) (sym more.1) ∙ take-append-drop n records in
+    let whole : (take m records ++ more.0) ++ drop n records ≡ records =
+    ap (λ (k : List Record). k ++ drop n records) (sym more.1) ∙ take-append-drop n records in
     subst (IsOutput out) (sym more.1) (output_further out (take m records) more.0 (drop n records) (subst IsRecording (sym whole) is) put)
 
 look_keeps : (w : World) (old : List Record) (g : ℕ) → Invariant w old → g < w.guests → Invariant (after w (Look g)) old
@@ -306,7 +348,8 @@ look_keeps w old g h may =
       halt_known = one.halt_known;
       left = one.left;
       seen = record { in_word = omega arith; in_sent = omega arith };
-      output = more_seen r.out r.seen seen (made r) one.recording.run.recording (omega (arith, one.seen.in_word, one.seen.in_sent)) one.output;
+      output = more_seen r.out r.seen seen (made r) one.recording.run.recording (omega (arith, one.seen.in_word, one.seen.in_sent))
+          one.output;
     })
 
 release_keeps : (w : World) (old : List Record) (g : ℕ) (more : List (ℕ × ℕ)) → Invariant w old → g < w.guests
@@ -375,7 +418,9 @@ leave_keeps w old g h may =
         counts = λ k l. other k (λ e. omega (arith, e, l)) ∙ h.words.counts k l;
         halt = other w.guests (λ e. omega (arith, e)) ∙ h.words.halt;
       };
-      each = put_cases (λ k x. k < w.guests → RecorderInvariant w.first_guest w.guests (total w) words w.flusher.halted w.flusher.totals k x) w.recorders g (gone r)
+      each = put_cases
+          (λ k x. k < w.guests → RecorderInvariant w.first_guest w.guests (total w) words w.flusher.halted w.flusher.totals k x) w.recorders
+          g (gone r)
           (λ k differs l. with_words w words w.flusher.halted k (h.each k l) (h.each k l).halt_known
           (subst (λ (x : ℕ). (w.recorders k).seen ≤ x) (sym (other k (λ e. omega (arith, e, l)))) (h.each k l).seen.in_word)
           (other (w.guests + 1 + k) (λ e. differs (omega (arith, e)))))
@@ -384,7 +429,10 @@ leave_keeps w old g h may =
             recording = one.recording;
             output = one.output;
             halt_known = one.halt_known;
-            seen = record { in_word = subst (λ (x : ℕ). r.seen ≤ x) (sym (other g (λ e. omega (arith, e, l)))) one.seen.in_word; in_sent = one.seen.in_sent };
+            seen = record {
+              in_word = subst (λ (x : ℕ). r.seen ≤ x) (sym (other g (λ e. omega (arith, e, l)))) one.seen.in_word;
+              in_sent = one.seen.in_sent;
+            };
             left = record { told = put_same w.words place n; known = known_still r.left n (w.flusher.totals g) one.left.known };
           });
     }
@@ -425,7 +473,8 @@ keeps w old (WriteBodyFails count disk) h may = write_fails_keeps w old count di
 keeps w old Sync1 h may = stage_keeps w old Synced _ h (to_synced w.disk (stored_bodies w) w.flusher.hand (disk_at w old Written h may))
 keeps w old Sync1Fails h may = broken_keeps w old h
 keeps w old OpenGate h may = stage_keeps w old Opened _ h (to_opened w.disk (stored_bodies w) w.flusher.hand (disk_at w old Synced h may))
-keeps w old (OpenGateFails disk) h may = stage_keeps w old Broken disk h (to_opened_fails w.disk disk (stored_bodies w) w.flusher.hand (disk_at w old Synced h may.0) may.1)
+keeps w old (OpenGateFails disk) h may =
+    stage_keeps w old Broken disk h (to_opened_fails w.disk disk (stored_bodies w) w.flusher.hand (disk_at w old Synced h may.0) may.1)
 keeps w old Sync2 h may = sync2_keeps w old h may
 keeps w old Sync2Fails h may = broken_keeps w old h
 keeps w old (Publish g) h may = publish_keeps w old g h may

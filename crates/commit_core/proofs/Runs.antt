@@ -96,7 +96,8 @@ items_put_further [] ys c d p q = (d, ap (λ (l : List Chunk). l ++ d) p)
 items_put_further (items.Opening o ∷ xs) ys c d p q =
     let same : q.0 ≡ p.0 = q.1.state_is ∙ sym p.1.state_is in
     put_further p.0 (frames_of xs) (frames_of ys) c d p.2
-    (subst (λ (fs : List Frame). PutFrom p.0 fs d) (frames_of-append xs ys) (subst (λ (s : State). PutFrom s (frames_of (xs ++ ys)) d) same q.2))
+    (subst (λ (fs : List Frame). PutFrom p.0 fs d) (frames_of-append xs ys)
+    (subst (λ (s : State). PutFrom s (frames_of (xs ++ ys)) d) same q.2))
 items_put_further (items.Frame f ∷ xs) ys c d p q = absurd p
 items_put_further (items.Part f ∷ xs) ys c d p q = absurd p
 
@@ -115,7 +116,8 @@ recording_front (x ∷ xs) ys is some =
     take_whole (y ∷ l) = ap (λ (k : List Record). y ∷ k) (take_whole l)
 
 -- what began the output of some records begins that of more, which are a beginning of a recording
-pub output_further : (out : List (ℕ × ℕ)) (xs ys zs : List Record) → IsRecording ((xs ++ ys) ++ zs) → IsOutput out xs → IsOutput out (xs ++ ys)
+pub output_further : (out : List (ℕ × ℕ)) (xs ys zs : List Record) → IsRecording ((xs ++ ys) ++ zs) → IsOutput out xs →
+    IsOutput out (xs ++ ys)
 output_further out [] [] zs is put = put
 output_further out [] (y ∷ ys) zs is put =
     let puts = items_put (items_of (y ∷ ys)) (recording_front (y ∷ ys) zs is (λ e. cc)).starts in
@@ -150,7 +152,8 @@ at_front : (s : State) (fs gs : List Frame) (t : ℕ) (at : State) → t < total
 at_front s [] gs t at l h = absurd (omega arith)
 at_front s (f ∷ fs) gs t at l h =
     at_front_by (nat_le f.count t) s f fs gs t at
-    (λ mid le. at_front mid fs gs (t - f.count) at (within_rest f.count t (total fs) (subst (λ n. t < n) (sum_by-cons (λ (g : Frame). g.count) f fs) l) le)) h
+    (λ mid le. at_front mid fs gs (t - f.count) at
+    (within_rest f.count t (total fs) (subst (λ n. t < n) (sum_by-cons (λ (g : Frame). g.count) f fs) l) le)) h
 
 at_whole_by : (b : Bool) (s : State) (f : Frame) (fs gs : List Frame) (t : ℕ) (at : State) →
     ((mid : State) → b ≡ true → StateAtFrom mid fs (t - f.count) at → StateAtFrom mid (fs ++ gs) (t - f.count) at) →
@@ -163,17 +166,28 @@ at_whole : (s : State) (fs gs : List Frame) (t : ℕ) (at : State) → t < total
 at_whole s [] gs t at l h = absurd (omega arith)
 at_whole s (f ∷ fs) gs t at l h =
     at_whole_by (nat_le f.count t) s f fs gs t at
-    (λ mid le. at_whole mid fs gs (t - f.count) at (within_rest f.count t (total fs) (subst (λ n. t < n) (sum_by-cons (λ (g : Frame). g.count) f fs) l) le)) h
+    (λ mid le. at_whole mid fs gs (t - f.count) at
+    (within_rest f.count t (total fs) (subst (λ n. t < n) (sum_by-cons (λ (g : Frame). g.count) f fs) l) le)) h
 
-total_of_opening : (o : Rattle.rrv_model.specs.declared.record.Opening.Opening) (xs : List Item) → total_of (items.Opening o ∷ xs) ≡ total (frames_of xs)
+total_of_opening : (o : Rattle.rrv_model.specs.declared.record.Opening.Opening) (xs : List Item) →
+    total_of (items.Opening o ∷ xs) ≡ total (frames_of xs)
 total_of_opening o xs = refl
 
 -- so they are of the items of a beginning
 pub below_total : (xs ys : List Item) (t : ℕ) (s : State) → t < total_of xs → IsAt xs t s ↔ IsAt (xs ++ ys) t s
 below_total [] ys t s l = absurd (omega arith)
 below_total (items.Opening o ∷ xs) ys t s l = (
-  λ h. (h.0, h.1, subst (λ (fs : List Frame). StateAtFrom h.0 fs t s) (sym (frames_of-append xs ys)) (at_whole h.0 (frames_of xs) (frames_of ys) t s l h.2)),
-  λ h. (h.0, h.1, at_front h.0 (frames_of xs) (frames_of ys) t s l (subst (λ (fs : List Frame). StateAtFrom h.0 fs t s) (frames_of-append xs ys) h.2)),
+  λ h. (
+    h.0,
+    h.1,
+    subst (λ (fs : List Frame). StateAtFrom h.0 fs t s) (sym (frames_of-append xs ys))
+        (at_whole h.0 (frames_of xs) (frames_of ys) t s l h.2),
+  ),
+  λ h. (
+    h.0,
+    h.1,
+    at_front h.0 (frames_of xs) (frames_of ys) t s l (subst (λ (fs : List Frame). StateAtFrom h.0 fs t s) (frames_of-append xs ys) h.2),
+  ),
 )
 below_total (items.Frame f ∷ xs) ys t s l = (λ h. absurd h, λ h. absurd h)
 below_total (items.Part p ∷ xs) ys t s l = (λ h. absurd h, λ h. absurd h)
@@ -196,7 +210,8 @@ follow_tail (items.Frame f) is (base, parts, s, h) = (λ never. never, (base, []
 follow_tail (items.Part p) is (base, parts, s, h) =
     (λ never. never, (base_after p.rest base s, row_after p.rest (parts ++ p ∷ []), s, h.1))
 
-later_opens : (guest index : ℕ) (rs : List Record) → FollowSome (items_of rs) → 1 ≤ index → IsNumbered guest index rs → AllByRecursion OpensAtZero rs
+later_opens : (guest index : ℕ) (rs : List Record) → FollowSome (items_of rs) → 1 ≤ index → IsNumbered guest index rs →
+    AllByRecursion OpensAtZero rs
 later_opens guest index [] h some n = tt
 later_opens guest index (r ∷ rs) h some n =
     let tail = follow_tail r.item (items_of rs) h in
@@ -225,7 +240,8 @@ steps_front zero (suc m) tid s last l h = absurd (omega (arith, l))
 steps_front (suc n) (suc m) tid s last l h =
     let rest = steps_front n m tid h.0 last (omega (arith, l)) h.2 in (rest.0, (h.0, h.1, rest.1))
 
-within_frame : (end : End) (s new : State) (f : Frame) (t : ℕ) → FrameStepBy end s f.tid f.count new → t < f.count → (at : State) × Steps t f.tid s at
+within_frame : (end : End) (s new : State) (f : Frame) (t : ℕ) → FrameStepBy end s f.tid f.count new → t < f.count → (at : State) ×
+    Steps t f.tid s at
 within_frame ends.Preempt s new f t goes l = steps_front f.count t f.tid s goes.last (omega (arith, l)) goes.steps
 within_frame (ends.Call r) s new f t goes l = steps_front (f.count - 1) t f.tid s goes.before (omega (arith, l)) goes.steps
 within_frame (ends.Fault kind) s new f t goes l = steps_front (f.count - 1) t f.tid s goes.before (omega (arith, l)) goes.steps
@@ -241,15 +257,19 @@ there_by false s f fs t behind within = within refl
 below_count : (count t : ℕ) → nat_le count t ≡ false → t < count
 below_count count t lt = grind (arith, nat_tests)
 
-there_from : (base : State) (parts : List Part) (s : State) (rest : List Item) → ItemsFollow base parts s rest → (t : ℕ) → t < total (frames_of rest) →
+there_from : (base : State) (parts : List Part) (s : State) (rest : List Item) → ItemsFollow base parts s rest → (t : ℕ) →
+    t < total (frames_of rest) →
     (at : State) × StateAtFrom s (frames_of rest) t at
 there_from base parts s [] h t l = absurd (omega (arith, l))
 there_from base parts s (items.Opening o ∷ rest) h t l = absurd h
 there_from base parts s (items.Frame f ∷ rest) h t l =
     there_by (nat_le f.count t) s f (frames_of rest) t
-    (λ le. let more = there_from base [] h.0 rest h.2 (t - f.count) (within_rest f.count t (total (frames_of rest)) (subst (λ n. t < n) (sum_by-cons (λ (g : Frame). g.count) f (frames_of rest)) l) le) in (more.0, h.0, h.1, more.1))
+    (λ le. let more = there_from base [] h.0 rest h.2 (t - f.count)
+    (within_rest f.count t (total (frames_of rest)) (subst (λ n. t < n) (sum_by-cons (λ (g : Frame). g.count) f (frames_of rest)) l)
+    le) in (more.0, h.0, h.1, more.1))
     (λ lt. within_frame f.end s h.0 f t h.1.goes (below_count f.count t lt))
-there_from base parts s (items.Part p ∷ rest) h t l = there_from (base_after p.rest base s) (row_after p.rest (parts ++ p ∷ [])) s rest h.1 t l
+there_from base parts s (items.Part p ∷ rest) h t l =
+    there_from (base_after p.rest base s) (row_after p.rest (parts ++ p ∷ [])) s rest h.1 t l
 
 pub there_is : (is : List Item) → Starts is → (t : ℕ) → t < total_of is → (s : State) × IsAt is t s
 there_is [] h t l = absurd h

@@ -17,7 +17,8 @@ use Rattle.commit_core.proofs.Stages.{DiskAt, outcome_at, sound_outcome}
 use Rattle.commit_core.proofs.Rows.{keeps}
 
 -- what holds of a recorder that is ready
-invariant_of_ready : (first_guest guests k : ℕ) (words totals : ℕ → ℕ) (halted : Bool) (r : Recorder) → IsReady (first_guest + k) r → ((j : ℕ) → words j ≡ 0) → ((j : ℕ) → totals j ≡ 0)
+invariant_of_ready : (first_guest guests k : ℕ) (words totals : ℕ → ℕ) (halted : Bool) (r : Recorder) → IsReady (first_guest + k) r →
+    ((j : ℕ) → words j ≡ 0) → ((j : ℕ) → totals j ≡ 0)
     → RecorderInvariant first_guest guests [] words halted totals k r
 invariant_of_ready first_guest guests k words totals halted r ready zero_words zero_totals =
     subst (RecorderInvariant first_guest guests [] words halted totals k) (sym ready.is) (record {
@@ -37,7 +38,8 @@ invariant_of_ready first_guest guests k words totals halted r ready zero_words z
       };
     })
   where
-    one_state : (j : ℕ) → j < 1 → IsSomeAnd (slice_get (ready.state ∷ []) j) (EndsIn (items_of (take (suc j) (opening_record (first_guest + k) ready.opening ∷ []))))
+    one_state : (j : ℕ) → j < 1 →
+        IsSomeAnd (slice_get (ready.state ∷ []) j) (EndsIn (items_of (take (suc j) (opening_record (first_guest + k) ready.opening ∷ []))))
     one_state zero l = (ready.state, ready.opens, (refl, refl))
     one_state (suc j) l = absurd (omega (arith, l))
 
@@ -58,13 +60,17 @@ invariant_at_start w old s =
       };
       own = subst (AllByRecursion (IsOwn w.first_guest w.guests)) (sym none) tt;
       told = λ k l. omega (arith, ap (λ (f : Flusher). f.told k) s.flusher);
-      each = λ k l. subst (λ (t : List Record). RecorderInvariant w.first_guest w.guests t w.words w.flusher.halted w.flusher.totals k (w.recorders k)) (sym none)
-          (invariant_of_ready w.first_guest w.guests k w.words w.flusher.totals w.flusher.halted (w.recorders k) (s.ready k l) s.words (λ j. ap (λ (f : Flusher). f.totals j) s.flusher));
+      each = λ k l. subst
+          (λ (t : List Record). RecorderInvariant w.first_guest w.guests t w.words w.flusher.halted w.flusher.totals k (w.recorders k))
+          (sym none)
+          (invariant_of_ready w.first_guest w.guests k w.words w.flusher.totals w.flusher.halted (w.recorders k) (s.ready k l) s.words
+          (λ j. ap (λ (f : Flusher). f.totals j) s.flusher));
       disk = subst (λ (f : Flusher). DiskAt f.stage w.disk (w.bodies ++ map body_text f.finished) f.hand) (sym s.flusher)
           (subst (λ (b : List (List ℕ)). IsAtRest w.disk (closed_store b)) (sym (append-nil w.bodies)) s.disk, refl);
     }
 
-pub invariant_of_run : (w : World) (old : List Record) (events : List Event) → Invariant w old → IsSchedule w events → Invariant (run w events) old
+pub invariant_of_run : (w : World) (old : List Record) (events : List Event) → Invariant w old → IsSchedule w events →
+    Invariant (run w events) old
 invariant_of_run w old [] h schedule = h
 invariant_of_run w old (e ∷ events) h schedule = invariant_of_run (after w e) old events (keeps w old e h schedule.0) schedule.1
 

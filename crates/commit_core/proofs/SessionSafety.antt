@@ -13,7 +13,8 @@ use Rattle.commit_core.proofs.Invariant.{Invariant}
 use Rattle.commit_core.proofs.Schedules.{invariant_at_start, invariant_of_run, facts}
 use Rattle.commit_core.proofs.Recovery.{recovers}
 
-safe_after : (start : World) (old : List Record) (events : List Event) → IsStart start old → IsSchedule start events → IsSafe (run start events) old
+safe_after : (start : World) (old : List Record) (events : List Event) → IsStart start old → IsSchedule start events →
+    IsSafe (run start events) old
 safe_after start old events is schedule =
     let w = run start events in
     let invariant : Invariant w old = invariant_of_run start old events (invariant_at_start start old is) schedule in
@@ -23,7 +24,8 @@ safe_after start old events is schedule =
       crash = λ content crash. recovers w old invariant content (inr crash);
     }
 
-pub each_is_safe : (disk : DiskState) (sessions : List Session) (end : DiskState) → AreSessions disk sessions end → AllByRecursion IsSafeThroughout sessions
+pub each_is_safe : (disk : DiskState) (sessions : List Session) (end : DiskState) → AreSessions disk sessions end →
+    AllByRecursion IsSafeThroughout sessions
 each_is_safe disk [] end are = tt
 each_is_safe disk (StoppedOpening ∷ sessions) end (stop, next, session, stopped, rest) = (tt, each_is_safe next sessions end rest)
 each_is_safe disk (OnlyOpened bodies old ∷ sessions) end (stop, next, session, stopped, rest) = (tt, each_is_safe next sessions end rest)

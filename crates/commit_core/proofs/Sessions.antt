@@ -31,7 +31,8 @@ report_of bodies records = record { bodies = bodies; first_guest = next_guest re
 
 -- what is so of bodies is so of those that a session leaves which found them, with its world
 abbrev Stays : (List World → List (List ℕ) → Type 0) → Type 0
-Stays P = (since : List World) (w : World) (old : List Record) (bodies : List (List ℕ)) → LeftBehind w old bodies → P since w.bodies → P (since ++ w ∷ []) bodies
+Stays P = (since : List World) (w : World) (old : List Record) (bodies : List (List ℕ)) → LeftBehind w old bodies → P since w.bodies →
+    P (since ++ w ∷ []) bodies
 
 next_guest-append : (xs ys : List Record) → next_guest xs ≤ next_guest (xs ++ ys)
 next_guest-append [] ys = omega arith
@@ -41,7 +42,8 @@ records_stay : Stays (λ since. HasRecords)
 records_stay since w old bodies behind has = (behind.from.records, behind.from.recovered)
 
 -- records of numbers below some number, and then records of that number or later ones
-sent_both : (since more : List World) (border : ℕ) (xs ys : List Record) → AllByRecursion (λ (r : Record). r.guest < border) xs → AllByRecursion (λ (r : Record). border ≤ r.guest) ys
+sent_both : (since more : List World) (border : ℕ) (xs ys : List Record) → AllByRecursion (λ (r : Record). r.guest < border) xs →
+    AllByRecursion (λ (r : Record). border ≤ r.guest) ys
     → AreSentIn since xs → AreSentIn more ys → AreSentIn (since ++ more) (xs ++ ys)
 sent_both since more border xs ys low high front back number some = ⊎_elim
     (λ below.
@@ -54,7 +56,8 @@ sent_both since more border xs ys low high front back number some = ⊎_elim
     (Any-back (HasSent number (of_guest number ys)) since more (back number (λ none. some (same ∙ none)))))
     (less_or_more number border)
 
-module _ (first : List (List ℕ)) (known : List Record) (is : IsRecovered first known) (since : List World) (w : World) (old : List Record) (bodies : List (List ℕ))
+module _ (first : List (List ℕ)) (known : List Record) (is : IsRecovered first known) (since : List World) (w : World) (old : List Record)
+    (bodies : List (List ℕ))
     (behind : LeftBehind w old bodies) (grows : GrowsTo (report_of first known) since w.bodies) where
   old_is : grows.before ++ grows.gained ≡ old
   old_is = one_recovery w.bodies (grows.before ++ grows.gained) old grows.recovered behind.before
@@ -82,13 +85,15 @@ module _ (first : List (List ℕ)) (known : List Record) (is : IsRecovered first
       ∙ append_assoc grows.before grows.gained step.gained in
       record {
         more = grows.more ++ step.more;
-        bodies_are = step.bodies_are ∙ ap (λ (l : List (List ℕ)). l ++ step.more) grows.bodies_are ∙ append_assoc first grows.more step.more;
+        bodies_are =
+            step.bodies_are ∙ ap (λ (l : List (List ℕ)). l ++ step.more) grows.bodies_are ∙ append_assoc first grows.more step.more;
         before = grows.before;
         gained = grows.gained ++ step.gained;
         reported = grows.reported;
         recovered = subst (IsRecovered bodies) whole step.recovered;
         later = AllByRecursion-append (λ r. next_guest known ≤ r.guest) grows.gained step.gained grows.later
-            (AllByRecursion-weaker (λ r. w.first_guest ≤ r.guest) (λ r. next_guest known ≤ r.guest) step.gained (λ r l. omega (arith, l, numbers_rise)) step.later);
+            (AllByRecursion-weaker (λ r. w.first_guest ≤ r.guest) (λ r. next_guest known ≤ r.guest) step.gained
+            (λ r l. omega (arith, l, numbers_rise)) step.later);
         sent = sent_both since (w ∷ []) w.first_guest grows.gained step.gained gained_below step.later grows.sent step.sent;
       }
 
@@ -130,18 +135,22 @@ module _ (w : World) (old : List Record) where
         records = from.records;
         recovered = from.recovered;
         same = λ number low. refl;
-        seen = λ g low. seen_first (w.recorders g).seen (made (w.recorders g)) (of_guest (w.first_guest + g) from.records) (from.beginning g low) (from.seen g low);
+        seen = λ g low. seen_first (w.recorders g).seen (made (w.recorders g)) (of_guest (w.first_guest + g) from.records)
+            (from.beginning g low) (from.seen g low);
         output = from.output;
       }
     where
-      seen_first : (count : ℕ) (whole front : List Record) → IsBeginning front whole → count ≤ length front → IsBeginning (take count whole) front
+      seen_first : (count : ℕ) (whole front : List Record) → IsBeginning front whole → count ≤ length front →
+          IsBeginning (take count whole) front
       seen_first count whole front (rest, is) low = (
         drop count front,
-        ap (λ (l : List Record). l ++ drop count front) (ap (take count) (sym is) ∙ take-append-le count front rest low) ∙ take-append-drop count front,
+        ap (λ (l : List Record). l ++ drop count front) (ap (take count) (sym is) ∙ take-append-le count front rest low)
+            ∙ take-append-drop count front,
       )
 
   -- another session with this world finds it
-  module _ (since : List World) (other : World) (known : List Record) (bodies : List (List ℕ)) (behind : LeftBehind other known bodies) (keeps : KeepsSession w old since other.bodies) where
+  module _ (since : List World) (other : World) (known : List Record) (bodies : List (List ℕ)) (behind : LeftBehind other known bodies)
+      (keeps : KeepsSession w old since other.bodies) where
     known_is : keeps.records ≡ known
     known_is = one_recovery other.bodies keeps.records known keeps.recovered behind.before
 
@@ -151,7 +160,8 @@ module _ (w : World) (old : List Record) where
 
     -- and of others nothing was found
     none_found : (number : ℕ) → other.first_guest ≤ number → of_guest number keeps.records ≡ []
-    none_found number high = ap (of_guest number) known_is ∙ none_higher number (next_guest known) known (all_below known) (omega (arith, high, behind.next))
+    none_found number high =
+        ap (of_guest number) known_is ∙ none_higher number (next_guest known) known (all_below known) (omega (arith, high, behind.next))
 
     has_output : (number : ℕ) → other.first_guest ≤ number → IsOutput [] (of_guest number behind.from.records)
     has_output number high = ⊎_elim
@@ -159,11 +169,13 @@ module _ (w : World) (old : List Record) where
         let g = number - other.first_guest in
         let is : other.first_guest + g ≡ number = omega (arith, high) in
         nothing_of (other.recorders g).out (of_guest number behind.from.records)
-        (subst (λ (n : ℕ). IsOutput (other.recorders g).out (of_guest n behind.from.records)) is (behind.from.output g (omega (arith, low, high)))))
+        (subst (λ (n : ℕ). IsOutput (other.recorders g).out (of_guest n behind.from.records)) is
+        (behind.from.output g (omega (arith, low, high)))))
         (λ above. subst (λ (l : List Record). IsOutput [] l) (sym (behind.from.none_above number above)) nothing_put)
         (less_or_more number (other.first_guest + other.guests))
 
-    seen_stays : (seen : List Record) (number : ℕ) → IsBeginning seen (of_guest number keeps.records) → IsBeginning seen (of_guest number behind.from.records)
+    seen_stays : (seen : List Record) (number : ℕ) → IsBeginning seen (of_guest number keeps.records) →
+        IsBeginning seen (of_guest number behind.from.records)
     seen_stays seen number begins = ⊎_elim
         (λ low. subst (λ (l : List Record). IsBeginning seen l) (sym (stays_below number low)) begins)
         (λ high.
@@ -171,7 +183,8 @@ module _ (w : World) (old : List Record) where
         (of_guest number behind.from.records, ap (λ (l : List Record). l ++ of_guest number behind.from.records) none))
         (less_or_more number other.first_guest)
 
-    output_stays : (out : List (ℕ × ℕ)) (number : ℕ) → IsOutput out (of_guest number keeps.records) → IsOutput out (of_guest number behind.from.records)
+    output_stays : (out : List (ℕ × ℕ)) (number : ℕ) → IsOutput out (of_guest number keeps.records) →
+        IsOutput out (of_guest number behind.from.records)
     output_stays out number has = ⊎_elim
         (λ low. subst (λ (l : List Record). IsOutput out l) (sym (stays_below number low)) has)
         (λ high.
@@ -198,7 +211,8 @@ module _ (w : World) (old : List Record) where
 
 -- ---- what can be opened
 
-weaker_store : (fine other : List (List ℕ) → Type 0) → ((bodies : List (List ℕ)) → fine bodies → other bodies) → (c : List ℕ) → IsStoreOf fine c → IsStoreOf other c
+weaker_store : (fine other : List (List ℕ) → Type 0) → ((bodies : List (List ℕ)) → fine bodies → other bodies) → (c : List ℕ) →
+    IsStoreOf fine c → IsStoreOf other c
 weaker_store fine other weaker c store = record {
   bodies = store.bodies;
   store = store.store;
@@ -206,14 +220,16 @@ weaker_store fine other weaker c store = record {
   next = ⊎_elim (λ is. inl is) (λ next. inr (next.0, weaker (store.bodies ++ next.0.body ∷ []) next.1)) store.next;
 }
 
-good_weaker : (fine other : List (List ℕ) → Type 0) → ((bodies : List (List ℕ)) → fine bodies → other bodies) → (disk : DiskState) → Good fine disk → Good other disk
+good_weaker : (fine other : List (List ℕ) → Type 0) → ((bodies : List (List ℕ)) → fine bodies → other bodies) → (disk : DiskState) →
+    Good fine disk → Good other disk
 good_weaker fine other weaker disk good c gives = weaker_store fine other weaker c (good c gives)
 
 good_fresh : (fine : List (List ℕ) → Type 0) (c : List ℕ) → IsStoreOf fine c → Good fine (fresh_disk c)
 good_fresh fine c is = good_rest fine (fresh_disk c) c (record { read = refl; synced = refl }) is
 
 -- the bodies on such a disk are as `fine` says
-fine_at : (fine : List (List ℕ) → Type 0) (disk : DiskState) → Good fine disk → (c : List ℕ) (bodies : List (List ℕ)) → Gives disk c → IsStore c bodies → fine bodies
+fine_at : (fine : List (List ℕ) → Type 0) (disk : DiskState) → Good fine disk → (c : List ℕ) (bodies : List (List ℕ)) → Gives disk c →
+    IsStore c bodies → fine bodies
 fine_at fine disk good c bodies gives store =
     let here = good c gives in subst fine (store_parts c here.bodies bodies here.store store).0 here.are
 
@@ -221,9 +237,11 @@ fine_at fine disk good c bodies gives store =
 
 good_stopped : (fine : List (List ℕ) → Type 0) (disk next : DiskState) → Good fine disk → IsStopped disk next → Good fine next
 good_stopped fine disk next good (inl is) = subst (Good fine) (sym is) good
-good_stopped fine disk next good (inr (content, crash, is)) = subst (Good fine) (sym is) (good_fresh fine content (good content (inr crash)))
+good_stopped fine disk next good (inr (content, crash, is)) =
+    subst (Good fine) (sym is) (good_fresh fine content (good content (inr crash)))
 
-good_opened : (fine : List (List ℕ) → Type 0) (disk : DiskState) (bodies : List (List ℕ)) (store : IsStore disk.content bodies) → fine bodies → Good fine (opened_disk disk bodies store)
+good_opened : (fine : List (List ℕ) → Type 0) (disk : DiskState) (bodies : List (List ℕ)) (store : IsStore disk.content bodies) →
+    fine bodies → Good fine (opened_disk disk bodies store)
 good_opened fine disk bodies store is = good_rest fine (opened_disk disk bodies store) (closed_store bodies) (open_end disk bodies store)
     (closed_store_of fine (closed_store bodies) [] bodies store.each store.count is refl)
 
@@ -232,10 +250,13 @@ module _ (start : World) (old : List Record) (events : List Event) (is : IsStart
   from_start : (bodies : List (List ℕ)) → LeftBehind (run start events) old bodies
       → GrowsTo (record { bodies = start.bodies; first_guest = start.first_guest }) (run start events ∷ []) bodies
   from_start bodies behind =
-      subst (λ (n : ℕ). GrowsTo (record { bodies = start.bodies; first_guest = n }) (run start events ∷ []) bodies) (run_same start events).1
-      (subst (λ (b : List (List ℕ)). GrowsTo (record { bodies = b; first_guest = (run start events).first_guest }) (run start events ∷ []) bodies) (run_same start events).0 behind.grows)
+      subst (λ (n : ℕ). GrowsTo (record { bodies = start.bodies; first_guest = n }) (run start events ∷ []) bodies)
+      (run_same start events).1
+      (subst (λ (b : List (List ℕ)). GrowsTo (record { bodies = b; first_guest = (run start events).first_guest }) (run start events ∷ [])
+      bodies) (run_same start events).0 behind.grows)
 
-  good_run : (fine : List (List ℕ) → Type 0) → ((bodies : List (List ℕ)) → LeftBehind (run start events) old bodies → fine bodies) → Good fine (run start events).disk
+  good_run : (fine : List (List ℕ) → Type 0) → ((bodies : List (List ℕ)) → LeftBehind (run start events) old bodies → fine bodies) →
+      Good fine (run start events).disk
   good_run fine weaker = good_weaker (LeftBehind (run start events) old) fine weaker (run start events).disk
       (store_left (run start events) old (invariant_of_run start old events (invariant_at_start start old is) schedule))
 
@@ -251,21 +272,27 @@ and_all_ran since (session ∷ sessions) = and_all_ran (and_ran since session) s
 
 module _ (P : List World → List (List ℕ) → Type 0) (stays : Stays P) where
   -- what stays as bodies grow stays over a session
-  good_session : (since : List World) (disk : DiskState) (session : Session) (end : DiskState) → Good (P since) disk → IsSession disk session end → Good (P (and_ran since session)) end
+  good_session : (since : List World) (disk : DiskState) (session : Session) (end : DiskState) → Good (P since) disk →
+      IsSession disk session end → Good (P (and_ran since session)) end
   good_session since disk StoppedOpening end good (bodies, store, within) = good_open (P since) disk good bodies store end within
   good_session since disk (OnlyOpened bodies old) end good (store, recovered, is) =
-      subst (Good (P since)) (sym is) (good_opened (P since) disk bodies store (fine_at (P since) disk good disk.content bodies (inl refl) store))
+      subst (Good (P since)) (sym is)
+      (good_opened (P since) disk bodies store (fine_at (P since) disk good disk.content bodies (inl refl) store))
   good_session since disk (Ran start old events) end good (store, opened, is, schedule, end_is) =
-      subst (Good (P (since ++ run start events ∷ []))) (sym end_is) (good_run start old events is schedule (P (since ++ run start events ∷ []))
+      subst (Good (P (since ++ run start events ∷ []))) (sym end_is)
+      (good_run start old events is schedule (P (since ++ run start events ∷ []))
       (λ bodies behind. stays since (run start events) old bodies behind
       (subst (P since) (sym (run_same start events).0) (fine_at (P since) disk good disk.content start.bodies (inl refl) store))))
 
   -- and once it was stopped
-  good_next : (since : List World) (disk : DiskState) (session : Session) (stop next : DiskState) → Good (P since) disk → IsSession disk session stop → IsStopped stop next
+  good_next : (since : List World) (disk : DiskState) (session : Session) (stop next : DiskState) → Good (P since) disk →
+      IsSession disk session stop → IsStopped stop next
       → Good (P (and_ran since session)) next
-  good_next since disk session stop next good one stopped = good_stopped (P (and_ran since session)) stop next (good_session since disk session stop good one) stopped
+  good_next since disk session stop next good one stopped =
+      good_stopped (P (and_ran since session)) stop next (good_session since disk session stop good one) stopped
 
-  found_later : (since : List World) (disk : DiskState) (sessions : List Session) (end : DiskState) → Good (P since) disk → AreSessions disk sessions end → IsFoundLater P since sessions end
+  found_later : (since : List World) (disk : DiskState) (sessions : List Session) (end : DiskState) → Good (P since) disk →
+      AreSessions disk sessions end → IsFoundLater P since sessions end
   found_later since disk [] end good is = fine_at (P since) end (subst (Good (P since)) (sym is) good)
   found_later since disk (StoppedOpening ∷ sessions) end good (stop, next, one, stopped, rest) =
       found_later since next sessions end (good_next since disk StoppedOpening stop next good one stopped) rest
@@ -275,10 +302,12 @@ module _ (P : List World → List (List ℕ) → Type 0) (stays : Stays P) where
   )
   found_later since disk (Ran start old events ∷ sessions) end good (stop, next, one, stopped, rest) = (
     fine_at (P since) disk good disk.content start.bodies (inl refl) one.0,
-    found_later (since ++ run start events ∷ []) next sessions end (good_next since disk (Ran start old events) stop next good one stopped) rest,
+    found_later (since ++ run start events ∷ []) next sessions end (good_next since disk (Ran start old events) stop next good one stopped)
+        rest,
   )
 
-  good_end : (since : List World) (disk : DiskState) (sessions : List Session) (end : DiskState) → Good (P since) disk → AreSessions disk sessions end → Good (P (and_all_ran since sessions)) end
+  good_end : (since : List World) (disk : DiskState) (sessions : List Session) (end : DiskState) → Good (P since) disk →
+      AreSessions disk sessions end → Good (P (and_all_ran since sessions)) end
   good_end since disk [] end good is = subst (Good (P since)) (sym is) good
   good_end since disk (session ∷ sessions) end good (stop, next, one, stopped, rest) =
       good_end (and_ran since session) next sessions end (good_next since disk session stop next good one stopped) rest
@@ -290,15 +319,23 @@ each_grows disk [] end is = tt
 each_grows disk (StoppedOpening ∷ sessions) end (stop, next, one, stopped, rest) = each_grows next sessions end rest
 each_grows disk (OnlyOpened bodies old ∷ sessions) end (stop, next, one, stopped, rest) =
     let grows = GrowsTo (report_of bodies old) in
-    let good : Good (grows []) stop = subst (Good (grows [])) (sym one.2) (good_opened (grows []) disk bodies one.0 (own_growth bodies old one.1)) in
-    (found_later grows (growth_stays bodies old one.1) [] next sessions end (good_stopped (grows []) stop next good stopped) rest, each_grows next sessions end rest)
+    let good : Good (grows []) stop =
+    subst (Good (grows [])) (sym one.2) (good_opened (grows []) disk bodies one.0 (own_growth bodies old one.1)) in (
+      found_later grows (growth_stays bodies old one.1) [] next sessions end (good_stopped (grows []) stop next good stopped) rest,
+      each_grows next sessions end rest,
+    )
 each_grows disk (Ran start old events ∷ sessions) end (stop, next, one, stopped, rest) =
     let grows = GrowsTo (record { bodies = start.bodies; first_guest = start.first_guest }) in
     let since : List World = run start events ∷ [] in
-    let good : Good (grows since) stop = subst (Good (grows since)) (sym one.4) (good_run start old events one.2 one.3 (grows since) (from_start start old events one.2 one.3)) in
+    let good : Good (grows since) stop =
+    subst (Good (grows since)) (sym one.4)
+    (good_run start old events one.2 one.3 (grows since) (from_start start old events one.2 one.3)) in
     let stays : Stays grows =
-    subst (λ (n : ℕ). Stays (GrowsTo (record { bodies = start.bodies; first_guest = n }))) (sym one.2.next) (growth_stays start.bodies old one.2.recovered) in
-    (found_later grows stays since next sessions end (good_stopped (grows since) stop next good stopped) rest, each_grows next sessions end rest)
+    subst (λ (n : ℕ). Stays (GrowsTo (record { bodies = start.bodies; first_guest = n }))) (sym one.2.next)
+    (growth_stays start.bodies old one.2.recovered) in (
+      found_later grows stays since next sessions end (good_stopped (grows since) stop next good stopped) rest,
+      each_grows next sessions end rest,
+    )
 
 pub each_is_kept : (disk : DiskState) (sessions : List Session) (end : DiskState) → AreSessions disk sessions end → AreKept sessions end
 each_is_kept disk [] end is = tt
@@ -306,9 +343,14 @@ each_is_kept disk (StoppedOpening ∷ sessions) end (stop, next, one, stopped, r
 each_is_kept disk (OnlyOpened bodies old ∷ sessions) end (stop, next, one, stopped, rest) = each_is_kept next sessions end rest
 each_is_kept disk (Ran start old events ∷ sessions) end (stop, next, one, stopped, rest) =
     let keeps = KeepsSession (run start events) old in
-    let good : Good (keeps []) stop = subst (Good (keeps [])) (sym one.4) (good_run start old events one.2 one.3 (keeps []) (own_session (run start events) old)) in
-    (found_later keeps (session_stays (run start events) old) [] next sessions end (good_stopped (keeps []) stop next good stopped) rest, each_is_kept next sessions end rest)
+    let good : Good (keeps []) stop =
+    subst (Good (keeps [])) (sym one.4) (good_run start old events one.2 one.3 (keeps []) (own_session (run start events) old)) in (
+      found_later keeps (session_stays (run start events) old) [] next sessions end (good_stopped (keeps []) stop next good stopped) rest,
+      each_is_kept next sessions end rest,
+    )
 
-pub opens_again : (content : List ℕ) (sessions : List Session) (end : DiskState) → CanOpen content → AreSessions (fresh_disk content) sessions end
+pub opens_again : (content : List ℕ) (sessions : List Session) (end : DiskState) → CanOpen content →
+    AreSessions (fresh_disk content) sessions end
     → (c : List ℕ) → Gives end c → CanOpen c
-opens_again content sessions end can are = good_end (λ since. HasRecords) records_stay [] (fresh_disk content) sessions end (good_fresh HasRecords content can) are
+opens_again content sessions end can are =
+    good_end (λ since. HasRecords) records_stay [] (fresh_disk content) sessions end (good_fresh HasRecords content can) are

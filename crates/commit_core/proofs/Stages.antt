@@ -18,11 +18,15 @@ use Rattle.outcomes.proofs.Lists.{AllByRecursion-push, head_is}
 
 -- ---- one body more
 
-pub store_text-push : (bodies : List (List ℕ)) (body : List ℕ) → store_text (bodies ++ body ∷ []) ≡ store_text bodies ++ 0xA5 ∷ segment (length bodies) body
+pub store_text-push : (bodies : List (List ℕ)) (body : List ℕ) →
+    store_text (bodies ++ body ∷ []) ≡ store_text bodies ++ 0xA5 ∷ segment (length bodies) body
 unfolding store_text
-store_text-push bodies body = ap (λ (l : List ℕ). header ++ l) (segments_push 0 bodies body ∙ ap (λ n. segments 0 bodies ++ 0xA5 ∷ segment n body) (omega arith)) ∙ sym (append_assoc header (segments 0 bodies) (0xA5 ∷ segment (length bodies) body))
+store_text-push bodies body =
+    ap (λ (l : List ℕ). header ++ l) (segments_push 0 bodies body ∙ ap (λ n. segments 0 bodies ++ 0xA5 ∷ segment n body) (omega arith))
+    ∙ sym (append_assoc header (segments 0 bodies) (0xA5 ∷ segment (length bodies) body))
 
-pub sound_by : (c behind : List ℕ) (gate : ℕ) (bodies : List (List ℕ)) → c ≡ store_text bodies ++ gate ∷ behind → gate ≢ 0xA5 → AllByRecursion IsBody bodies
+pub sound_by : (c behind : List ℕ) (gate : ℕ) (bodies : List (List ℕ)) → c ≡ store_text bodies ++ gate ∷ behind → gate ≢ 0xA5 →
+    AllByRecursion IsBody bodies
     → length bodies ≤ 4294967295 → (gate ≡ 0) ⊎ IsNextSegment (length bodies) behind → IsSound c bodies
 unfolding store_text
 sound_by c behind gate bodies text not_open each count next = record {
@@ -30,8 +34,10 @@ sound_by c behind gate bodies text not_open each count next = record {
   next = next;
 }
 
-pub store_of_by : (fine : List (List ℕ) → Type 0) (c behind : List ℕ) (gate : ℕ) (bodies : List (List ℕ)) → c ≡ store_text bodies ++ gate ∷ behind → gate ≢ 0xA5
-    → AllByRecursion IsBody bodies → length bodies ≤ 4294967295 → fine bodies → (gate ≡ 0) ⊎ ((segment : IsNextSegment (length bodies) behind) × fine (bodies ++ segment.body ∷ []))
+pub store_of_by : (fine : List (List ℕ) → Type 0) (c behind : List ℕ) (gate : ℕ) (bodies : List (List ℕ)) →
+    c ≡ store_text bodies ++ gate ∷ behind → gate ≢ 0xA5
+    → AllByRecursion IsBody bodies → length bodies ≤ 4294967295 → fine bodies → (gate ≡ 0) ⊎
+    ((segment : IsNextSegment (length bodies) behind) × fine (bodies ++ segment.body ∷ []))
     → IsStoreOf fine c
 unfolding store_text
 store_of_by fine c behind gate bodies text not_open each count are next = record {
@@ -42,13 +48,17 @@ store_of_by fine c behind gate bodies text not_open each count are next = record
 }
 
 -- a closed gate behind the bodies
-pub closed_store_of : (fine : List (List ℕ) → Type 0) (c behind : List ℕ) (bodies : List (List ℕ)) → AllByRecursion IsBody bodies → length bodies ≤ 4294967295
+pub closed_store_of : (fine : List (List ℕ) → Type 0) (c behind : List ℕ) (bodies : List (List ℕ)) → AllByRecursion IsBody bodies →
+    length bodies ≤ 4294967295
     → fine bodies → c ≡ store_text bodies ++ 0 ∷ behind → IsStoreOf fine c
-closed_store_of fine c behind bodies each count are text = store_of_by fine c behind 0 bodies text (λ e. absurd (omega (arith, e))) each count are (inl refl)
+closed_store_of fine c behind bodies each count are text =
+    store_of_by fine c behind 0 bodies text (λ e. absurd (omega (arith, e))) each count are (inl refl)
 
 -- any gate before a whole segment and a closed gate
-pub ajar_store_of : (fine : List (List ℕ) → Type 0) (c behind : List ℕ) (gate : ℕ) (bodies : List (List ℕ)) → AllByRecursion IsBody bodies → length bodies ≤ 4294967295
-    → fine bodies → (segment : IsNextSegment (length bodies) behind) → fine (bodies ++ segment.body ∷ []) → c ≡ store_text bodies ++ gate ∷ behind → IsStoreOf fine c
+pub ajar_store_of : (fine : List (List ℕ) → Type 0) (c behind : List ℕ) (gate : ℕ) (bodies : List (List ℕ)) → AllByRecursion IsBody bodies →
+    length bodies ≤ 4294967295
+    → fine bodies → (segment : IsNextSegment (length bodies) behind) → fine (bodies ++ segment.body ∷ []) →
+    c ≡ store_text bodies ++ gate ∷ behind → IsStoreOf fine c
 ajar_store_of fine c behind gate bodies each count are next more text = elim (cases_eq gate 0xA5) [
   | inl is ↦ closed_store_of fine c next.rest (bodies ++ next.body ∷ []) (AllByRecursion-push IsBody bodies next.body each next.is_body)
       (omega (arith, length-append bodies (next.body ∷ []), next.few)) more
@@ -58,7 +68,8 @@ ajar_store_of fine c behind gate bodies each count are next more text = elim (ca
   | inr shut ↦ store_of_by fine c behind gate bodies text shut each count are (inr (next, more))
 ]
 
-pub text_of_store : (bytes : List ℕ) (bodies : List (List ℕ)) (store : IsStore bytes bodies) → bytes ≡ store_text bodies ++ store.gate ∷ store.behind
+pub text_of_store : (bytes : List ℕ) (bodies : List (List ℕ)) (store : IsStore bytes bodies) →
+    bytes ≡ store_text bodies ++ store.gate ∷ store.behind
 unfolding store_text
 text_of_store bytes bodies store = store.text
 
@@ -95,16 +106,21 @@ module _ (bodies : List (List ℕ)) (body : List ℕ) where
 
   pub write_gives : overwritten (closed_store bodies) (place + 1) tail ≡ staged
   write_gives =
-      ap (λ (l : List ℕ). l ++ tail ++ drop (place + 1 + length tail) (closed_store bodies)) (take_all (place + 1) (closed_store bodies) (omega (arith, length_closed)))
-      ∙ ap (λ (l : List ℕ). closed_store bodies ++ tail ++ l) (drop_all (place + 1 + length tail) (closed_store bodies) (omega (arith, length_closed)))
+      ap (λ (l : List ℕ). l ++ tail ++ drop (place + 1 + length tail) (closed_store bodies))
+      (take_all (place + 1) (closed_store bodies) (omega (arith, length_closed)))
+      ∙ ap (λ (l : List ℕ). closed_store bodies ++ tail ++ l)
+      (drop_all (place + 1 + length tail) (closed_store bodies) (omega (arith, length_closed)))
       ∙ append-nil (closed_store bodies ++ tail)
       ∙ append_assoc (store_text bodies) (0 ∷ []) tail
 
   drop_staged : drop (place + 1) staged ≡ tail
-  drop_staged = ap (λ (l : List ℕ). drop (place + 1) l) (sym (append_assoc (store_text bodies) (0 ∷ []) tail)) ∙ drop_at (closed_store bodies) tail (place + 1) length_closed
+  drop_staged =
+      ap (λ (l : List ℕ). drop (place + 1) l) (sym (append_assoc (store_text bodies) (0 ∷ []) tail))
+      ∙ drop_at (closed_store bodies) tail (place + 1) length_closed
 
   with_body : store_text bodies ++ 0xA5 ∷ tail ≡ closed_store (bodies ++ body ∷ [])
-  with_body = sym (append_assoc (store_text bodies) (0xA5 ∷ segment (length bodies) body) (0 ∷ [])) ∙ ap (λ (l : List ℕ). l ++ 0 ∷ []) (sym (store_text-push bodies body))
+  with_body = sym (append_assoc (store_text bodies) (0xA5 ∷ segment (length bodies) body) (0 ∷ []))
+      ∙ ap (λ (l : List ℕ). l ++ 0 ∷ []) (sym (store_text-push bodies body))
 
   pub open_gives : overwritten staged place (0xA5 ∷ []) ≡ closed_store (bodies ++ body ∷ [])
   open_gives =
@@ -116,15 +132,23 @@ module _ (bodies : List (List ℕ)) (body : List ℕ) where
   -- the closed gate stands in each outcome of the first write
   pub torn_closed : (count : ℕ) (c : List ℕ) → IsTorn (place + 1) count (closed_store bodies) c → Closed c
   torn_closed count c torn =
-      let start : take (place + 1) c ≡ closed_store bodies = torn.before ∙ take_all _ _ (omega (arith, length_closed)) in
-      (drop (place + 1) c, sym (take-append-drop (place + 1) c) ∙ ap (λ (l : List ℕ). l ++ drop (place + 1) c) start ∙ append_assoc (store_text bodies) (0 ∷ []) (drop (place + 1) c))
+      let start : take (place + 1) c ≡ closed_store bodies = torn.before ∙ take_all _ _ (omega (arith, length_closed)) in (
+        drop (place + 1) c,
+        sym (take-append-drop (place + 1) c) ∙ ap (λ (l : List ℕ). l ++ drop (place + 1) c) start
+            ∙ append_assoc (store_text bodies) (0 ∷ []) (drop (place + 1) c),
+      )
 
   -- the segment stands whole in each outcome of the second write
   pub torn_ajar : (c : List ℕ) → IsTorn place 1 staged c → Ajar c
   torn_ajar c torn =
       let front : take place c ≡ store_text bodies = torn.before ∙ take_at (store_text bodies) (0 ∷ tail) place refl in
-      let behind : drop place c ≡ get_or c place 0 ∷ tail = drop_more c place 0 (omega (arith, torn.no_shorter, length_staged)) ∙ ap (λ (l : List ℕ). get_or c place 0 ∷ l) (torn.after ∙ drop_staged) in
-      (get_or c place 0, sym (take-append-drop place c) ∙ ap (λ (l : List ℕ). l ++ drop place c) front ∙ ap (λ (l : List ℕ). store_text bodies ++ l) behind)
+      let behind : drop place c ≡ get_or c place 0 ∷ tail =
+      drop_more c place 0 (omega (arith, torn.no_shorter, length_staged))
+      ∙ ap (λ (l : List ℕ). get_or c place 0 ∷ l) (torn.after ∙ drop_staged) in (
+        get_or c place 0,
+        sym (take-append-drop place c) ∙ ap (λ (l : List ℕ). l ++ drop place c) front
+            ∙ ap (λ (l : List ℕ). store_text bodies ++ l) behind,
+      )
 
   module _ (sizes : AllByRecursion IsBody bodies) (few : length bodies ≤ 4294967295) where
     more_sizes : IsCommittable → AllByRecursion IsBody (bodies ++ body ∷ [])
@@ -136,7 +160,8 @@ module _ (bodies : List (List ℕ)) (body : List ℕ) where
     next_is : IsCommittable → IsNextSegment (length bodies) tail
     next_is can = record { few = omega (arith, can.1); body = body; rest = []; text = refl; is_body = can.0 }
 
-    opened_text : (c : List ℕ) (gate : ℕ) → c ≡ store_text bodies ++ gate ∷ tail → gate ≡ 0xA5 → c ≡ store_text (bodies ++ body ∷ []) ++ 0 ∷ []
+    opened_text : (c : List ℕ) (gate : ℕ) → c ≡ store_text bodies ++ gate ∷ tail → gate ≡ 0xA5 →
+        c ≡ store_text (bodies ++ body ∷ []) ++ 0 ∷ []
     opened_text c gate text is = text ∙ ap (λ (g : ℕ). store_text bodies ++ g ∷ tail) is ∙ with_body
 
     pub closed_sound : (c : List ℕ) → Closed c → IsSound c bodies
@@ -145,15 +170,19 @@ module _ (bodies : List (List ℕ)) (body : List ℕ) where
     pub sound_outcome : (c : List ℕ) → Outcome c → IsSound c bodies ⊎ IsSound c (bodies ++ body ∷ [])
     sound_outcome c (inl closed) = inl (closed_sound c closed)
     sound_outcome c (inr ajar) = elim (cases_eq ajar.1.0 0xA5) [
-      | inl is ↦ inr (sound_by c [] 0 (bodies ++ body ∷ []) (opened_text c ajar.1.0 ajar.1.1 is) (λ e. absurd (omega (arith, e))) (more_sizes ajar.0) (more_few ajar.0) (inl refl))
+      | inl is ↦ inr
+          (sound_by c [] 0 (bodies ++ body ∷ []) (opened_text c ajar.1.0 ajar.1.1 is) (λ e. absurd (omega (arith, e))) (more_sizes ajar.0)
+          (more_few ajar.0) (inl refl))
       | inr shut ↦ inl (sound_by c tail ajar.1.0 bodies ajar.1.1 shut sizes few (inr (next_is ajar.0)))
     ]
 
     -- what an outcome is, where the bodies are as `fine` says, and with this one more
-    pub outcome_store_of : (fine : List (List ℕ) → Type 0) → fine bodies → (IsCommittable → fine (bodies ++ body ∷ [])) → (c : List ℕ) → Outcome c → IsStoreOf fine c
+    pub outcome_store_of : (fine : List (List ℕ) → Type 0) → fine bodies → (IsCommittable → fine (bodies ++ body ∷ [])) → (c : List ℕ) →
+        Outcome c → IsStoreOf fine c
     unfolding next_is
     outcome_store_of fine are more c (inl closed) = closed_store_of fine c closed.0 bodies sizes few are closed.1
-    outcome_store_of fine are more c (inr ajar) = ajar_store_of fine c tail ajar.1.0 bodies sizes few are (next_is ajar.0) (more ajar.0) ajar.1.1
+    outcome_store_of fine are more c (inr ajar) =
+        ajar_store_of fine c tail ajar.1.0 bodies sizes few are (next_is ajar.0) (more ajar.0) ajar.1.1
 
 -- ---- calls that fail
 
@@ -165,7 +194,8 @@ crash_failed place count old new failed c crash = at_end failed.passes.later fai
     during : Pending
     during = pending_write old.pending place count
 
-    at_end : (later : List Pending) → moments new ≡ later ++ moments old → AllByRecursion (Leaves (IsCrash (pending_write old.pending place count))) later
+    at_end : (later : List Pending) → moments new ≡ later ++ moments old →
+        AllByRecursion (Leaves (IsCrash (pending_write old.pending place count))) later
         → IsCrash old.pending c ⊎ IsCrash (pending_write old.pending place count) c
     at_end [] is each = inl (subst (λ (p : Pending). IsCrash p c) (head_is _ _ _ _ is) crash)
     at_end (p ∷ later) is each = inr (each.0 c (subst (λ (q : Pending). IsCrash q c) (head_is _ _ _ _ is) crash))
@@ -174,7 +204,8 @@ pub crash_failed_cut : (size : ℕ) (old new : DiskState) → FailsToCut size ol
     → IsCrash old.pending c ⊎ IsCrash (pending_cut old.pending size) c
 crash_failed_cut size old new failed c crash = at_end failed.passes.later failed.passes.goes_on failed.passes.each
   where
-    at_end : (later : List Pending) → moments new ≡ later ++ moments old → AllByRecursion (Leaves (IsCrash (pending_cut old.pending size))) later
+    at_end : (later : List Pending) → moments new ≡ later ++ moments old →
+        AllByRecursion (Leaves (IsCrash (pending_cut old.pending size))) later
         → IsCrash old.pending c ⊎ IsCrash (pending_cut old.pending size) c
     at_end [] is each = inl (subst (λ (p : Pending). IsCrash p c) (head_is _ _ _ _ is) crash)
     at_end (p ∷ later) is each = inr (each.0 c (subst (λ (q : Pending). IsCrash q c) (head_is _ _ _ _ is) crash))
@@ -186,7 +217,8 @@ abbrev pub DiskAt : Stage → DiskState → List (List ℕ) → List Record → 
 DiskAt Idle disk bodies hand = IsAtRest disk (closed_store bodies) × (hand ≡ [])
 DiskAt Written disk bodies hand =
     (disk.content ≡ staged bodies (body_text hand))
-    × (disk.pending ≡ pending_write (all_synced (closed_store bodies)) (length (store_text bodies) + 1) (length (tail bodies (body_text hand))))
+    × (disk.pending
+    ≡ pending_write (all_synced (closed_store bodies)) (length (store_text bodies) + 1) (length (tail bodies (body_text hand))))
     × IsCommittable bodies (body_text hand)
 DiskAt Synced disk bodies hand = IsAtRest disk (staged bodies (body_text hand)) × IsCommittable bodies (body_text hand)
 DiskAt Opened disk bodies hand =
@@ -208,7 +240,8 @@ outcome_at Written disk bodies hand at c (inr crash) =
     inl (torn_closed bodies b (length (tail bodies b)) c
     (crash_torn (closed_store bodies) (length (store_text bodies) + 1) (length (tail bodies b)) (omega (arith, length_closed bodies b)) c
     (subst (λ (p : Pending). IsCrash p c) at.1 crash)))
-outcome_at Synced disk bodies hand at c gives = inl (tail bodies (body_text hand), gives_rest disk (staged bodies (body_text hand)) c at.0 gives)
+outcome_at Synced disk bodies hand at c gives =
+    inl (tail bodies (body_text hand), gives_rest disk (staged bodies (body_text hand)) c at.0 gives)
 outcome_at Opened disk bodies hand at c (inl is) =
     inr (at.2, (0xA5, is ∙ at.0 ∙ sym (with_body bodies (body_text hand))))
 outcome_at Opened disk bodies hand at c (inr crash) =
@@ -216,13 +249,15 @@ outcome_at Opened disk bodies hand at c (inr crash) =
     inr (
       at.2,
       torn_ajar bodies b c
-          (crash_torn (staged bodies b) (length (store_text bodies)) 1 (omega (arith, length_staged bodies b)) c (subst (λ (p : Pending). IsCrash p c) at.1 crash)),
+          (crash_torn (staged bodies b) (length (store_text bodies)) 1 (omega (arith, length_staged bodies b)) c
+          (subst (λ (p : Pending). IsCrash p c) at.1 crash)),
     )
 outcome_at Broken disk bodies hand at c gives = at c gives
 
 -- ---- one stage after another
 
-pub to_written : (disk : DiskState) (bodies : List (List ℕ)) (old hand : List Record) → DiskAt Idle disk bodies old → IsCommittable bodies (body_text hand)
+pub to_written : (disk : DiskState) (bodies : List (List ℕ)) (old hand : List Record) → DiskAt Idle disk bodies old →
+    IsCommittable bodies (body_text hand)
     → DiskAt Written (after_write disk (length (store_text bodies) + 1) (tail bodies (body_text hand))) bodies hand
 to_written disk bodies old hand at can =
     let place = length (store_text bodies) + 1 in
@@ -243,16 +278,21 @@ to_written_fails disk new bodies old hand at failed c gives =
   where
     is_torn : Gives new c → IsTorn (length (store_text bodies) + 1) (length (tail bodies (body_text hand))) (closed_store bodies) c
     is_torn (inl is) = subst (λ (l : List ℕ). IsTorn (length (store_text bodies) + 1) (length (tail bodies (body_text hand))) l c) at.0.read
-        (subst (λ (l : List ℕ). IsTorn (length (store_text bodies) + 1) (length (tail bodies (body_text hand))) disk.content l) (sym is) failed.content)
+        (subst (λ (l : List ℕ). IsTorn (length (store_text bodies) + 1) (length (tail bodies (body_text hand))) disk.content l) (sym is)
+        failed.content)
     is_torn (inr crash) = ⊎_elim
-        (λ before. subst (λ (l : List ℕ). IsTorn (length (store_text bodies) + 1) (length (tail bodies (body_text hand))) (closed_store bodies) l)
+        (λ before. subst
+        (λ (l : List ℕ). IsTorn (length (store_text bodies) + 1) (length (tail bodies (body_text hand))) (closed_store bodies) l)
         (sym (crash_synced (closed_store bodies) c (subst (λ (p : Pending). IsCrash p c) at.0.synced before)))
         (torn_same (length (store_text bodies) + 1) (length (tail bodies (body_text hand))) (closed_store bodies)))
-        (λ within. crash_torn (closed_store bodies) (length (store_text bodies) + 1) (length (tail bodies (body_text hand))) (omega (arith, length_closed bodies (body_text hand))) c
-        (subst (λ (p : Pending). IsCrash (pending_write p (length (store_text bodies) + 1) (length (tail bodies (body_text hand)))) c) at.0.synced within))
+        (λ within. crash_torn (closed_store bodies) (length (store_text bodies) + 1) (length (tail bodies (body_text hand)))
+        (omega (arith, length_closed bodies (body_text hand))) c
+        (subst (λ (p : Pending). IsCrash (pending_write p (length (store_text bodies) + 1) (length (tail bodies (body_text hand)))) c)
+        at.0.synced within))
         (crash_failed (length (store_text bodies) + 1) (length (tail bodies (body_text hand))) disk new failed c crash)
 
-pub to_synced : (disk : DiskState) (bodies : List (List ℕ)) (hand : List Record) → DiskAt Written disk bodies hand → DiskAt Synced (after_sync disk) bodies hand
+pub to_synced : (disk : DiskState) (bodies : List (List ℕ)) (hand : List Record) → DiskAt Written disk bodies hand →
+    DiskAt Synced (after_sync disk) bodies hand
 to_synced disk bodies hand at = (record { read = at.0; synced = ap all_synced at.0 }, at.2)
 
 pub to_opened : (disk : DiskState) (bodies : List (List ℕ)) (hand : List Record) → DiskAt Synced disk bodies hand
@@ -274,11 +314,13 @@ to_opened_fails disk new bodies hand at failed c gives = inr (at.1, torn_ajar bo
         (λ before. subst (λ (l : List ℕ). IsTorn (length (store_text bodies)) 1 (staged bodies (body_text hand)) l)
         (sym (crash_synced (staged bodies (body_text hand)) c (subst (λ (p : Pending). IsCrash p c) at.0.synced before)))
         (torn_same (length (store_text bodies)) 1 (staged bodies (body_text hand))))
-        (λ within. crash_torn (staged bodies (body_text hand)) (length (store_text bodies)) 1 (omega (arith, length_staged bodies (body_text hand))) c
+        (λ within. crash_torn (staged bodies (body_text hand)) (length (store_text bodies)) 1
+        (omega (arith, length_staged bodies (body_text hand))) c
         (subst (λ (p : Pending). IsCrash (pending_write p (length (store_text bodies)) 1) c) at.0.synced within))
         (crash_failed (length (store_text bodies)) 1 disk new failed c crash)
 
-pub to_idle : (disk : DiskState) (bodies next : List (List ℕ)) (hand : List Record) → DiskAt Opened disk bodies hand → next ≡ bodies ++ body_text hand ∷ []
+pub to_idle : (disk : DiskState) (bodies next : List (List ℕ)) (hand : List Record) → DiskAt Opened disk bodies hand →
+    next ≡ bodies ++ body_text hand ∷ []
     → DiskAt Idle (after_sync disk) next []
 to_idle disk bodies next hand at is =
     let content : disk.content ≡ closed_store next = at.0 ∙ ap closed_store (sym is) in

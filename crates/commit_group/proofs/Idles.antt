@@ -31,7 +31,15 @@ record HasLooked (a n : ℕ) (w : World) (events : List Event) : Type 0 where
   above : (g : ℕ) → a + n ≤ g → totals g ≡ w.flusher.totals g
 
 looks_from : (n a : ℕ) (w : World) → a + n ≤ w.guests → HasLooked a n w (map LookLeft (range_with_len a n))
-looks_from zero a w le = record { totals = w.flusher.totals; schedule = tt; ends = refl; seen = λ g lo hi. absurd (omega arith); below = λ g l. refl; above = λ g l. refl }
+looks_from zero a w le =
+    record {
+      totals = w.flusher.totals;
+      schedule = tt;
+      ends = refl;
+      seen = λ g lo hi. absurd (omega arith);
+      below = λ g l. refl;
+      above = λ g l. refl;
+    }
 looks_from (suc n) a w le =
     let word = w.words (left_place w a) in
     let later = looks_from n (a + 1) (after w (LookLeft a)) (omega arith) in
@@ -41,7 +49,8 @@ looks_from (suc n) a w le =
       schedule = (low, later.schedule);
       ends = later.ends;
       seen = λ g lo hi. dite (ℕ_discrete g a)
-          (λ e. later.below g (omega arith) ∙ ap (λ (k : ℕ). (after w (LookLeft a)).flusher.totals k) e ∙ put_same w.flusher.totals a word ∙ ap (λ (k : ℕ). w.words (left_place w k)) (sym e))
+          (λ e. later.below g (omega arith) ∙ ap (λ (k : ℕ). (after w (LookLeft a)).flusher.totals k) e ∙ put_same w.flusher.totals a word
+          ∙ ap (λ (k : ℕ). w.words (left_place w k)) (sym e))
           (λ ne. later.seen g (omega arith) (omega arith));
       below = λ g l. later.below g (omega arith) ∙ put_other w.flusher.totals a word g (λ e. absurd (omega arith));
       above = λ g l. later.above g (omega arith) ∙ put_other w.flusher.totals a word g (λ e. absurd (omega arith));
@@ -50,7 +59,8 @@ looks_from (suc n) a w le =
 -- ---- what the seat knows then
 
 -- Once the world's flusher knows these totals, seat and log stand for it.
-looked_stands : {D : Type 0} (state : D → DiskState) (old new : FlusherValue) (log log' : LogValue D) (w : World) (totals : ℕ → ℕ) → TurnFindsNone old new log log'
+looked_stands : {D : Type 0} (state : D → DiskState) (old new : FlusherValue) (log log' : LogValue D) (w : World) (totals : ℕ → ℕ) →
+    TurnFindsNone old new log log'
     → StandsFor state (base new.first_guest) old log w → ((g : ℕ) → g < w.guests → totals g ≡ slice_index new.totals g)
     → StandsFor state (base new.first_guest) new log' (with_totals w totals)
 looked_stands state old new log log' w totals turn h same =
@@ -73,13 +83,16 @@ looked_stands state old new log log' w totals turn h same =
       keeps = h.keeps;
     })
 
-module _ {D : Type 0} (state : D → DiskState) (old new : FlusherValue) (log log' : LogValue D) (w : World) (turn : TurnFindsNone old new log log')
+module _ {D : Type 0} (state : D → DiskState) (old new : FlusherValue) (log log' : LogValue D) (w : World)
+    (turn : TurnFindsNone old new log log')
     (before : StandsFor state (base new.first_guest) old log w) (stand : WordsStand w new turn.last) where
   guests : w.guests ≡ new.group.guests
   guests = before.stands.guests ∙ ap (λ (f : FlusherValue). f.group.guests) (sym turn.seat)
 
   count_is : (g : ℕ) → committed_count (w.first_guest + g) w.flusher ≡ committed_of new g
-  count_is g = λ i. length (of_guest (before.stands.first_is i + g) ((before.stands.finished ∙ ap (λ (f : FlusherValue). f.committed) (sym turn.seat)) i))
+  count_is g =
+      λ i. length (of_guest (before.stands.first_is i + g)
+      ((before.stands.finished ∙ ap (λ (f : FlusherValue). f.committed) (sym turn.seat)) i))
 
   looked : HasLooked 0 (turn.last + 1) w (left_looks (turn.last + 1))
   looked = looks_from (turn.last + 1) 0 w (let there = turn.loads.there in let e = guests in omega arith)
@@ -97,7 +110,8 @@ module _ {D : Type 0} (state : D → DiskState) (old new : FlusherValue) (log lo
 
   -- what is committed of a guest is what its word says, or not, in both
   known : (g : ℕ) → g ≤ turn.last → HaveLeft end → slice_index new.totals g ≡ committed_of new g + 1
-  known g upto all = sym (stand g upto) ∙ all g (let there = turn.loads.there in let e = guests in omega arith) ∙ ap (λ (n : ℕ). n + 1) (count_is g)
+  known g upto all =
+      sym (stand g upto) ∙ all g (let there = turn.loads.there in let e = guests in omega arith) ∙ ap (λ (n : ℕ). n + 1) (count_is g)
 
   not_all : (AllCommitted new → ⊥) → HaveLeft end → ⊥
   not_all none all =
@@ -123,7 +137,8 @@ module _ {D : Type 0} (state : D → DiskState) (old new : FlusherValue) (log lo
 pub idle_turns_are_events : {D : Type 0} (state : D → DiskState) → IdleTurnsAreEvents state
 idle_turns_are_events state old new log log' w turn none before stand =
     let h = looked state old new log log' w turn before stand in
-    comes_by (λ end. StandsFor state (base new.first_guest) new log' end × (HaveLeft end → ⊥)) w (end state old new log log' w turn before stand)
+    comes_by (λ end. StandsFor state (base new.first_guest) new log' end × (HaveLeft end → ⊥)) w
+    (end state old new log log' w turn before stand)
     (left_looks (turn.last + 1)) w.queue h.schedule h.ends
     (stands state old new log log' w turn before stand, not_all state old new log log' w turn before stand none) refl refl
 

@@ -20,7 +20,8 @@ use Rattle.commit_group.proofs.Worlds.{received, received_by, with_waiting, pops
 use Rattle.commit_group.proofs.WorldSteps.{halts_are_events}
 
 -- the events end in this world
-pub comes_by : (Holds : World → Type 0) (w end : World) (events : List Event) (rest : List Record) → IsSchedule w events → run w events ≡ end
+pub comes_by : (Holds : World → Type 0) (w end : World) (events : List Event) (rest : List Record) → IsSchedule w events →
+    run w events ≡ end
     → Holds end → end.queue ≡ rest → end.recorders ≡ w.recorders → ComesBy events Holds w rest
 comes_by Holds w end events rest schedule ends holds queue recorders = record {
   schedule = schedule;
@@ -31,7 +32,8 @@ comes_by Holds w end events rest schedule ends holds queue recorders = record {
 
 -- ---- what was received, and a halt
 
-received_stands : {D : Type 0} (state : D → DiskState) (b : Option ℕ) (old : FlusherValue) (log : LogValue D) (w : World) (more rest : List Record)
+received_stands : {D : Type 0} (state : D → DiskState) (b : Option ℕ) (old : FlusherValue) (log : LogValue D) (w : World)
+    (more rest : List Record)
     → StandsFor state (base b) old log w → StandsFor state (base b) (after_receive old b more) log (received w more rest)
 unfolding received with_waiting
 received_stands state b old log w more rest h =
@@ -54,7 +56,8 @@ received_stands state b old log w more rest h =
 
 halted_stands : {D : Type 0} (state : D → DiskState) (first : ℕ) (f : FlusherValue) (log : LogValue D) (w : World)
     → StandsFor state first f log w → StandsFor state first (after_halt f) log (after w Halt)
-halted_stands state first f log w h = record { stands = (halts_are_events state Idle first f log w h.stands).1; hand = h.hand; keeps = h.keeps }
+halted_stands state first f log w h =
+    record { stands = (halts_are_events state Idle first f log w h.stands).1; hand = h.hand; keeps = h.keeps }
 
 -- what the log refuses may not be written in the world
 past_limit : {D : Type 0} (state : D → DiskState) (first : ℕ) (f : FlusherValue) (log : LogValue D) (w : World) (count : ℕ)
@@ -62,21 +65,26 @@ past_limit : {D : Type 0} (state : D → DiskState) (first : ℕ) (f : FlusherVa
 unfolding store_text
 past_limit state first f log w count h past can =
     let waiting : w.flusher.waiting ≡ f.waiting = ap (λ (l : List Record). l ++ w.flusher.waiting) (sym h.hand) ∙ h.stands.waiting in
-    let size : length (body_text (take count w.flusher.waiting)) ≡ length (next_body f.waiting count) = ap (λ (l : List Record). length (body_text (take count l))) waiting in
+    let size : length (body_text (take count w.flusher.waiting)) ≡ length (next_body f.waiting count) =
+    ap (λ (l : List Record). length (body_text (take count l))) waiting in
     let place : log.gate ≡ gate_place w = h.keeps.gate in
     let segments = h.keeps.segments in
     let body = can.body in
     let number = can.number in
     let store = can.store in
-    let never : IsPastLimit log (next_body f.waiting count) → ⊥ = elim [ inl long ↦ omega arith | inr (inl all) ↦ omega arith | inr (inr far) ↦ omega arith ] in
+    let never : IsPastLimit log (next_body f.waiting count) → ⊥ =
+    elim [ inl long ↦ omega arith | inr (inl all) ↦ omega arith | inr (inr far) ↦ omega arith ] in
     never past
 
-pub of_same : {D : Type 0} (Holds : FlusherValue → LogValue D → Type 0) (old new : FlusherValue) (log log' : LogValue D) → new ≡ old → log' ≡ log → Holds old log → Holds new log'
-of_same {D = D} Holds old new log log' seat same h = subst (λ (l : LogValue D). Holds new l) (sym same) (subst (λ (f : FlusherValue). Holds f log) (sym seat) h)
+pub of_same : {D : Type 0} (Holds : FlusherValue → LogValue D → Type 0) (old new : FlusherValue) (log log' : LogValue D) → new ≡ old →
+    log' ≡ log → Holds old log → Holds new log'
+of_same {D = D} Holds old new log log' seat same h =
+    subst (λ (l : LogValue D). Holds new l) (sym same) (subst (λ (f : FlusherValue). Holds f log) (sym seat) h)
 
 -- ---- the turns
 
-pub shortages_are_events : {D : Type 0} (honest : D → Type 0) (state : D → DiskState) (faults : D → ℕ) → ShortagesAreEvents honest state faults
+pub shortages_are_events : {D : Type 0} (honest : D → Type 0) (state : D → DiskState) (faults : D → ℕ) →
+    ShortagesAreEvents honest state faults
 unfolding received with_waiting
 shortages_are_events {D = D} honest state faults old new log log' w rest turn before queue =
     let b = new.first_guest in
@@ -94,7 +102,8 @@ limits_are_events {D = D} honest state faults old new log log' w rest turn befor
     let v = after u Halt in
     let count = turn.refused.count in
     let f = after_halt (after_receive old b turn.more) in
-    let stands = halted_stands state (base b) (after_receive old b turn.more) log u (received_stands state b old log w turn.more rest before) in
+    let stands =
+    halted_stands state (base b) (after_receive old b turn.more) log u (received_stands state b old log w turn.more rest before) in
     let never = past_limit state (base b) f log v count stands turn.refused.past in
     let both = of_same (λ g l. StandsFor state (base b) g l v) f new log log' turn.seat turn.refused.same stands in
     comes_by (λ end. StandsFor state (base b) new log' end × (CanWrite end count → ⊥)) w v (pops turn.more rest ++ Halt ∷ []) rest
@@ -102,7 +111,8 @@ limits_are_events {D = D} honest state faults old new log log' w rest turn befor
     (run-append w (pops turn.more rest) (Halt ∷ []) ∙ ap (λ (x : World). after x Halt) (received_by w turn.more rest queue))
     (both, never) refl refl
 
-pub halted_turns_are_no_events : {D : Type 0} (honest : D → Type 0) (state : D → DiskState) (faults : D → ℕ) → HaltedTurnsAreNoEvents honest state faults
+pub halted_turns_are_no_events : {D : Type 0} (honest : D → Type 0) (state : D → DiskState) (faults : D → ℕ) →
+    HaltedTurnsAreNoEvents honest state faults
 halted_turns_are_no_events {D = D} honest state faults stage first old new log log' w refused stands = (
   stands.halted ∙ refused.0,
   of_same (λ f l. StandsAt state stage first f l w) old new log log' refused.1 refused.2 stands,

@@ -18,7 +18,8 @@ use Rattle.commit_group.specs.Steps.{StandsForRecorder, LooksAreEvents, HaltLook
 
 -- ---- a recorder's seat
 
-stands_by : (w : World) (r : RecorderValue) (one : Recorder) → r.guest < w.guests → w.recorders r.guest ≡ one → one.sent ≡ renumbered w.first_guest r.sent
+stands_by : (w : World) (r : RecorderValue) (one : Recorder) → r.guest < w.guests → w.recorders r.guest ≡ one →
+    one.sent ≡ renumbered w.first_guest r.sent
     → one.seen ≡ r.seen → one.knows_halt ≡ r.knows_halt → one.left ≡ r.has_left → StandsForRecorder r w
 stands_by w r one there at sent seen knows_halt left = record {
   there = there;
@@ -35,37 +36,51 @@ flag_is false = refl
 looks_are_events : LooksAreEvents
 looks_are_events r w h =
     let one = looked (w.words r.guest) (w.recorders r.guest) in
-    let seen : one.seen ≡ min (w.words r.guest) (length r.sent) = ap (λ (n : ℕ). min (w.words r.guest) n) (ap length h.sent ∙ length-map r.sent (numbered w.first_guest)) in
-    (h.there, stands_by (after w (Look r.guest)) (after_look r (w.words r.guest)) one h.there (put_same w.recorders r.guest one) h.sent seen h.knows_halt h.left)
+    let seen : one.seen ≡ min (w.words r.guest) (length r.sent) =
+    ap (λ (n : ℕ). min (w.words r.guest) n) (ap length h.sent ∙ length-map r.sent (numbered w.first_guest)) in (
+      h.there,
+      stands_by (after w (Look r.guest)) (after_look r (w.words r.guest)) one h.there (put_same w.recorders r.guest one) h.sent seen
+          h.knows_halt h.left,
+    )
 
 halt_looks_are_events : HaltLooksAreEvents
 halt_looks_are_events r w found h word =
     let one = looked_at_halt (w.words w.guests) (w.recorders r.guest) in
-    let knows : one.knows_halt ≡ found = ap (λ (n : ℕ). n == 1) word ∙ flag_is found in
-    (h.there, stands_by (after w (LookHalt r.guest)) (after_look_halt r found) one h.there (put_same w.recorders r.guest one) h.sent h.seen knows h.left)
+    let knows : one.knows_halt ≡ found = ap (λ (n : ℕ). n == 1) word ∙ flag_is found in (
+      h.there,
+      stands_by (after w (LookHalt r.guest)) (after_look_halt r found) one h.there (put_same w.recorders r.guest one) h.sent h.seen
+          knows h.left,
+    )
 
 leaves_are_events : LeavesAreEvents
 leaves_are_events r w h =
-    let one = gone (w.recorders r.guest) in
-    (h.there, stands_by (after w (Leave r.guest)) (record r { has_left = true }) one h.there (put_same w.recorders r.guest one) h.sent h.seen h.knows_halt refl)
+    let one = gone (w.recorders r.guest) in (
+      h.there,
+      stands_by (after w (Leave r.guest)) (record r { has_left = true }) one h.there (put_same w.recorders r.guest one) h.sent
+          h.seen h.knows_halt refl,
+    )
 
 sends_are_events : SendsAreEvents
 sends_are_events r item rest w h here next room =
     let x = next_record r item in
     let y = numbered w.first_guest x in
     let one = pushed y rest (w.recorders r.guest) in
-    let sent : one.sent ≡ renumbered w.first_guest (r.sent ++ x ∷ []) = ap (λ (l : List Record). l ++ y ∷ []) h.sent ∙ sym (map_push (numbered w.first_guest) r.sent x) in (
+    let sent : one.sent ≡ renumbered w.first_guest (r.sent ++ x ∷ []) =
+    ap (λ (l : List Record). l ++ y ∷ []) h.sent ∙ sym (map_push (numbered w.first_guest) r.sent x) in (
       record { guest = h.there; next = next; room = room; here = h.left ∙ here },
-      stands_by (after w (Push r.guest y rest)) (after_send r x) one h.there (put_same w.recorders r.guest one) sent h.seen h.knows_halt h.left,
+      stands_by (after w (Push r.guest y rest)) (after_send r x) one h.there (put_same w.recorders r.guest one) sent h.seen h.knows_halt
+          h.left,
     )
 
 pub recorder_calls : RecorderCallsAreEvents
-recorder_calls = record { looks = looks_are_events; halt_looks = halt_looks_are_events; leaves = leaves_are_events; sends = sends_are_events }
+recorder_calls =
+    record { looks = looks_are_events; halt_looks = halt_looks_are_events; leaves = leaves_are_events; sends = sends_are_events }
 
 -- ---- the flusher's seat
 
 -- a list and a function that agree at each place below n, changed at one place
-set_again : (f : ℕ → ℕ) (l l' : List ℕ) (n g x : ℕ) → ((k : ℕ) → k < n → f k ≡ slice_index l k) → l' ≡ set l g x → slice_index l' g ≡ x → (k : ℕ) → k < n → put f g x k ≡ slice_index l' k
+set_again : (f : ℕ → ℕ) (l l' : List ℕ) (n g x : ℕ) → ((k : ℕ) → k < n → f k ≡ slice_index l k) → l' ≡ set l g x → slice_index l' g ≡ x →
+    (k : ℕ) → k < n → put f g x k ≡ slice_index l' k
 set_again f l l' n g x same is here k low = dite (ℕ_discrete k g)
     (λ e. ap (put f g x) e ∙ put_same f g x ∙ sym here ∙ ap (λ (j : ℕ). slice_index l' j) (sym e))
     (λ ne. put_other f g x k ne ∙ same k low ∙ sym (get_or-set_other l g k x 0 ne) ∙ ap (λ (m : List ℕ). slice_index m k) (sym is))
@@ -91,8 +106,20 @@ publishes_are_events state stage old new log w g low is here h =
     )
 
 pub halts_are_events : {D : Type 0} (state : D → DiskState) → HaltsAreEvents state
-halts_are_events state stage first f log w h =
-    (tt, record { guests = h.guests; first_is = h.first_is; finished = h.finished; waiting = h.waiting; told = h.told; totals = h.totals; halted = refl; stage_is = h.stage_is; disk = h.disk })
+halts_are_events state stage first f log w h = (
+  tt,
+  record {
+    guests = h.guests;
+    first_is = h.first_is;
+    finished = h.finished;
+    waiting = h.waiting;
+    told = h.told;
+    totals = h.totals;
+    halted = refl;
+    stage_is = h.stage_is;
+    disk = h.disk;
+  },
+)
 
 left_looks_are_events : {D : Type 0} (state : D → DiskState) → LeftLooksAreEvents state
 left_looks_are_events state stage first old new log w g low is here h = (
@@ -111,4 +138,5 @@ left_looks_are_events state stage first old new log w g low is here h = (
 )
 
 pub flusher_calls : {D : Type 0} (state : D → DiskState) → FlusherCallsAreEvents state
-flusher_calls state = record { publishes = publishes_are_events state; halts = halts_are_events state; left_looks = left_looks_are_events state }
+flusher_calls state =
+    record { publishes = publishes_are_events state; halts = halts_are_events state; left_looks = left_looks_are_events state }

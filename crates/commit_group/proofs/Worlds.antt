@@ -47,7 +47,8 @@ pub pops_schedule : (w : World) (more rest : List Record) → w.queue ≡ more +
 pops_schedule w [] rest e = tt
 pops_schedule w (r ∷ more) rest e = (e, pops_schedule (after w (Pop r (more ++ rest))) more rest refl)
 
-pops_run : (w : World) (more rest : List Record) → w.queue ≡ more ++ rest → run w (pops more rest) ≡ with_waiting w (w.flusher.waiting ++ more) rest
+pops_run : (w : World) (more rest : List Record) → w.queue ≡ more ++ rest →
+    run w (pops more rest) ≡ with_waiting w (w.flusher.waiting ++ more) rest
 unfolding with_waiting
 pops_run w [] rest e = λ i. record w { flusher = record w.flusher { waiting = sym (append-nil w.flusher.waiting) i }; queue = e i }
 pops_run w (r ∷ more) rest e =
@@ -69,9 +70,15 @@ commits w k can = record { events = body_events k; schedule = (can, (refl, (refl
 
 -- a call of it failed, and left this disk
 unfoldable pub stopped_world : World → ℕ → DiskState → World
-stopped_world w k disk = record w { flusher = record w.flusher { hand = take k w.flusher.waiting; waiting = drop k w.flusher.waiting; stage = Broken }; disk = disk }
+stopped_world w k disk =
+    record w {
+      flusher = record w.flusher { hand = take k w.flusher.waiting; waiting = drop k w.flusher.waiting; stage = Broken };
+      disk = disk;
+    }
 
-stops : (w : World) (k : ℕ) (disk : DiskState) → CanWrite w k → IsStopped w.disk (commit_calls (gate_place w) (length (stored_bodies w)) (body_text (take k w.flusher.waiting))) disk → Reaches w (stopped_world w k disk)
+stops : (w : World) (k : ℕ) (disk : DiskState) → CanWrite w k →
+    IsStopped w.disk (commit_calls (gate_place w) (length (stored_bodies w)) (body_text (take k w.flusher.waiting))) disk →
+    Reaches w (stopped_world w k disk)
 unfolding stopped_world
 stops w k disk can (inl fails) = record { events = WriteBodyFails k disk ∷ []; schedule = ((can, fails), tt); ends = refl }
 stops w k disk can (inr (inl same)) = record {
@@ -79,7 +86,8 @@ stops w k disk can (inr (inl same)) = record {
   schedule = (can, (refl, tt));
   ends = ap (λ (d : DiskState). stopped_world w k d) (sym same);
 }
-stops w k disk can (inr (inr (inl fails))) = record { events = WriteBody k ∷ Sync1 ∷ OpenGateFails disk ∷ []; schedule = (can, (refl, ((refl, fails), tt))); ends = refl }
+stops w k disk can (inr (inr (inl fails))) =
+    record { events = WriteBody k ∷ Sync1 ∷ OpenGateFails disk ∷ []; schedule = (can, (refl, ((refl, fails), tt))); ends = refl }
 stops w k disk can (inr (inr (inr (inl same)))) = record {
   events = WriteBody k ∷ Sync1 ∷ OpenGate ∷ Sync2Fails ∷ [];
   schedule = (can, (refl, (refl, (refl, tt))));
@@ -101,14 +109,28 @@ record HasPublished (m : ℕ) (w w' : World) : Type 0 where
   told : (g : ℕ) → g < m → w'.flusher.told g ≡ committed_count (w.first_guest + g) w.flusher
 
 publishes : (m : ℕ) (w : World) → m ≤ w.guests → (w' : World) × HasPublished m w w'
-publishes zero w le = (w, record { reaches = reaches_none w w refl; guests = refl; first = refl; bodies = refl; queue = refl; recorders = refl; disk = refl; flusher = refl; told = λ g l. absurd (omega arith) })
+publishes zero w le = (
+  w,
+  record {
+    reaches = reaches_none w w refl;
+    guests = refl;
+    first = refl;
+    bodies = refl;
+    queue = refl;
+    recorders = refl;
+    disk = refl;
+    flusher = refl;
+    told = λ g l. absurd (omega arith);
+  },
+)
 publishes (suc m) w le =
     let before = publishes m w (omega arith) in
     let u = before.0 in
     let h = before.1 in
     let next = after u (Publish m) in
     let low : m < u.guests = (let e = h.guests in omega arith) in
-    let count : committed_count (u.first_guest + m) u.flusher ≡ committed_count (w.first_guest + m) w.flusher = λ i. length (of_guest (h.first i + m) (joined (h.flusher i).finished)) in (
+    let count : committed_count (u.first_guest + m) u.flusher ≡ committed_count (w.first_guest + m) w.flusher =
+    λ i. length (of_guest (h.first i + m) (joined (h.flusher i).finished)) in (
       next,
       record {
         reaches = reaches_both w u next h.reaches (reaches_one u (Publish m) low);
@@ -120,18 +142,24 @@ publishes (suc m) w le =
         disk = h.disk;
         flusher = λ i. record (h.flusher i) { told = next.flusher.told };
         told = λ g l. dite (ℕ_discrete g m)
-            (λ e. ap next.flusher.told e ∙ put_same u.flusher.told m (committed_count (u.first_guest + m) u.flusher) ∙ count ∙ ap (λ (n : ℕ). committed_count (w.first_guest + n) w.flusher) (sym e))
+            (λ e. ap next.flusher.told e ∙ put_same u.flusher.told m (committed_count (u.first_guest + m) u.flusher) ∙ count
+            ∙ ap (λ (n : ℕ). committed_count (w.first_guest + n) w.flusher) (sym e))
             (λ ne. put_other u.flusher.told m (committed_count (u.first_guest + m) u.flusher) g ne ∙ h.told g (omega arith));
       },
     )
 
 -- ---- what the commit leaves
 
-flusher_after : (u : World) (k : ℕ) → (committed_world u k).flusher ≡ record u.flusher { finished = u.flusher.finished ++ take k u.flusher.waiting ∷ []; hand = []; waiting = drop k u.flusher.waiting; stage = Idle }
+flusher_after : (u : World) (k : ℕ) →
+    (committed_world u k).flusher
+    ≡ record u.flusher
+    { finished = u.flusher.finished ++ take k u.flusher.waiting ∷ []; hand = []; waiting = drop k u.flusher.waiting; stage = Idle }
 unfolding committed_world body_events
 flusher_after u k = refl
 
-disk_after : (u : World) (k : ℕ) → (committed_world u k).disk ≡ after_disk_calls u.disk (commit_calls (gate_place u) (length (stored_bodies u)) (body_text (take k u.flusher.waiting)))
+disk_after : (u : World) (k : ℕ) →
+    (committed_world u k).disk
+    ≡ after_disk_calls u.disk (commit_calls (gate_place u) (length (stored_bodies u)) (body_text (take k u.flusher.waiting)))
 unfolding committed_world body_events
 disk_after u k = refl
 
@@ -146,8 +174,11 @@ kept_by : (u : World) (k : ℕ) → KeptBy u (committed_world u k)
 unfolding committed_world body_events
 kept_by u k = record { guests = refl; first = refl; bodies = refl; queue = refl; recorders = refl }
 
-one_body_more : (bodies : List (List ℕ)) (finished : List (List Record)) (batch : List Record) → bodies ++ map body_text (finished ++ batch ∷ []) ≡ (bodies ++ map body_text finished) ++ body_text batch ∷ []
-one_body_more bodies finished batch = ap (λ (l : List (List ℕ)). bodies ++ l) (map_push body_text finished batch) ∙ sym (append_assoc bodies (map body_text finished) (body_text batch ∷ []))
+one_body_more : (bodies : List (List ℕ)) (finished : List (List Record)) (batch : List Record) →
+    bodies ++ map body_text (finished ++ batch ∷ []) ≡ (bodies ++ map body_text finished) ++ body_text batch ∷ []
+one_body_more bodies finished batch =
+    ap (λ (l : List (List ℕ)). bodies ++ l) (map_push body_text finished batch)
+    ∙ sym (append_assoc bodies (map body_text finished) (body_text batch ∷ []))
 
 -- ---- what a turn receives
 
@@ -159,23 +190,28 @@ unfolding received
 received_by w more rest queue = pops_run w more rest queue
 
 receives : (w : World) (more rest : List Record) → w.queue ≡ more ++ rest → Reaches w (received w more rest)
-receives w more rest queue = record { events = pops more rest; schedule = pops_schedule w more rest queue; ends = received_by w more rest queue }
+receives w more rest queue =
+    record { events = pops more rest; schedule = pops_schedule w more rest queue; ends = received_by w more rest queue }
 
 -- it stands in the world as before
-module _ {D : Type 0} (state : D → DiskState) (first : ℕ) (old : FlusherValue) (log : LogValue D) (w : World) (more rest : List Record) (before : StandsFor state first old log w) where
+module _ {D : Type 0} (state : D → DiskState) (first : ℕ) (old : FlusherValue) (log : LogValue D) (w : World) (more rest : List Record)
+    (before : StandsFor state first old log w) where
   received_waiting : (received w more rest).flusher.waiting ≡ old.waiting ++ more
   unfolding received with_waiting
-  received_waiting = ap (λ (l : List Record). l ++ more) (ap (λ (l : List Record). l ++ w.flusher.waiting) (sym before.hand) ∙ before.stands.waiting)
+  received_waiting =
+      ap (λ (l : List Record). l ++ more) (ap (λ (l : List Record). l ++ w.flusher.waiting) (sym before.hand) ∙ before.stands.waiting)
 
   received_place : log.gate ≡ gate_place (received w more rest)
   unfolding received with_waiting store_text
   received_place = before.keeps.gate
 
-  received_can : (count : ℕ) → IsBatch (old.waiting ++ more) count → IsWithinLimits log (next_body (old.waiting ++ more) count) → length (old.waiting ++ more) ≤ BATCH_ITEMS → CanWrite (received w more rest) count
+  received_can : (count : ℕ) → IsBatch (old.waiting ++ more) count → IsWithinLimits log (next_body (old.waiting ++ more) count) →
+      length (old.waiting ++ more) ≤ BATCH_ITEMS → CanWrite (received w more rest) count
   unfolding received with_waiting
   received_can count batch within few =
       let u = received w more rest in
-      let text : next_body (old.waiting ++ more) count ≡ body_text (take count u.flusher.waiting) = ap (λ (l : List Record). body_text (take count l)) (sym received_waiting) in
+      let text : next_body (old.waiting ++ more) count ≡ body_text (take count u.flusher.waiting) =
+      ap (λ (l : List Record). body_text (take count l)) (sym received_waiting) in
       let size : length (next_body (old.waiting ++ more) count) ≡ length (body_text (take count u.flusher.waiting)) = ap length text in
       let long : length u.flusher.waiting ≡ length (old.waiting ++ more) = ap length received_waiting in
       let p = received_place in
@@ -199,15 +235,20 @@ module _ {D : Type 0} (state : D → DiskState) (first : ℕ) (old : FlusherValu
   received_disk = before.stands.disk
 
   -- and the calls of a commit are those of the log
-  received_calls : (count : ℕ) → commit_calls (gate_place (received w more rest)) (length (stored_bodies (received w more rest))) (body_text (take count (received w more rest).flusher.waiting))
+  received_calls : (count : ℕ) →
+      commit_calls (gate_place (received w more rest)) (length (stored_bodies (received w more rest)))
+      (body_text (take count (received w more rest).flusher.waiting))
       ≡ commit_calls log.gate log.segments (next_body (old.waiting ++ more) count)
   unfolding received with_waiting
-  received_calls count = λ i. commit_calls (sym received_place i) (sym before.keeps.segments i) (body_text (take count (received_waiting i)))
+  received_calls count =
+      λ i. commit_calls (sym received_place i) (sym before.keeps.segments i) (body_text (take count (received_waiting i)))
 
 -- ---- a turn
 
-module _ {D : Type 0} (honest : D → Type 0) (state : D → DiskState) (faults : D → ℕ) (old new : FlusherValue) (log log' : LogValue D) (k : ℕ) (w : World) (rest : List Record)
-    (turn : TurnCommits honest state faults old new log log' k) (is_honest : honest log.disk) (before : StandsFor state (base new.first_guest) old log w) (queue : w.queue ≡ turn.more ++ rest) where
+module _ {D : Type 0} (honest : D → Type 0) (state : D → DiskState) (faults : D → ℕ) (old new : FlusherValue) (log log' : LogValue D)
+    (k : ℕ) (w : World) (rest : List Record)
+    (turn : TurnCommits honest state faults old new log log' k) (is_honest : honest log.disk)
+    (before : StandsFor state (base new.first_guest) old log w) (queue : w.queue ≡ turn.more ++ rest) where
   stands : StandsAt state Idle (base new.first_guest) old log w
   stands = before.stands
 
@@ -221,7 +262,8 @@ module _ {D : Type 0} (honest : D → Type 0) (state : D → DiskState) (faults 
 
   can : CanWrite u k
   unfolding u
-  can = received_can state (base new.first_guest) old log w turn.more rest before k turn.flushed.commits.batch turn.flushed.commits.committed.within_limits turn.few
+  can = received_can state (base new.first_guest) old log w turn.more rest before k turn.flushed.commits.batch
+      turn.flushed.commits.committed.within_limits turn.few
 
   reaches_u : Reaches w u
   unfolding u
@@ -248,7 +290,15 @@ module _ {D : Type 0} (honest : D → Type 0) (state : D → DiskState) (faults 
 
   same_x : SameAs x
   unfolding x
-  same_x = let k' = kept_by u k in record { guests = k'.guests ∙ same_u.guests; first = k'.first ∙ same_u.first; bodies = k'.bodies ∙ same_u.bodies; recorders = k'.recorders ∙ same_u.recorders; left = k'.queue ∙ same_u.left }
+  same_x = let k' =
+      kept_by u k in
+      record {
+        guests = k'.guests ∙ same_u.guests;
+        first = k'.first ∙ same_u.first;
+        bodies = k'.bodies ∙ same_u.bodies;
+        recorders = k'.recorders ∙ same_u.recorders;
+        left = k'.queue ∙ same_u.left;
+      }
 
   batch_is : take k u.flusher.waiting ≡ take k (old.waiting ++ turn.more)
   batch_is = ap (take k) waiting_is
@@ -269,7 +319,8 @@ module _ {D : Type 0} (honest : D → Type 0) (state : D → DiskState) (faults 
   unfolding u received with_waiting
   u_disk = refl
 
-  u_calls : commit_calls (gate_place u) (length (stored_bodies u)) (body_text (take k u.flusher.waiting)) ≡ commit_calls log.gate log.segments (next_body (old.waiting ++ turn.more) k)
+  u_calls : commit_calls (gate_place u) (length (stored_bodies u)) (body_text (take k u.flusher.waiting))
+      ≡ commit_calls log.gate log.segments (next_body (old.waiting ++ turn.more) k)
   unfolding u
   u_calls = received_calls state (base new.first_guest) old log w turn.more rest before k
 
@@ -277,7 +328,9 @@ module _ {D : Type 0} (honest : D → Type 0) (state : D → DiskState) (faults 
   unfolding u received with_waiting
   u_stored = refl
 
-  x_flusher : x.flusher ≡ record u.flusher { finished = u.flusher.finished ++ take k u.flusher.waiting ∷ []; hand = []; waiting = drop k u.flusher.waiting; stage = Idle }
+  x_flusher : x.flusher
+      ≡ record u.flusher
+      { finished = u.flusher.finished ++ take k u.flusher.waiting ∷ []; hand = []; waiting = drop k u.flusher.waiting; stage = Idle }
   unfolding x
   x_flusher = flusher_after u k
 
@@ -301,7 +354,9 @@ module _ {D : Type 0} (honest : D → Type 0) (state : D → DiskState) (faults 
       ∙ sym (turn.flushed.commits.committed.calls is_honest)
 
   x_keeps : Keeps state log' (stored_bodies w ++ next_body (old.waiting ++ turn.more) k ∷ [])
-  x_keeps = let h = turn.flushed.commits.committed.kept (stored_bodies w) is_honest before.keeps in record { settled = h.settled; gate = h.gate; segments = h.segments }
+  x_keeps = let h =
+      turn.flushed.commits.committed.kept (stored_bodies w) is_honest before.keeps in
+      record { settled = h.settled; gate = h.gate; segments = h.segments }
 
   -- and then all counts are published
   told_all : (y : World) → HasPublished w.guests x y → ComesTo (StandsFor state (base new.first_guest) new log') w rest
@@ -318,15 +373,18 @@ module _ {D : Type 0} (honest : D → Type 0) (state : D → DiskState) (faults 
             first_is = h.first ∙ same_x.first ∙ stands.first_is;
             finished = ap (λ (f : Flusher). joined f.finished) h.flusher ∙ x_joined;
             waiting = ap (λ (l : List Record). l ++ y.flusher.waiting) hand
-                ∙ ap (λ (f : Flusher). f.waiting) h.flusher ∙ ap (λ (f : Flusher). f.waiting) x_flusher ∙ ap (drop k) waiting_is ∙ sym (ap (λ (f : FlusherValue). f.waiting) s);
+                ∙ ap (λ (f : Flusher). f.waiting) h.flusher ∙ ap (λ (f : Flusher). f.waiting) x_flusher ∙ ap (drop k) waiting_is
+                ∙ sym (ap (λ (f : FlusherValue). f.waiting) s);
             told = λ g low.
                 let low' : g < w.guests = (let e = h.guests ∙ same_x.guests in omega arith) in
                 let low'' : g < new.group.guests = (let e = guests in omega arith) in
                 h.told g low' ∙ (λ i. length (of_guest ((same_x.first ∙ stands.first_is) i + g) (x_joined i))) ∙ sym (turn.told g low'');
             totals = λ g low.
                 let low' : g < w.guests = (let e = h.guests ∙ same_x.guests in omega arith) in
-                ap (λ (f : Flusher). f.totals g) h.flusher ∙ ap (λ (f : Flusher). f.totals g) x_flusher ∙ u_totals g ∙ stands.totals g low' ∙ ap (λ (f : FlusherValue). slice_index f.totals g) (sym s);
-            halted = ap (λ (f : Flusher). f.halted) h.flusher ∙ ap (λ (f : Flusher). f.halted) x_flusher ∙ u_halted ∙ stands.halted ∙ ap (λ (f : FlusherValue). f.halted) (sym s);
+                ap (λ (f : Flusher). f.totals g) h.flusher ∙ ap (λ (f : Flusher). f.totals g) x_flusher ∙ u_totals g ∙ stands.totals g low'
+                ∙ ap (λ (f : FlusherValue). slice_index f.totals g) (sym s);
+            halted = ap (λ (f : Flusher). f.halted) h.flusher ∙ ap (λ (f : Flusher). f.halted) x_flusher ∙ u_halted ∙ stands.halted
+                ∙ ap (λ (f : FlusherValue). f.halted) (sym s);
             stage_is = ap (λ (f : Flusher). f.stage) h.flusher ∙ ap (λ (f : Flusher). f.stage) x_flusher;
             disk = h.disk ∙ x_disk;
           };
@@ -341,12 +399,15 @@ module _ {D : Type 0} (honest : D → Type 0) (state : D → DiskState) (faults 
   is_events = let p = publishes w.guests x (let e = same_x.guests in omega arith) in told_all p.0 p.1
 
 pub turns_are_events : {D : Type 0} (honest : D → Type 0) (state : D → DiskState) (faults : D → ℕ) → TurnsAreEvents honest state faults
-turns_are_events honest state faults old new log log' k w rest turn is_honest stands queue = is_events honest state faults old new log log' k w rest turn is_honest stands queue
+turns_are_events honest state faults old new log log' k w rest turn is_honest stands queue =
+    is_events honest state faults old new log log' k w rest turn is_honest stands queue
 
 -- ---- a turn whose commit was stopped
 
-module _ {D : Type 0} (honest : D → Type 0) (state : D → DiskState) (faults : D → ℕ) (old new : FlusherValue) (log log' : LogValue D) (w : World) (rest : List Record)
-    (turn : TurnRefused honest state faults old new log log' DeviceFailed) (is_honest : honest log.disk) (before : StandsFor state (base new.first_guest) old log w) (queue : w.queue ≡ turn.more ++ rest) where
+module _ {D : Type 0} (honest : D → Type 0) (state : D → DiskState) (faults : D → ℕ) (old new : FlusherValue) (log log' : LogValue D)
+    (w : World) (rest : List Record)
+    (turn : TurnRefused honest state faults old new log log' DeviceFailed) (is_honest : honest log.disk)
+    (before : StandsFor state (base new.first_guest) old log w) (queue : w.queue ≡ turn.more ++ rest) where
   abbrev count : ℕ
   count = turn.refused.count
 
@@ -362,13 +423,17 @@ module _ {D : Type 0} (honest : D → Type 0) (state : D → DiskState) (faults 
   failed_reached =
       let v = received w turn.more rest in
       let stands = before.stands in
-      let can = received_can state (base new.first_guest) old log w turn.more rest before count turn.refused.batch turn.refused.stopped.within_limits turn.few in
+      let can = received_can state (base new.first_guest) old log w turn.more rest before count turn.refused.batch
+      turn.refused.stopped.within_limits turn.few in
       let calls = received_calls state (base new.first_guest) old log w turn.more rest before count in
       let disk : v.disk ≡ state log.disk = received_disk state (base new.first_guest) old log w turn.more rest before in
-      let stopped : IsStopped v.disk (commit_calls (gate_place v) (length (stored_bodies v)) (body_text (take count v.flusher.waiting))) (state log'.disk) =
+      let stopped : IsStopped v.disk (commit_calls (gate_place v) (length (stored_bodies v)) (body_text (take count v.flusher.waiting)))
+      (state log'.disk) =
       subst (λ (c : List DiskCall). IsStopped v.disk c (state log'.disk)) (sym calls)
-      (subst (λ (d : DiskState). IsStopped d (commit_calls log.gate log.segments (next_body (old.waiting ++ turn.more) count)) (state log'.disk)) (sym disk) (turn.refused.stopped.calls is_honest)) in
-      reaches_both w v (stopped_world v count (state log'.disk)) (receives w turn.more rest queue) (stops v count (state log'.disk) can stopped)
+      (subst (λ (d : DiskState). IsStopped d (commit_calls log.gate log.segments (next_body (old.waiting ++ turn.more) count))
+      (state log'.disk)) (sym disk) (turn.refused.stopped.calls is_honest)) in
+      reaches_both w v (stopped_world v count (state log'.disk)) (receives w turn.more rest queue)
+      (stops v count (state log'.disk) can stopped)
 
   halted_reached : Reaches w (after failed Halt)
   halted_reached = reaches_both w failed (after failed Halt) failed_reached (reaches_one failed Halt tt)
@@ -386,7 +451,8 @@ module _ {D : Type 0} (honest : D → Type 0) (state : D → DiskState) (faults 
           guests = stands.guests ∙ ap (λ (f : FlusherValue). f.group.guests) (sym s);
           first_is = stands.first_is;
           finished = stands.finished ∙ ap (λ (f : FlusherValue). f.committed) (sym s);
-          waiting = take-append-drop count all ∙ received_waiting state (base new.first_guest) old log w turn.more rest before ∙ ap (λ (f : FlusherValue). f.waiting) (sym s);
+          waiting = take-append-drop count all ∙ received_waiting state (base new.first_guest) old log w turn.more rest before
+              ∙ ap (λ (f : FlusherValue). f.waiting) (sym s);
           told = λ g low. stands.told g low ∙ ap (λ (f : FlusherValue). slice_index f.told g) (sym s);
           totals = λ g low. stands.totals g low ∙ ap (λ (f : FlusherValue). slice_index f.totals g) (sym s);
           halted = ap (λ (f : FlusherValue). f.halted) (sym s);
@@ -397,5 +463,7 @@ module _ {D : Type 0} (honest : D → Type 0) (state : D → DiskState) (faults 
         recorders = refl;
       }
 
-pub failures_are_events : {D : Type 0} (honest : D → Type 0) (state : D → DiskState) (faults : D → ℕ) → FailuresAreEvents honest state faults
-failures_are_events honest state faults old new log log' w rest turn is_honest stands queue = failure_is_events honest state faults old new log log' w rest turn is_honest stands queue
+pub failures_are_events : {D : Type 0} (honest : D → Type 0) (state : D → DiskState) (faults : D → ℕ) →
+    FailuresAreEvents honest state faults
+failures_are_events honest state faults old new log log' w rest turn is_honest stands queue =
+    failure_is_events honest state faults old new log log' w rest turn is_honest stands queue

@@ -26,9 +26,11 @@ use Rattle.core_file.proofs.RunLaws.{runs_are_found}
 
 -- ---- a part between others
 
-between : (xs ys zs file : List ℕ) (offset count : ℕ) → file ≡ xs ++ (ys ++ zs) → length xs ≡ offset → length ys ≡ count → take count (drop offset file) ≡ ys
+between : (xs ys zs file : List ℕ) (offset count : ℕ) → file ≡ xs ++ (ys ++ zs) → length xs ≡ offset → length ys ≡ count →
+    take count (drop offset file) ≡ ys
 between xs ys zs file offset count is place size =
-    let behind : drop offset file ≡ ys ++ zs = ap (drop offset) is ∙ ap (λ (n : ℕ). drop n (xs ++ (ys ++ zs))) (sym place) ∙ drop-append_seam xs (ys ++ zs) in
+    let behind : drop offset file ≡ ys ++ zs =
+    ap (drop offset) is ∙ ap (λ (n : ℕ). drop n (xs ++ (ys ++ zs))) (sym place) ∙ drop-append_seam xs (ys ++ zs) in
     ap (take count) behind ∙ ap (λ (n : ℕ). take n (ys ++ zs)) (sym size) ∙ take-append_seam ys zs
 
 -- ---- how long the parts are
@@ -50,7 +52,14 @@ unfolding prstatus
 prstatus_length tid t full =
     let registers = flat_map number (drop 1 t.regs.registers) in
     let front : List ℕ = zeros 24 ++ number tid ++ zeros 44 ++ number t.regs.pc in
-    omega (arith, length-append (front ++ registers) (zeros 4), length-append front registers, numbers_length (drop 1 t.regs.registers), length-drop 1 t.regs.registers, full)
+    omega (
+      arith,
+      length-append (front ++ registers) (zeros 4),
+      length-append front registers,
+      numbers_length (drop 1 t.regs.registers),
+      length-drop 1 t.regs.registers,
+      full,
+    )
 
 note_length : (tid : ℕ) (t : Thread) → length t.regs.registers ≡ 32 → length (note tid t) ≡ 224
 unfolding note
@@ -85,9 +94,15 @@ notes_length first es full =
 loads_length : (at : ℕ) (runs : List Run) → length (flat_map (λ r. header_text (load_header at r)) runs) ≡ 32 * length runs
 loads_length at [] = refl
 loads_length at (r ∷ rs) =
-    omega (arith, length-append (header_text (load_header at r)) (flat_map (λ s. header_text (load_header at s)) rs), header_length (load_header at r), loads_length at rs)
+    omega (
+      arith,
+      length-append (header_text (load_header at r)) (flat_map (λ s. header_text (load_header at s)) rs),
+      header_length (load_header at r),
+      loads_length at rs,
+    )
 
-headers_length : (threads : ℕ) (runs : List Run) → length (elf_header (1 + length runs) ++ headers_text (1 + length runs) threads runs) ≡ notes_offset (1 + length runs)
+headers_length : (threads : ℕ) (runs : List Run) →
+    length (elf_header (1 + length runs) ++ headers_text (1 + length runs) threads runs) ≡ notes_offset (1 + length runs)
 headers_length threads runs =
     let count : ℕ = 1 + length runs in
     let loads : List ℕ = flat_map (λ (r : Run). header_text (load_header (pages_offset count threads) r)) runs in
@@ -143,7 +158,8 @@ pages_length m (r ∷ rs) =
     )
 
 -- each run's pages stand behind those of the runs below it, where these stand behind the front
-each_load : (m : Memory) (front rest file : List ℕ) (at : ℕ) (rs : List Run) → length front ≡ at → Fall rs → file ≡ front ++ (pages_of m rs ++ rest) →
+each_load : (m : Memory) (front rest file : List ℕ) (at : ℕ) (rs : List Run) → length front ≡ at → Fall rs →
+    file ≡ front ++ (pages_of m rs ++ rest) →
     AllByRecursion (λ r. take (r.filled * page_bytes) (drop (at + r.before * page_bytes) file) ≡ run_bytes m r) rs
 each_load m front rest file at [] long fall is = tt
 each_load m front rest file at (r ∷ rs) long fall is =
@@ -152,7 +168,8 @@ each_load m front rest file at (r ∷ rs) long fall is =
     let first : file ≡ (front ++ below) ++ (run_bytes m r ++ rest) = all ∙ simp append_assoc in
     let others : file ≡ front ++ (below ++ (run_bytes m r ++ rest)) = all ∙ simp append_assoc in (
       between (front ++ below) (run_bytes m r) rest file (at + r.before * page_bytes) (r.filled * page_bytes) first
-          (omega (arith, length-append front below, pages_length m rs, fall.1, long)) (length_bytes_at m (r.first * page_bytes) (r.filled * page_bytes)),
+          (omega (arith, length-append front below, pages_length m rs, fall.1, long))
+          (length_bytes_at m (r.first * page_bytes) (r.filled * page_bytes)),
       each_load m front (run_bytes m r ++ rest) file at rs long fall.2 others,
     )
 
@@ -177,20 +194,27 @@ above x y h = by (nat_cmp x y) (ranks x y) h where
 none_behind : (q x : ℕ) (es : List (ℕ × Thread)) → q ≡ x → T (below_all nat_cmp x es) → find nat_cmp q es ≡ None
 none_behind q x [] same h = refl
 none_behind q x (e ∷ es) same h = by (nat_cmp q e.0) (ranks q e.0) (none_behind q x es same (right _ _ h)) where
-  by : (o : Ordering) → MatchOrdering o (q < e.0) (q ≡ e.0) (e.0 < q) → find nat_cmp q es ≡ None → cond (is_eq o) (Some e.1) (find nat_cmp q es) ≡ None
+  by : (o : Ordering) → MatchOrdering o (q < e.0) (q ≡ e.0) (e.0 < q) → find nat_cmp q es ≡ None →
+      cond (is_eq o) (Some e.1) (find nat_cmp q es) ≡ None
   by Less r none = none
   by Equal r none = let low = above x e.0 (left _ _ h) in absurd (omega (arith, r, same, low))
   by Greater r none = none
 
-each_entry : (P : Thread → Type 0) (es : List (ℕ × Thread)) → T (is_sorted nat_cmp es) → ((q : ℕ) → IfSome (find nat_cmp q es) P) → AllByRecursion (λ e. P e.1) es
+each_entry : (P : Thread → Type 0) (es : List (ℕ × Thread)) → T (is_sorted nat_cmp es) → ((q : ℕ) → IfSome (find nat_cmp q es) P) →
+    AllByRecursion (λ e. P e.1) es
 each_entry P [] sorted h = tt
-each_entry P (e ∷ es) sorted h = (here (nat_cmp e.0 e.0) (ranks e.0 e.0) (h e.0), each_entry P es (right _ _ sorted) (λ q. later q (nat_cmp q e.0) (ranks q e.0) (h q))) where
-  here : (o : Ordering) → MatchOrdering o (e.0 < e.0) (e.0 ≡ e.0) (e.0 < e.0) → IfSome (cond (is_eq o) (Some e.1) (find nat_cmp e.0 es)) P → P e.1
+each_entry P (e ∷ es) sorted h = (
+  here (nat_cmp e.0 e.0) (ranks e.0 e.0) (h e.0),
+  each_entry P es (right _ _ sorted) (λ q. later q (nat_cmp q e.0) (ranks q e.0) (h q)),
+) where
+  here : (o : Ordering) → MatchOrdering o (e.0 < e.0) (e.0 ≡ e.0) (e.0 < e.0) → IfSome (cond (is_eq o) (Some e.1) (find nat_cmp e.0 es)) P →
+      P e.1
   here Less r p = absurd (omega (arith, r))
   here Equal r p = p
   here Greater r p = absurd (omega (arith, r))
 
-  later : (q : ℕ) (o : Ordering) → MatchOrdering o (q < e.0) (q ≡ e.0) (e.0 < q) → IfSome (cond (is_eq o) (Some e.1) (find nat_cmp q es)) P → IfSome (find nat_cmp q es) P
+  later : (q : ℕ) (o : Ordering) → MatchOrdering o (q < e.0) (q ≡ e.0) (e.0 < q) →
+      IfSome (cond (is_eq o) (Some e.1) (find nat_cmp q es)) P → IfSome (find nat_cmp q es) P
   later q Less r p = p
   later q Equal r p = subst (λ (o : Option Thread). IfSome o P) (sym (none_behind q e.0 es r (left _ _ sorted))) tt
   later q Greater r p = p
@@ -202,7 +226,8 @@ full_thread (Some t) h = h.regs.registers.0
 full_threads : (s : State) → IsState s → AllByRecursion IsFull (entries s.threads)
 full_threads s state =
     each_entry (λ t. length t.regs.registers ≡ 32) (entries s.threads) (entries_sorted s.threads)
-    (λ q. full_thread (find nat_cmp q (entries s.threads)) (subst (λ (o : Option Thread). IfSome o IsThread) (get-entries s.threads q) (state.rules.threads.threads q)))
+    (λ q. full_thread (find nat_cmp q (entries s.threads))
+    (subst (λ (o : Option Thread). IfSome o IsThread) (get-entries s.threads q) (state.rules.threads.threads q)))
 
 -- ---- the headers
 
@@ -218,7 +243,8 @@ headers_are_true first s state =
     let front : List ℕ = elf_header count ++ headers_text count (length es) runs in
     let padding : List ℕ = zeros (pages_offset count (length es) - notes_end count (length es)) in
     let joined : file ≡ front ++ (notes first es ++ (padding ++ pages)) = simp append_assoc in
-    let whole : file ≡ head first es runs ++ (pages ++ []) = ap (λ (bs : List ℕ). head first es runs ++ bs) (sym (append-nil pages)) in record {
+    let whole : file ≡ head first es runs ++ (pages ++ []) = ap (λ (bs : List ℕ). head first es runs ++ bs) (sym (append-nil pages)) in
+    record {
       notes = between front (notes first es) (padding ++ pages) file (notes_offset count) (224 * length es) joined
           (headers_length (length es) runs) (notes_length first es full);
       loads = each_load s.memory (head first es runs) [] file (pages_offset count (length es)) (runs_below (2 ^ 20) s.memory)

@@ -20,7 +20,8 @@ bytes_more m (suc x) y a =
     let count : suc x + y ≡ suc (x + y) = omega arith in
     let place : a + 1 + x ≡ a + suc x = omega arith in
     ap (bytes_at m a) count
-    ∙ ap (λ (bs : List ℕ). byte_or_zero (m a) ∷ bs) (bytes_more m x y (a + 1) ∙ ap (λ (b : ℕ). bytes_at m (a + 1) x ++ bytes_at m b y) place)
+    ∙ ap (λ (bs : List ℕ). byte_or_zero (m a) ∷ bs)
+    (bytes_more m x y (a + 1) ∙ ap (λ (b : ℕ). bytes_at m (a + 1) x ++ bytes_at m b y) place)
 
 -- the bytes of a page as a reader sees it
 pub page_is : (m : Memory) (n : ℕ) (v : PageView) → length v.bytes.now ≡ page_bytes → IsPageOf m n (Some v) →

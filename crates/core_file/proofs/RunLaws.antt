@@ -64,7 +64,8 @@ higher m n r other f = record {
       λ has. other here (ap (flags_at m) here ∙ has)
 
 -- page n is not mapped
-higher_all : (m : Memory) (n : ℕ) (rs : List Run) → flags_at m n ≡ None → AllByRecursion (IsRunBelow m n) rs → AllByRecursion (IsRunBelow m (suc n)) rs
+higher_all : (m : Memory) (n : ℕ) (rs : List Run) → flags_at m n ≡ None → AllByRecursion (IsRunBelow m n) rs →
+    AllByRecursion (IsRunBelow m (suc n)) rs
 higher_all m n [] none h = tt
 higher_all m n (r ∷ rs) none h =
     (higher m n r (λ here has. none_there (flags_at m n) r.flags none has) h.0, higher_all m n rs none h.1)
@@ -99,7 +100,8 @@ begun_below m n flags before false is has low = record {
   blank = λ k from to. absurd (omega (arith, from, to));
 }
 
-longer_below : (m : Memory) (n flags : ℕ) (blank : Bool) (r : Run) → is_blank m n ≡ blank → flags_at m n ≡ Some flags → continues n flags r ≡ true →
+longer_below : (m : Memory) (n flags : ℕ) (blank : Bool) (r : Run) → is_blank m n ≡ blank → flags_at m n ≡ Some flags →
+    continues n flags r ≡ true →
     IsRunBelow m n r → IsRunBelow m (suc n) (longer blank r)
 longer_below m n flags true r is has next f =
     let place = eqb-true n (r.first + r.pages) (front (n == r.first + r.pages) (flags == r.flags) next) in record {
@@ -113,7 +115,8 @@ longer_below m n flags true r is has next f =
       blank = λ k from to. by k (nat_lt k r.pages) refl from to place;
     }
   where
-    by : (k : ℕ) (b : Bool) → nat_lt k r.pages ≡ b → r.filled ≤ k → k < r.pages + 1 → n ≡ r.first + r.pages → is_blank m (r.first + k) ≡ true
+    by : (k : ℕ) (b : Bool) → nat_lt k r.pages ≡ b → r.filled ≤ k → k < r.pages + 1 → n ≡ r.first + r.pages →
+        is_blank m (r.first + k) ≡ true
     by k true e from to place = f.blank k from (ltb-true k r.pages e)
     by k false e from to place =
         let not_low = ltb-false k r.pages e in
@@ -159,7 +162,8 @@ first_page m n flags blank is has h = record {
   fall = (tt, refl, tt);
 }
 
-next_page : (m : Memory) (n flags : ℕ) (blank : Bool) (r : Run) (rs : List Run) → is_blank m n ≡ blank → flags_at m n ≡ Some flags → continues n flags r ≡ true →
+next_page : (m : Memory) (n flags : ℕ) (blank : Bool) (r : Run) (rs : List Run) → is_blank m n ≡ blank → flags_at m n ≡ Some flags →
+    continues n flags r ≡ true →
     AreRunsBelow m n (r ∷ rs) → AreRunsBelow m (suc n) (longer blank r ∷ rs)
 next_page m n flags blank r rs is has next h = record {
   each = (
@@ -177,13 +181,16 @@ next_page m n flags blank r rs is has next h = record {
   wider p (inl w) = inl (w.0, omega (arith, w.1))
   wider p (inr w) = inr w
 
-new_page : (m : Memory) (n flags : ℕ) (blank : Bool) (r : Run) (rs : List Run) → is_blank m n ≡ blank → flags_at m n ≡ Some flags → continues n flags r ≡ false →
+new_page : (m : Memory) (n flags : ℕ) (blank : Bool) (r : Run) (rs : List Run) → is_blank m n ≡ blank → flags_at m n ≡ Some flags →
+    continues n flags r ≡ false →
     AreRunsBelow m n (r ∷ rs) → AreRunsBelow m (suc n) (begun n flags blank (r.before + r.filled) ∷ r ∷ rs)
 new_page m n flags blank r rs is has other h = record {
   each = (
-    begun_below m n flags (r.before + r.filled) blank is has (λ p e has'. apart p e has' (h.every p (omega (arith, e)) (mapped_where m p flags has'))),
+    begun_below m n flags (r.before + r.filled) blank is has
+        (λ p e has'. apart p e has' (h.every p (omega (arith, e)) (mapped_where m p flags has'))),
     (
-      higher m n r (λ here has'. false≢true (sym other ∙ goes_on n flags r here (same_flags (flags_at m n) flags r.flags has has'))) h.each.0,
+      higher m n r (λ here has'. false≢true (sym other ∙ goes_on n flags r here (same_flags (flags_at m n) flags r.flags has has')))
+          h.each.0,
       higher_rest m n r.first rs (omega (arith, h.each.0.some, h.each.0.high)) h.fall.0 h.each.1,
     ),
   );
@@ -196,12 +203,14 @@ new_page m n flags blank r rs is has other h = record {
       let k : ℕ = p - r.first in
       let place : r.first + k ≡ p = omega (arith, w.0) in
       let theirs : flags_at m p ≡ Some r.flags = ap (flags_at m) (sym place) ∙ h.each.0.alike k (omega (arith, w.0, w.1)) in
-      false≢true (sym other ∙ goes_on n flags r (omega (arith, e, w.1, h.each.0.high)) (same_flags (flags_at m p) flags r.flags has' theirs))
+      false≢true (sym other
+      ∙ goes_on n flags r (omega (arith, e, w.1, h.each.0.high)) (same_flags (flags_at m p) flags r.flags has' theirs))
   apart p e has' (inr w) =
       let low = in_low p r.first rs h.fall.0 w in
       omega (arith, low, e, h.each.0.some, h.each.0.high)
 
-page_runs : (m : Memory) (n flags : ℕ) (rs : List Run) → flags_at m n ≡ Some flags → AreRunsBelow m n rs → AreRunsBelow m (suc n) (with_page n flags (is_blank m n) rs)
+page_runs : (m : Memory) (n flags : ℕ) (rs : List Run) → flags_at m n ≡ Some flags → AreRunsBelow m n rs →
+    AreRunsBelow m (suc n) (with_page n flags (is_blank m n) rs)
 page_runs m n flags [] has h = first_page m n flags (is_blank m n) refl has h
 page_runs m n flags (r ∷ rs) has h = by (continues n flags r) refl where
   by : (b : Bool) → continues n flags r ≡ b →
@@ -217,7 +226,8 @@ no_page m n rs none h = record {
   fall = h.fall;
 }
 
-cell_runs : (m : Memory) (n : ℕ) (o : Option Cell) (rs : List Run) → m (n * page_bytes) ≡ o → AreRunsBelow m n rs → AreRunsBelow m (suc n) (with_cell m n o rs)
+cell_runs : (m : Memory) (n : ℕ) (o : Option Cell) (rs : List Run) → m (n * page_bytes) ≡ o → AreRunsBelow m n rs →
+    AreRunsBelow m (suc n) (with_cell m n o rs)
 cell_runs m n None rs is h = no_page m n rs is h
 cell_runs m n (Some c) rs is h = page_runs m n (flags_of c) rs (flags_here m n c is) h
 

@@ -36,7 +36,8 @@ all_zeros (b ∷ bs) h =
     let first : (b == 0) ≡ true = eq-eqb b 0 (h 0 (omega arith)) in
     rw first (all_zeros bs (λ k low. h (suc k) (omega (arith, low))))
 
-pub blank_is : (bytes : List ℕ) (r : Bool) → (IsTrue r ↔ ((k : ℕ) → k < length bytes → slice_index bytes k ≡ 0)) → r ≡ list_all (λ b. b == 0) bytes
+pub blank_is : (bytes : List ℕ) (r : Bool) → (IsTrue r ↔ ((k : ℕ) → k < length bytes → slice_index bytes k ≡ 0)) →
+    r ≡ list_all (λ b. b == 0) bytes
 blank_is bytes true h = sym (all_zeros bytes (h.0 refl))
 blank_is bytes false h = by (list_all (λ (b : ℕ). b == 0) bytes) refl where
   by : (t : Bool) → list_all (λ (b : ℕ). b == 0) bytes ≡ t → false ≡ t
@@ -58,16 +59,21 @@ wider n total more rs h = AllByRecursion-weaker (FitsBelow n total) (FitsBelow (
 
 begun_fits : (n flags before total : ℕ) (blank : Bool) → before ≤ total → FitsBelow (suc n) (total + 1) (begun n flags blank before)
 begun_fits n flags before total true low = record { some = omega arith; filled = omega arith; high = omega arith; few = omega (arith, low) }
-begun_fits n flags before total false low = record { some = omega arith; filled = omega arith; high = omega arith; few = omega (arith, low) }
+begun_fits n flags before total false low =
+    record { some = omega arith; filled = omega arith; high = omega arith; few = omega (arith, low) }
 
 longer_fits : (n total : ℕ) (blank : Bool) (r : Run) → FitsBelow n total r → FitsBelow (suc n) (total + 1) (longer blank r)
-longer_fits n total true r f = record { some = omega arith; filled = omega (arith, f.filled); high = omega (arith, f.high); few = omega (arith, f.few) }
-longer_fits n total false r f = record { some = omega arith; filled = omega arith; high = omega (arith, f.high); few = omega (arith, f.few) }
+longer_fits n total true r f =
+    record { some = omega arith; filled = omega (arith, f.filled); high = omega (arith, f.high); few = omega (arith, f.few) }
+longer_fits n total false r f =
+    record { some = omega arith; filled = omega arith; high = omega (arith, f.high); few = omega (arith, f.few) }
 
-page_fits : (n flags total : ℕ) (blank : Bool) (rs : List Run) → AllByRecursion (FitsBelow n total) rs → AllByRecursion (FitsBelow (suc n) (total + 1)) (with_page n flags blank rs)
+page_fits : (n flags total : ℕ) (blank : Bool) (rs : List Run) → AllByRecursion (FitsBelow n total) rs →
+    AllByRecursion (FitsBelow (suc n) (total + 1)) (with_page n flags blank rs)
 page_fits n flags total blank [] h = (begun_fits n flags 0 total blank (omega arith), tt)
 page_fits n flags total blank (r ∷ rs) h = by (continues n flags r) where
-  by : (b : Bool) → AllByRecursion (FitsBelow (suc n) (total + 1)) (if b then longer blank r ∷ rs else begun n flags blank (r.before + r.filled) ∷ r ∷ rs)
+  by : (b : Bool) →
+      AllByRecursion (FitsBelow (suc n) (total + 1)) (if b then longer blank r ∷ rs else begun n flags blank (r.before + r.filled) ∷ r ∷ rs)
   by true = (longer_fits n total blank r h.0, wider n total 1 rs h.1)
   by false = (begun_fits n flags (r.before + r.filled) total blank (omega (arith, h.0.filled, h.0.few)), wider n total 1 (r ∷ rs) h)
 
@@ -90,7 +96,8 @@ page_count_more n flags blank (r ∷ rs) = by (continues n flags r) where
   by true = omega arith
   by false = omega arith
 
-cell_count : (m : Memory) (n total : ℕ) (o : Option Cell) (rs : List Run) → length rs ≤ total → length (with_cell m n o rs) ≤ total + (if is_some o then 1 else 0)
+cell_count : (m : Memory) (n total : ℕ) (o : Option Cell) (rs : List Run) → length rs ≤ total →
+    length (with_cell m n o rs) ≤ total + (if is_some o then 1 else 0)
 cell_count m n total None rs few = omega (arith, few)
 cell_count m n total (Some c) rs few = omega (arith, few, page_count_more n (flags_of c) (is_blank m n) rs)
 
@@ -119,7 +126,8 @@ all_fit n m low few =
     let within : pages_below n m ≤ page_count m = subst (λ (k : ℕ). pages_below n m ≤ pages_below k m) top (pages_rise n (2 ^ 20 - n) m) in
     All-from_recursion Fits _ (reversed Fits (runs_below n m)
     (AllByRecursion-weaker (FitsBelow n (pages_below n m)) Fits (runs_below n m)
-    (λ r f. record { some = f.some; filled = f.filled; high = omega (arith, f.high, low); few = omega (arith, f.few, within, few) }) (runs_fit n m)))
+    (λ r f. record { some = f.some; filled = f.filled; high = omega (arith, f.high, low); few = omega (arith, f.few, within, few) })
+    (runs_fit n m)))
 
 pub few_runs : (m : Memory) → page_count m ≤ MAX_PAGES → length (runs_of m) ≤ MAX_PAGES
 few_runs m few = omega (arith, length-reverse (runs_below (2 ^ 20) m), runs_count (2 ^ 20) m, few)
@@ -151,7 +159,8 @@ cell_of_view m n v rs full is =
     ∙ ap (λ (bytes : List ℕ). with_page n (permissions_byte (Some v.permissions)) (list_all (λ b. b == 0) bytes) rs) (page_is m n v full is)
 
 -- the next page behind those below one number, where none lies between
-pub runs_next : (m : Memory) (least n : ℕ) (v : PageView) → IsNextPage m least (Some n) → length v.bytes.now ≡ page_bytes → IsPageOf m n (Some v) →
+pub runs_next : (m : Memory) (least n : ℕ) (v : PageView) → IsNextPage m least (Some n) → length v.bytes.now ≡ page_bytes →
+    IsPageOf m n (Some v) →
     runs_below (n + 1) m ≡ with_page n (permissions_byte (Some v.permissions)) (list_all (λ b. b == 0) v.bytes.now) (runs_below least m)
 unfolding runs_below
 runs_next m least n v next full is =
@@ -176,7 +185,8 @@ flags_here m n c is = ap (λ (o : Option Cell). option_map flags_of o) is
 pub begun_alike : (m : Memory) (n flags before : ℕ) (blank : Bool) → flags_at m n ≡ Some flags → AreAlike m (begun n flags blank before)
 begun_alike m n flags before blank has k low = let here : n + k ≡ n = omega (arith, low) in ap (flags_at m) here ∙ has
 
-pub longer_alike : (m : Memory) (n flags : ℕ) (blank : Bool) (r : Run) → flags_at m n ≡ Some flags → continues n flags r ≡ true → AreAlike m r → AreAlike m (longer blank r)
+pub longer_alike : (m : Memory) (n flags : ℕ) (blank : Bool) (r : Run) → flags_at m n ≡ Some flags → continues n flags r ≡ true →
+    AreAlike m r → AreAlike m (longer blank r)
 longer_alike m n flags blank r has next h k low = by (nat_lt k r.pages) refl where
   place : n ≡ r.first + r.pages
   place = eqb-true n (r.first + r.pages) (front (n == r.first + r.pages) (flags == r.flags) next)
@@ -195,7 +205,8 @@ page_alike : (m : Memory) (n flags : ℕ) (blank : Bool) (rs : List Run) → fla
     AllByRecursion (AreAlike m) (with_page n flags blank rs)
 page_alike m n flags blank [] has h = (begun_alike m n flags 0 blank has, tt)
 page_alike m n flags blank (r ∷ rs) has h = by (continues n flags r) refl where
-  by : (b : Bool) → continues n flags r ≡ b → AllByRecursion (AreAlike m) (if b then longer blank r ∷ rs else begun n flags blank (r.before + r.filled) ∷ r ∷ rs)
+  by : (b : Bool) → continues n flags r ≡ b →
+      AllByRecursion (AreAlike m) (if b then longer blank r ∷ rs else begun n flags blank (r.before + r.filled) ∷ r ∷ rs)
   by true e = (longer_alike m n flags blank r has e h.0, h.1)
   by false e = (begun_alike m n flags (r.before + r.filled) blank has, h)
 

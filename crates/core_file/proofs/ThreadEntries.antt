@@ -21,7 +21,8 @@ both : (a b : Bool) → T a → T b → T (a && b)
 both true b p q = q
 both false b p q = p
 
-below_told : (x : ℕ) (parts : List ThreadPart) → AllByRecursion (λ y. nat_cmp x y ≡ Less) (map (λ p. p.tid) parts) → T (below_all nat_cmp x (entries_of parts))
+below_told : (x : ℕ) (parts : List ThreadPart) → AllByRecursion (λ y. nat_cmp x y ≡ Less) (map (λ p. p.tid) parts) →
+    T (below_all nat_cmp x (entries_of parts))
 below_told x [] h = tt
 below_told x (p ∷ parts) h = both _ _ (subst (λ (o : Ordering). T (is_lt o)) (sym h.0) tt) (below_told x parts h.1)
 

@@ -71,7 +71,8 @@ pub record IsGoodLoad (file : List ℕ) (h : Header) : Type 0 where
   pub low : 0 < h.memory_len → 0x1000 ≤ h.address
   pub high : 0 < h.memory_len → h.address + h.memory_len ≤ 0x70000000
 
-pub good_load : (file : List ℕ) (k : ℕ) (h : Header) → Accepted file → k < length (loads file) → h ≡ get_or (loads file) k h → IsGoodLoad file h
+pub good_load : (file : List ℕ) (k : ℕ) (h : Header) → Accepted file → k < length (loads file) → h ≡ get_or (loads file) k h →
+    IsGoodLoad file h
 good_load file k h a low is =
     let file_test = none_at (passes_file file) (loads file) k h low is a.within_file in
     let size_test = none_at crosses_sizes (loads file) k h low is a.sizes in

@@ -25,7 +25,8 @@ headers_from-end file p n i h =
     ap (headers_from file p) none
 
 -- where no header passes a test, one at an index doesn't
-pub none_at : (p : Header → Bool) (hs : List Header) (i : ℕ) (h : Header) → i < length hs → h ≡ get_or hs i h → list_any p hs ≡ false → p h ≡ false
+pub none_at : (p : Header → Bool) (hs : List Header) (i : ℕ) (h : Header) → i < length hs → h ≡ get_or hs i h → list_any p hs ≡ false →
+    p h ≡ false
 none_at p hs i h low is none = by_answer (p h) refl where
   by_answer : (b : Bool) → p h ≡ b → b ≡ false
   by_answer true passes =
@@ -44,11 +45,13 @@ higher_end-end hs i end high = at_drop_all (fold higher_end end) hs i high
 
 -- the headers' address from index i on
 pub headers_address-step : (file : List ℕ) (hs : List Header) (i : ℕ) (h : Header) → i < length hs → h ≡ get_or hs i h →
-    headers_address file (drop i hs) ≡ cond (holds_headers file h) (h.address + (elf_phoff file - h.offset)) (headers_address file (drop (i + 1) hs))
+    headers_address file (drop i hs)
+    ≡ cond (holds_headers file h) (h.address + (elf_phoff file - h.offset)) (headers_address file (drop (i + 1) hs))
 unfolding headers_address
 headers_address-step file hs i h low is =
     at_drop_more (headers_address file) hs i h low
-    ∙ ap (λ (g : Header). cond (holds_headers file g) (g.address + (elf_phoff file - g.offset)) (headers_address file (drop (i + 1) hs))) (sym is)
+    ∙ ap (λ (g : Header). cond (holds_headers file g) (g.address + (elf_phoff file - g.offset)) (headers_address file (drop (i + 1) hs)))
+    (sym is)
 
 pub headers_address-end : (file : List ℕ) (hs : List Header) (i : ℕ) → length hs ≤ i → headers_address file (drop i hs) ≡ 0
 unfolding headers_address
@@ -56,7 +59,8 @@ headers_address-end file hs i high = at_drop_all (headers_address file) hs i hig
 
 -- ---- the PT_LOADs from one header on
 
-any_load-first : (p : Header → Bool) (h : Header) (hs : List Header) → list_any p (filter is_load (h ∷ hs)) ≡ ((is_load h && p h) || list_any p (filter is_load hs))
+any_load-first : (p : Header → Bool) (h : Header) (hs : List Header) →
+    list_any p (filter is_load (h ∷ hs)) ≡ ((is_load h && p h) || list_any p (filter is_load hs))
 any_load-first p h hs = by_kind (is_load h) where
   by_kind : (b : Bool) → list_any p (cond b (h ∷ filter is_load hs) (filter is_load hs)) ≡ ((b && p h) || list_any p (filter is_load hs))
   by_kind true = refl
@@ -65,7 +69,8 @@ any_load-first p h hs = by_kind (is_load h) where
 -- some PT_LOAD from index i on passes the test: that header, or one behind it
 pub any_load-step : (p : Header → Bool) (file : List ℕ) (place n i : ℕ) → i < n →
     list_any p (filter is_load (headers_from file (place + 32 * i) (n - i)))
-    ≡ ((is_load (header_at file (place + 32 * i)) && p (header_at file (place + 32 * i))) || list_any p (filter is_load (headers_from file (place + 32 * (i + 1)) (n - (i + 1)))))
+    ≡ ((is_load (header_at file (place + 32 * i)) && p (header_at file (place + 32 * i)))
+    || list_any p (filter is_load (headers_from file (place + 32 * (i + 1)) (n - (i + 1)))))
 any_load-step p file place n i h =
     ap (λ (hs : List Header). list_any p (filter is_load hs)) (headers_from-step file place n i h)
     ∙ any_load-first p (header_at file (place + 32 * i)) (headers_from file (place + 32 * (i + 1)) (n - (i + 1)))

@@ -28,11 +28,13 @@ count_by-marks hs marks (suc n) low is =
         count_by (λ mark. mark) (take n marks) ≡ touched_below n hs →
         count_by (λ mark. mark) (take (suc n) marks) ≡ touched_below n hs + cond (list_any (touches n) hs) 1 0
     by_mark true here touched before =
-        let more : count_by (λ mark. mark) (take (n + 1) marks) ≡ count_by (λ mark. mark) (take n marks) + 1 = count_by_more_yes (λ mark. mark) marks n false in_marks here in
+        let more : count_by (λ mark. mark) (take (n + 1) marks) ≡ count_by (λ mark. mark) (take n marks) + 1 =
+        count_by_more_yes (λ mark. mark) marks n false in_marks here in
         let one : ◌≡◌ {A = ℕ} (cond (list_any (touches n) hs) 1 0) 1 = ap (λ (b : Bool). cond b 1 0) (touched ∙ here) in
         rw one (ap (λ (m : ℕ). count_by (λ mark. mark) (take m marks)) (sym (add-one n)) ∙ more ∙ ap (λ (m : ℕ). m + 1) before)
     by_mark false here touched before =
-        let more : count_by (λ mark. mark) (take (n + 1) marks) ≡ count_by (λ mark. mark) (take n marks) = count_by_more_no (λ mark. mark) marks n false in_marks here in
+        let more : count_by (λ mark. mark) (take (n + 1) marks) ≡ count_by (λ mark. mark) (take n marks) =
+        count_by_more_no (λ mark. mark) marks n false in_marks here in
         let none : ◌≡◌ {A = ℕ} (cond (list_any (touches n) hs) 1 0) 0 = ap (λ (b : Bool). cond b 1 0) (touched ∙ here) in
         rw none (ap (λ (m : ℕ). count_by (λ mark. mark) (take m marks)) (sym (add-one n)) ∙ more ∙ before ∙ sym (omega arith))
 
@@ -41,7 +43,8 @@ pub count_by-all_marks : (hs : List Header) (marks : List Bool) (n : ℕ) → le
     ((page : ℕ) → page < n → get_or marks page false ≡ list_any (touches page) hs) →
     count_by (λ mark. mark) marks ≡ touched_below n hs
 count_by-all_marks hs marks n all is =
-    sym (ap (count_by (λ mark. mark)) (take_all n marks (omega arith))) ∙ count_by-marks hs marks n (omega arith) (λ page low. is page (omega arith))
+    sym (ap (count_by (λ mark. mark)) (take_all n marks (omega arith)))
+    ∙ count_by-marks hs marks n (omega arith) (λ page low. is page (omega arith))
 
 -- ---- the pages from the highest end on
 
@@ -67,7 +70,8 @@ highest_end-covers (h ∷ hs) end zero d low some =
 highest_end-covers (h ∷ hs) end (suc k) d low some = highest_end-covers hs (higher_end end h) k d (omega arith) some
 
 -- no load ends behind pages that hold the highest end
-pub ends_within : (hs : List Header) (pages : ℕ) → highest_end hs ≤ pages * 4096 → All (λ h. 0 < h.memory_len → load_end h ≤ pages * 4096) hs
+pub ends_within : (hs : List Header) (pages : ℕ) → highest_end hs ≤ pages * 4096 →
+    All (λ h. 0 < h.memory_len → load_end h ≤ pages * 4096) hs
 ends_within hs pages high k d low some =
     let covered = highest_end-covers hs 0 k d low some in
     omega (arith, covered, high)
@@ -82,8 +86,10 @@ untouched h pages page high above = by_memory (cases_lt 0 h.memory_len) where
   by_memory (inl some) = let end = high some in grind (arith, nat_tests)
   by_memory (inr none) = grind (arith, nat_tests)
 
-untouched_by_all : (hs : List Header) (pages page : ℕ) → All (λ h. 0 < h.memory_len → load_end h ≤ pages * 4096) hs → pages ≤ page → list_any (touches page) hs ≡ false
-untouched_by_all hs pages page high above = list_any_none (touches page) hs (λ k d low. untouched (get_or hs k d) pages page (high k d low) above)
+untouched_by_all : (hs : List Header) (pages page : ℕ) → All (λ h. 0 < h.memory_len → load_end h ≤ pages * 4096) hs → pages ≤ page →
+    list_any (touches page) hs ≡ false
+untouched_by_all hs pages page high above =
+    list_any_none (touches page) hs (λ k d low. untouched (get_or hs k d) pages page (high k d low) above)
 
 -- the pages up to the highest end are all that count
 pub pages_to_end : (hs : List Header) (end page_len pages : ℕ) →
@@ -93,5 +99,7 @@ pages_to_end hs end page_len pages highest low len is =
     let rounded : pages ≡ end / 4096 + min 1 (end % 4096) = is ∙ ap (λ (n : ℕ). end / n + min 1 (end % n)) len in
     let reach : end ≤ pages * 4096 = grind arith in
     let within : pages ≤ 0x70000 = grind arith in
-    let high : highest_end hs ≤ pages * 4096 = omega (arith, highest, reach) in
-    (ends_within hs pages high, sym (touched_below-above hs pages 0x70000 (λ page above. untouched_by_all hs pages page (ends_within hs pages high) above) within))
+    let high : highest_end hs ≤ pages * 4096 = omega (arith, highest, reach) in (
+      ends_within hs pages high,
+      sym (touched_below-above hs pages 0x70000 (λ page above. untouched_by_all hs pages page (ends_within hs pages high) above) within),
+    )

@@ -85,7 +85,8 @@ high_limit file =
     (high_test (not (list_any has_memory (loads file))) 15 _ (omega arith) high_none))
 
 -- a file that passes the tests of its headers and of each PT_LOAD by itself has none of the refusals 1 to 12
-pub past_each : (file : List ℕ) → header_refusal file ≡ None → list_any is_interp (headers file) ≡ false → load_refusal file ≡ None → IsPastRefusal 12 file
+pub past_each : (file : List ℕ) → header_refusal file ≡ None → list_any is_interp (headers file) ≡ false → load_refusal file ≡ None →
+    IsPastRefusal 12 file
 past_each file header interp load n low e =
     let high = high_limit file n (sym (past_loads file header interp load) ∙ e) in
     let impossible : ⊥ = absurd (omega arith) in absurd impossible
@@ -124,21 +125,26 @@ by_length true = refl
 by_length false = refl
 
 by_parts : (shares long : Bool) (pages : ℕ) (some : Bool) → shares ≡ false → pages ≡ 0 → some ≡ false →
-    ◌≡◌ {A = Option ℕ} (if shares then Some 13 else if long || nat_lt 16_128 pages then Some 14 else if not some then Some 15 else None) (too_large_or_no_load long)
+    ◌≡◌ {A = Option ℕ} (if shares then Some 13 else if long || nat_lt 16_128 pages then Some 14 else if not some then Some 15 else None)
+    (too_large_or_no_load long)
 by_parts shares long pages some apart untouched none = rw (apart, untouched, none) (by_length long)
 
-limit_without_memory : (file : List ℕ) → list_any has_memory (loads file) ≡ false → limit_refusal file ≡ too_large_or_no_load (nat_lt 2_097_152 (length file))
+limit_without_memory : (file : List ℕ) → list_any has_memory (loads file) ≡ false →
+    limit_refusal file ≡ too_large_or_no_load (nat_lt 2_097_152 (length file))
 unfolding limit_refusal
 limit_without_memory file none =
-    by_parts (any_share (loads file)) (nat_lt 2_097_152 (length file)) (touched_below 0x70000 (loads file)) (list_any has_memory (loads file))
+    by_parts (any_share (loads file)) (nat_lt 2_097_152 (length file)) (touched_below 0x70000 (loads file))
+    (list_any has_memory (loads file))
     (none_shares (loads file) none) (none_below (loads file) 0x70000 none) none
 
-pub too_large_without_memory : (file : List ℕ) → list_any has_memory (loads file) ≡ false → 2_097_152 < length file → limit_refusal file ≡ Some 14
+pub too_large_without_memory : (file : List ℕ) → list_any has_memory (loads file) ≡ false → 2_097_152 < length file →
+    limit_refusal file ≡ Some 14
 too_large_without_memory file none long =
     let above : nat_lt 2_097_152 (length file) ≡ true = grind (arith, nat_tests) in
     limit_without_memory file none ∙ ap too_large_or_no_load above
 
-pub no_load_without_memory : (file : List ℕ) → list_any has_memory (loads file) ≡ false → length file ≤ 2_097_152 → limit_refusal file ≡ Some 15
+pub no_load_without_memory : (file : List ℕ) → list_any has_memory (loads file) ≡ false → length file ≤ 2_097_152 →
+    limit_refusal file ≡ Some 15
 no_load_without_memory file none short =
     let above : nat_lt 2_097_152 (length file) ≡ false = grind (arith, nat_tests) in
     limit_without_memory file none ∙ ap too_large_or_no_load above

@@ -25,12 +25,14 @@ share-comm g h =
 abbrev Apart : List Header → Type 0
 Apart hs = (i j : ℕ) (d : Header) → i ≢ j → i < length hs → j < length hs → share (get_or hs i d) (get_or hs j d) ≡ false
 
-list_any-at : (p : Header → Bool) (hs : List Header) (i : ℕ) (d : Header) → list_any p hs ≡ false → i < length hs → p (get_or hs i d) ≡ false
+list_any-at : (p : Header → Bool) (hs : List Header) (i : ℕ) (d : Header) → list_any p hs ≡ false → i < length hs →
+    p (get_or hs i d) ≡ false
 list_any-at p [] i d none low = absurd (omega arith)
 list_any-at p (x ∷ xs) zero d none low = (or_parts (p x) (list_any p xs) none).0
 list_any-at p (x ∷ xs) (suc i) d none low = list_any-at p xs i d (or_parts (p x) (list_any p xs) none).1 (omega arith)
 
-before : (hs : List Header) (i j : ℕ) (d : Header) → any_share hs ≡ false → i < j → j < length hs → share (get_or hs i d) (get_or hs j d) ≡ false
+before : (hs : List Header) (i j : ℕ) (d : Header) → any_share hs ≡ false → i < j → j < length hs →
+    share (get_or hs i d) (get_or hs j d) ≡ false
 unfolding any_share
 before [] i j d apart less low = absurd (omega arith)
 before (x ∷ xs) i zero d apart less low = absurd (omega arith)
@@ -59,7 +61,8 @@ any_share-from_Apart (x ∷ xs) apart =
 abbrev place : ℕ → ℕ → ℕ → ℕ
 place a b k = if k == a then b else if k == b then a else k
 
-at_place : (xs : List Header) (a b k : ℕ) (d : Header) → a < length xs → b < length xs → get_or (swap xs a b) k d ≡ get_or xs (place a b k) d
+at_place : (xs : List Header) (a b k : ℕ) (d : Header) → a < length xs → b < length xs →
+    get_or (swap xs a b) k d ≡ get_or xs (place a b k) d
 at_place xs a b k d low_a low_b =
     let swapped = swapped_from_swap xs (swap xs a b) a b d low_a low_b refl in
     ⊎_elim
@@ -132,7 +135,8 @@ any_share-filter (h ∷ hs) = by_memory (has_memory h) refl (any_share-filter hs
   by_memory : (b : Bool) → has_memory h ≡ b → any_share (filter has_memory hs) ≡ any_share hs →
       any_share (cond b (h ∷ filter has_memory hs) (filter has_memory hs)) ≡ (list_any (share h) hs || any_share hs)
   by_memory true some rest =
-      ap (λ (b : Bool). b || any_share (filter has_memory hs)) (list_any-share-filter h hs) ∙ ap (λ (b : Bool). list_any (share h) hs || b) rest
+      ap (λ (b : Bool). b || any_share (filter has_memory hs)) (list_any-share-filter h hs)
+      ∙ ap (λ (b : Bool). list_any (share h) hs || b) rest
   by_memory false none rest = rest ∙ sym (ap (λ (b : Bool). b || any_share hs) (empty_shares_none h hs none))
 
 some_memory : (h : Header) → has_memory h ≡ true → 0 < h.memory_len
@@ -165,7 +169,8 @@ any_share-neighbours hs rises memory apart = any_share-from_Apart hs (λ i j d o
     (cases_lt i j)) where
       in_order : (i j : ℕ) (d : Header) → i < j → j < length hs → share (get_or hs i d) (get_or hs j d) ≡ false
       in_order i j d less low =
-          let next = ends_before (get_or hs i d) (get_or hs (i + 1) d) (rises i (i + 1) d (omega arith) (omega arith)) (memory (i + 1) d (omega arith)) (apart i d (omega arith)) in
+          let next = ends_before (get_or hs i d) (get_or hs (i + 1) d) (rises i (i + 1) d (omega arith) (omega arith))
+          (memory (i + 1) d (omega arith)) (apart i d (omega arith)) in
           let later = rises (i + 1) j d (omega arith) low in
           apart_behind (get_or hs i d) (get_or hs j d) (omega arith)
 
@@ -176,4 +181,5 @@ any_share-at hs i j g h less low g_is h_is shared = by_answer (any_share hs) ref
   by_answer : (b : Bool) → any_share hs ≡ b → b ≡ true
   by_answer true some = refl
   by_answer false none =
-      sym (ap (λ (f : Header). share f h) g_is ∙ ap (share (get_or hs i g)) (h_is ∙ get_or_default hs j h g low) ∙ before hs i j g none less low) ∙ shared
+      sym (ap (λ (f : Header). share f h) g_is ∙ ap (share (get_or hs i g)) (h_is ∙ get_or_default hs j h g low)
+      ∙ before hs i j g none less low) ∙ shared

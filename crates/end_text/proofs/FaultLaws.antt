@@ -25,7 +25,8 @@ refused : (test : Option Cell → Bool) (m : Memory) (a n : ℕ) → all_cells t
 unfolding all_cells
 refused test m a zero h = absurd (false≢true (sym h))
 refused test m a (suc n) h = by (all_cells test m a n) (test (m (a + n))) refl (refused test m a n) h where
-  by : (before here : Bool) → test (m (a + n)) ≡ here → (before ≡ false → HasRefused test m a n) → (before && here) ≡ false → HasRefused test m a (suc n)
+  by : (before here : Bool) → test (m (a + n)) ≡ here → (before ≡ false → HasRefused test m a n) → (before && here) ≡ false →
+      HasRefused test m a (suc n)
   by true true k earlier both = absurd (false≢true (sym both))
   by true false k earlier both = (n, omega arith, k)
   by false here k earlier both = let r = earlier refl in let low = r.1 in (r.0, omega (arith, low), r.2)
@@ -54,12 +55,14 @@ by_test : (P : Outcome → Type 0) (b : Bool) (x y : Outcome) → (b ≡ true �
 by_test P true x y h k = h refl
 by_test P false x y h k = k refl
 
-jump_told : (i : Option Instr) (h : Hart) (rd a : ℕ) → (h.regs.pc % 4 == 0) ≡ true → target h.regs i ≡ Some a → Told h.memory h.regs i (jumps rd a h)
+jump_told : (i : Option Instr) (h : Hart) (rd a : ℕ) → (h.regs.pc % 4 == 0) ≡ true → target h.regs i ≡ Some a →
+    Told h.memory h.regs i (jumps rd a h)
 jump_told i h rd a aligned goes =
     by_test (Told h.memory h.regs i) (a % 4 == 0) _ _ (λ _. tt) (λ e. rw (aligned, goes) e)
 
 atomic_told : (i : Option Instr) (h : Hart) (allowed : Bool) (kind : FaultKind) (a : ℕ) (outcome : Outcome) → accessed h.regs i ≡ Some a →
-    Told h.memory h.regs i outcome → (allowed ≡ false → Told h.memory h.regs i (Faulted kind)) → Told h.memory h.regs i (atomic allowed kind a outcome)
+    Told h.memory h.regs i outcome → (allowed ≡ false → Told h.memory h.regs i (Faulted kind)) →
+    Told h.memory h.regs i (atomic allowed kind a outcome)
 atomic_told i h allowed kind a outcome at done fails =
     by_test (Told h.memory h.regs i) (a % 4 == 0) _ _ (λ _. by_test (Told h.memory h.regs i) allowed _ _ (λ _. done) fails) (λ e. rw at e)
 
@@ -114,7 +117,8 @@ word_there h e = rw (all_there h.memory h.regs.pc 4 e) refl
 step_told : OneAnswer → (h : Hart) (outcome : Outcome) → HartStep h outcome → ToldThere h outcome
 step_told one h outcome does = by (h.regs.pc % 4 == 0) (executable h.memory h.regs.pc 4) refl refl does where
   by : (aligned allowed : Bool) → (h.regs.pc % 4 == 0) ≡ aligned → executable h.memory h.regs.pc 4 ≡ allowed →
-      StepOfWord (if aligned then (if allowed then Ok (word_at h.memory h.regs.pc) else Err faults.Fetch) else Err faults.MisalignedTarget) h outcome →
+      StepOfWord (if aligned then (if allowed then Ok (word_at h.memory h.regs.pc) else Err faults.Fetch) else Err faults.MisalignedTarget)
+      h outcome →
       ToldThere h outcome
   by false allowed e k d = subst (ToldThere h) (sym d) (rw e e)
   by true false e k d = subst (ToldThere h) (sym d) (refused can_execute h.memory h.regs.pc 4 k)

@@ -23,17 +23,20 @@ refused_at_last_stays old new Left h = same_stays old _ new h.1 (refl, refl)
 refused_at_last_stays old new Halted h = same_stays old _ new h.2 (refl, refl)
 refused_at_last_stays old new Full h = absurd h
 
-pub tried_stays : {X : Type 0} (result : Result X (Item × SubmitFault)) (old new : RecorderValue) (item : Item) → OnOk result (IsSent old new item)
+pub tried_stays : {X : Type 0} (result : Result X (Item × SubmitFault)) (old new : RecorderValue) (item : Item) →
+    OnOk result (IsSent old new item)
     → IfErr result (λ e. (e.0 ≡ item) × IsRefused old new e.1) → Stays old new
 tried_stays (Ok done) old new item sent refused = same_stays old _ new sent.sent (refl, refl)
 tried_stays (Err e) old new item sent refused = refused_stays old new e.1 refused.1
 
-pub submitted_stays : {X : Type 0} (result : Result X (Item × SubmitFault)) (old new : RecorderValue) (item : Item) → OnOk result (IsSentAtLast old new item)
+pub submitted_stays : {X : Type 0} (result : Result X (Item × SubmitFault)) (old new : RecorderValue) (item : Item) →
+    OnOk result (IsSentAtLast old new item)
     → IfErr result (λ e. (e.0 ≡ item) × IsRefusedAtLast old new e.1) → Stays old new
 submitted_stays (Ok done) old new item sent refused = same_stays old _ new sent.sent (refl, refl)
 submitted_stays (Err e) old new item sent refused = refused_at_last_stays old new e.1 refused.1
 
-get_set : {X : Type 0} (xs : List X) (i : ℕ) (x : X) (k : ℕ) (y : X) → slice_get (set xs i x) k ≡ Some y → (slice_get xs k ≡ Some y) ⊎ ((k ≡ i) × (x ≡ y))
+get_set : {X : Type 0} (xs : List X) (i : ℕ) (x : X) (k : ℕ) (y : X) → slice_get (set xs i x) k ≡ Some y → (slice_get xs k ≡ Some y) ⊎
+    ((k ≡ i) × (x ≡ y))
 get_set [] i x k y e = inl e
 get_set (z ∷ xs) zero x zero y e = inr (refl, cc)
 get_set (z ∷ xs) zero x (suc k) y e = inl e
@@ -41,11 +44,14 @@ get_set (z ∷ xs) (suc i) x zero y e = inl e
 get_set (z ∷ xs) (suc i) x (suc k) y e = ⊎_elim (λ t. inl t) (λ (t : (k ≡ i) × (x ≡ y)). inr (ap suc t.0, t.1)) (get_set xs i x k y e)
 
 -- so all stay when one of them sends
-pub all_stay : (group : GroupId) (seats : List RecorderValue) (at : ℕ) (old new : RecorderValue) → AllOf group seats → slice_get seats at ≡ Some old
+pub all_stay : (group : GroupId) (seats : List RecorderValue) (at : ℕ) (old new : RecorderValue) → AllOf group seats →
+    slice_get seats at ≡ Some old
     → Stays old new → AllOf group (set seats at new)
 all_stay group seats at old new all there stays k r e =
     ⊎_elim (λ t. all k r t)
     (λ (t : (k ≡ at) × (new ≡ r)).
-    let before = all at old there in
-    (ap (λ (s : RecorderValue). s.group) (sym t.1) ∙ stays.0 ∙ before.0, ap (λ (s : RecorderValue). s.guest) (sym t.1) ∙ stays.1 ∙ before.1 ∙ sym t.0))
+    let before = all at old there in (
+      ap (λ (s : RecorderValue). s.group) (sym t.1) ∙ stays.0 ∙ before.0,
+      ap (λ (s : RecorderValue). s.guest) (sym t.1) ∙ stays.1 ∙ before.1 ∙ sym t.0,
+    ))
     (get_set seats at new k r e)

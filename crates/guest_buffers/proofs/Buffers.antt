@@ -27,7 +27,8 @@ nothing_there : (o : Option Cell) → o ≡ None → can_read o ≡ true → ⊥
 nothing_there None e h = false≢true h
 nothing_there (Some c) e h = cc
 
-pub readable_further : (m : Memory) (a n k j count : ℕ) → readable m a n ≡ true → (k + j) + count ≤ n → readable m ((a + k) + j) count ≡ true
+pub readable_further : (m : Memory) (a n k j count : ℕ) → readable m a n ≡ true → (k + j) + count ≤ n →
+    readable m ((a + k) + j) count ≡ true
 readable_further m a n k j count h within =
     subst (λ (x : ℕ). readable m x count ≡ true) (further a k j) (readable_within m a n (k + j) count h within)
 
@@ -78,13 +79,15 @@ unfolding clipped
 clipped-append c [] ys = ap (λ (n : ℕ). clipped n ys) (less_none c)
 clipped-append c (x ∷ xs) ys =
     ap (λ (bs : List (ℕ × ℕ)). (x.0, min x.1 c) ∷ bs) (clipped-append (c - x.1) xs ys)
-    ∙ ap (λ (n : ℕ). ((x.0, min x.1 c) ∷ clipped (c - x.1) xs) ++ clipped n ys) (less_twice c x.1 (total_len xs) (total_len (x ∷ xs)) (sum_by-cons (λ b. b.1) x xs))
+    ∙ ap (λ (n : ℕ). ((x.0, min x.1 c) ∷ clipped (c - x.1) xs) ++ clipped n ys)
+    (less_twice c x.1 (total_len xs) (total_len (x ∷ xs)) (sum_by-cons (λ b. b.1) x xs))
 
 pub all_readable-append : (m : Memory) (xs ys : List (ℕ × ℕ)) → all_readable m (xs ++ ys) ≡ (all_readable m xs && all_readable m ys)
 unfolding all_readable
 all_readable-append m [] ys = refl
 all_readable-append m (x ∷ xs) ys =
-    ap (λ (b : Bool). readable m x.0 x.1 && b) (all_readable-append m xs ys) ∙ sym (and_assoc (readable m x.0 x.1) (all_readable m xs) (all_readable m ys))
+    ap (λ (b : Bool). readable m x.0 x.1 && b) (all_readable-append m xs ys)
+    ∙ sym (and_assoc (readable m x.0 x.1) (all_readable m xs) (all_readable m ys))
 
 min_both : (x c d rest all : ℕ) → all ≡ x + rest → all ≤ c → all ≤ d → min x c ≡ min x d
 min_both x c d rest all e h g = omega arith
@@ -99,7 +102,8 @@ clipped_alike c d (x ∷ xs) h g =
     ∙ ap (λ (bs : List (ℕ × ℕ)). (x.0, min x.1 d) ∷ bs) (clipped_alike (c - x.1) (d - x.1) xs (omega (arith, e)) (omega (arith, e)))
 
 -- what is put out is what was joined
-pub joined_alike : (m : Memory) (xs : List (ℕ × ℕ)) (n : ℕ) → n ≡ min (total_len xs) 65_536 → joined m (clipped n xs) ≡ joined m (clipped 65_536 xs)
+pub joined_alike : (m : Memory) (xs : List (ℕ × ℕ)) (n : ℕ) → n ≡ min (total_len xs) 65_536 →
+    joined m (clipped n xs) ≡ joined m (clipped 65_536 xs)
 joined_alike m xs n e = all_or_cut (nat_lt 65_536 (total_len xs)) refl where
   all_or_cut : (b : Bool) → nat_lt 65_536 (total_len xs) ≡ b → joined m (clipped n xs) ≡ joined m (clipped 65_536 xs)
   all_or_cut true f =
@@ -125,7 +129,8 @@ alone : (m : Memory) (b : ℕ × ℕ) → all_readable m (b ∷ []) ≡ readable
 unfolding all_readable
 alone m b = and-true (readable m b.0 b.1)
 
-pub readable_more : (m : Memory) (c : ℕ) (xs : List (ℕ × ℕ)) (b : ℕ × ℕ) → all_readable m (clipped c xs) ≡ true → readable m b.0 (min b.1 (c - total_len xs)) ≡ true →
+pub readable_more : (m : Memory) (c : ℕ) (xs : List (ℕ × ℕ)) (b : ℕ × ℕ) → all_readable m (clipped c xs) ≡ true →
+    readable m b.0 (min b.1 (c - total_len xs)) ≡ true →
     all_readable m (clipped c (xs ++ b ∷ [])) ≡ true
 readable_more m c xs b h g =
     ap (all_readable m) (clipped_more c xs b) ∙ all_readable-append m (clipped c xs) ((b.0, min b.1 (c - total_len xs)) ∷ [])
@@ -134,15 +139,18 @@ readable_more m c xs b h g =
 pub joined_more : (m : Memory) (c : ℕ) (xs : List (ℕ × ℕ)) (b : ℕ × ℕ) →
     joined m (clipped c (xs ++ b ∷ [])) ≡ joined m (clipped c xs) ++ bytes_at m b.0 (min b.1 (c - total_len xs))
 joined_more m c xs b =
-    ap (joined m) (clipped_more c xs b) ∙ flat_map-append (λ (b : ℕ × ℕ). bytes_at m b.0 b.1) (clipped c xs) ((b.0, min b.1 (c - total_len xs)) ∷ [])
+    ap (joined m) (clipped_more c xs b)
+    ∙ flat_map-append (λ (b : ℕ × ℕ). bytes_at m b.0 b.1) (clipped c xs) ((b.0, min b.1 (c - total_len xs)) ∷ [])
     ∙ ap (λ (bytes : List ℕ). joined m (clipped c xs) ++ bytes) (append-nil (bytes_at m b.0 (min b.1 (c - total_len xs))))
 
-head_false : (m : Memory) (c : ℕ) (b : ℕ × ℕ) (ys : List (ℕ × ℕ)) → readable m b.0 (min b.1 c) ≡ false → all_readable m (clipped c (b ∷ ys)) ≡ false
+head_false : (m : Memory) (c : ℕ) (b : ℕ × ℕ) (ys : List (ℕ × ℕ)) → readable m b.0 (min b.1 c) ≡ false →
+    all_readable m (clipped c (b ∷ ys)) ≡ false
 unfolding clipped all_readable
 head_false m c b ys h = ap (λ (r : Bool). r && all_readable m (clipped (c - b.1) ys)) h
 
 -- one buffer that can't be read spoils them all
-pub unreadable_there : (m : Memory) (c : ℕ) (xs : List (ℕ × ℕ)) (b : ℕ × ℕ) (ys : List (ℕ × ℕ)) → readable m b.0 (min b.1 (c - total_len xs)) ≡ false →
+pub unreadable_there : (m : Memory) (c : ℕ) (xs : List (ℕ × ℕ)) (b : ℕ × ℕ) (ys : List (ℕ × ℕ)) →
+    readable m b.0 (min b.1 (c - total_len xs)) ≡ false →
     all_readable m (clipped c (xs ++ b ∷ ys)) ≡ false
 unreadable_there m c xs b ys h =
     ap (all_readable m) (clipped-append c xs (b ∷ ys)) ∙ all_readable-append m (clipped c xs) (clipped (c - total_len xs) (b ∷ ys))
@@ -164,14 +172,17 @@ same_room x len total e = omega arith
 parts : (bs : List (ℕ × ℕ)) (i : ℕ) (d : ℕ × ℕ) → i < length bs → bs ≡ take i bs ++ get_or bs i d ∷ drop (suc i) bs
 parts bs i d below = sym (take-append-drop i bs) ∙ ap (λ (ys : List (ℕ × ℕ)). take i bs ++ ys) (drop-cons bs i d below)
 
-module _ (m : Memory) (bs : List (ℕ × ℕ)) (i : ℕ) (d : ℕ × ℕ) (base count len : ℕ) (below : i < length bs) (base_is : base ≡ (get_or bs i d).0)
+module _ (m : Memory) (bs : List (ℕ × ℕ)) (i : ℕ) (d : ℕ × ℕ) (base count len : ℕ) (below : i < length bs)
+    (base_is : base ≡ (get_or bs i d).0)
     (count_is : count ≡ min (get_or bs i d).1 (65_536 - len)) (len_is : len ≡ min (total_len (take i bs)) 65_536) where
   count_there : count ≡ min (get_or bs i d).1 (65_536 - total_len (take i bs))
   count_there = count_is ∙ same_room (get_or bs i d).1 len (total_len (take i bs)) len_is
 
-  at_there : (b : Bool) → readable m base count ≡ b → readable m (get_or bs i d).0 (min (get_or bs i d).1 (65_536 - total_len (take i bs))) ≡ b
+  at_there : (b : Bool) → readable m base count ≡ b →
+      readable m (get_or bs i d).0 (min (get_or bs i d).1 (65_536 - total_len (take i bs))) ≡ b
   at_there b h =
-      let same : readable m base count ≡ readable m (get_or bs i d).0 (min (get_or bs i d).1 (65_536 - total_len (take i bs))) = λ j. readable m (base_is j) (count_there j) in
+      let same : readable m base count ≡ readable m (get_or bs i d).0 (min (get_or bs i d).1 (65_536 - total_len (take i bs))) =
+      λ j. readable m (base_is j) (count_there j) in
       sym same ∙ h
 
   pub unreadable_at : readable m base count ≡ false → all_readable m (clipped 65_536 bs) ≡ false
@@ -179,15 +190,18 @@ module _ (m : Memory) (bs : List (ℕ × ℕ)) (i : ℕ) (d : ℕ × ℕ) (base 
       ap (λ (ys : List (ℕ × ℕ)). all_readable m (clipped 65_536 ys)) (parts bs i d below)
       ∙ unreadable_there m 65_536 (take i bs) (get_or bs i d) (drop (suc i) bs) (at_there false h)
 
-  pub readable_next : readable m base count ≡ true → all_readable m (clipped 65_536 (take i bs)) ≡ true → all_readable m (clipped 65_536 (take (i + 1) bs)) ≡ true
+  pub readable_next : readable m base count ≡ true → all_readable m (clipped 65_536 (take i bs)) ≡ true →
+      all_readable m (clipped 65_536 (take (i + 1) bs)) ≡ true
   readable_next h all =
       ap (λ (ys : List (ℕ × ℕ)). all_readable m (clipped 65_536 ys)) (take_more bs i d below)
       ∙ readable_more m 65_536 (take i bs) (get_or bs i d) all (at_there true h)
 
-  pub joined_next : (old new : List ℕ) → old ≡ joined m (clipped 65_536 (take i bs)) → new ≡ old ++ bytes_at m base count → new ≡ joined m (clipped 65_536 (take (i + 1) bs))
+  pub joined_next : (old new : List ℕ) → old ≡ joined m (clipped 65_536 (take i bs)) → new ≡ old ++ bytes_at m base count →
+      new ≡ joined m (clipped 65_536 (take (i + 1) bs))
   joined_next old new before more =
       more ∙ (λ j. before j ++ bytes_at m (base_is j) (count_there j))
-      ∙ sym (ap (λ (ys : List (ℕ × ℕ)). joined m (clipped 65_536 ys)) (take_more bs i d below) ∙ joined_more m 65_536 (take i bs) (get_or bs i d))
+      ∙ sym (ap (λ (ys : List (ℕ × ℕ)). joined m (clipped 65_536 ys)) (take_more bs i d below)
+      ∙ joined_more m 65_536 (take i bs) (get_or bs i d))
 
   pub len_next : (next : ℕ) → next ≡ len + count → next ≡ min (total_len (take (i + 1) bs)) 65_536
   len_next next e =

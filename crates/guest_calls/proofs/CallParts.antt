@@ -24,7 +24,8 @@ no_writes s = refl
 
 -- a call that answers and writes nothing
 pub carries_answer : (value : ℕ) (change : State → State) (tid : ℕ) (old mid new : State) (r : CallRecord) →
-    r ≡ record { result = value; written = [] } → mid ≡ change old → new ≡ results tid value mid → Carries (Returns value [] change) tid old r new
+    r ≡ record { result = value; written = [] } → mid ≡ change old → new ≡ results tid value mid →
+    Carries (Returns value [] change) tid old r new
 carries_answer value change tid old mid new r is m n = record {
   records = is;
   leaves = n ∙ ap (results tid value) (m ∙ sym (no_writes (change old)))
@@ -41,7 +42,8 @@ carries_after n value change tid old mid new r value_is mid_is p = record {
 
 -- so of a guest
 pub makes_after : (n value : ℕ) (change : State → State) (tid : ℕ) (old mid new : GuestValue) (r : CallRecord) → value ≡ n →
-    state_of mid ≡ change (state_of old) → KeepsRest old mid → Makes (only_returns value) [] tid mid r new → Makes (Returns n [] change) [] tid old r new
+    state_of mid ≡ change (state_of old) → KeepsRest old mid → Makes (only_returns value) [] tid mid r new →
+    Makes (Returns n [] change) [] tid old r new
 makes_after n value change tid old mid new r value_is mid_is kept p = record {
   carries = carries_after n value change tid (state_of old) (state_of mid) (state_of new) r value_is mid_is p.carries;
   text = p.text;
@@ -76,13 +78,16 @@ all_woken_memory [] m s = refl
 all_woken_memory (tid ∷ tids) m s = ap (λ (s : State). fold woken s tids) (woken_memory tid m s) ∙ all_woken_memory tids m (woken s tid)
 
 leaves_memory : (tid status : ℕ) (m : Memory) (s : State) → leaves tid status (with_memory m s) ≡ with_memory m (leaves tid status s)
-leaves_memory tid status m s = either (nat_eq (len (remove s.threads tid)) 0) (ends status (record s { threads = remove s.threads tid })) (record s { threads = remove s.threads tid }) m where
-  either : (b : Bool) (x y : State) (m : Memory) → cond b (with_memory m x) (with_memory m y) ≡ with_memory m (cond b x y)
-  either true x y m = refl
-  either false x y m = refl
+leaves_memory tid status m s =
+    either (nat_eq (len (remove s.threads tid)) 0) (ends status (record s { threads = remove s.threads tid }))
+    (record s { threads = remove s.threads tid }) m where
+      either : (b : Bool) (x y : State) (m : Memory) → cond b (with_memory m x) (with_memory m y) ≡ with_memory m (cond b x y)
+      either true x y m = refl
+      either false x y m = refl
 
 -- a word is cleared before the threads change
-pub cleared_first : (a tid status : ℕ) (m : Memory) (s : State) → leaves tid status (wakes a 1 (with_memory m s)) ≡ with_memory m (leaves tid status (wakes a 1 s))
+pub cleared_first : (a tid status : ℕ) (m : Memory) (s : State) →
+    leaves tid status (wakes a 1 (with_memory m s)) ≡ with_memory m (leaves tid status (wakes a 1 s))
 cleared_first a tid status m s = ap (leaves tid status) (all_woken_memory (waiters s a 1) m s) ∙ leaves_memory tid status m (wakes a 1 s)
 
 -- an exit that clears a word
@@ -109,8 +114,10 @@ some_moved : (descriptor count : ℕ) (bytes : List ℕ) → 0 < count → count
 some_moved descriptor count bytes some most = grind (arith, nat_tests)
 
 -- as many bytes as a call's result tells
-pub bytes_moved : (descriptor count : ℕ) (bytes put_bytes : List ℕ) (put : List Chunk) → put_bytes ≡ bytes → length put_bytes ≡ count → count ≤ 65_536 →
-    put ≡ (if length put_bytes == 0 then [] else record { descriptor = descriptor; bytes = put_bytes } ∷ []) → put ≡ moved descriptor count bytes
+pub bytes_moved : (descriptor count : ℕ) (bytes put_bytes : List ℕ) (put : List Chunk) → put_bytes ≡ bytes → length put_bytes ≡ count →
+    count ≤ 65_536 →
+    put ≡ (if length put_bytes == 0 then [] else record { descriptor = descriptor; bytes = put_bytes } ∷ []) →
+    put ≡ moved descriptor count bytes
 bytes_moved descriptor count bytes put_bytes put are len most told = none_or_some (nat_eq count 0) refl where
   none_or_some : (b : Bool) → nat_eq count 0 ≡ b → put ≡ moved descriptor count bytes
   none_or_some true e =
@@ -120,7 +127,8 @@ bytes_moved descriptor count bytes put_bytes put are len most told = none_or_som
   none_or_some false e =
       let some : 0 < count = grind (arith, nat_tests) in
       let full : put ≡ record { descriptor = descriptor; bytes = put_bytes } ∷ [] = grind (arith, nat_tests) in
-      full ∙ ap (λ (bytes : List ℕ). record { descriptor = descriptor; bytes = bytes } ∷ []) are ∙ some_moved descriptor count bytes some most
+      full ∙ ap (λ (bytes : List ℕ). record { descriptor = descriptor; bytes = bytes } ∷ []) are
+      ∙ some_moved descriptor count bytes some most
 
 -- the thread that isn't there isn't changed
 pub changed_nowhere : (tid : ℕ) (change : Thread → Thread) (s : State) → thread_at s tid ≡ None → change_thread tid change s ≡ s
@@ -139,17 +147,24 @@ carries_exit tid s t r new e p =
 
 -- ---- records that have a text
 
-pub text_none : (value : ℕ) (written : List Written) → value < 2 ^ 32 → written ≡ [] → HasCallText (record { result = value; written = written })
+pub text_none : (value : ℕ) (written : List Written) → value < 2 ^ 32 → written ≡ [] →
+    HasCallText (record { result = value; written = written })
 text_none value written low e =
-    subst (λ (w : List Written). HasCallText (record { result = value; written = w })) (sym e) (record { result = low; two = omega arith; written = tt })
+    subst (λ (w : List Written). HasCallText (record { result = value; written = w })) (sym e)
+    (record { result = low; two = omega arith; written = tt })
 
 zeros : All (λ b. b < 256) (0 ∷ 0 ∷ 0 ∷ 0 ∷ [])
 zeros =
-    All-cons (λ b. b < 256) 0 (0 ∷ 0 ∷ 0 ∷ []) (lit< tt) (All-cons (λ b. b < 256) 0 (0 ∷ 0 ∷ []) (lit< tt) (All-cons (λ b. b < 256) 0 (0 ∷ []) (lit< tt)
+    All-cons (λ b. b < 256) 0 (0 ∷ 0 ∷ 0 ∷ []) (lit< tt)
+    (All-cons (λ b. b < 256) 0 (0 ∷ 0 ∷ []) (lit< tt) (All-cons (λ b. b < 256) 0 (0 ∷ []) (lit< tt)
     (All-cons (λ b. b < 256) 0 [] (lit< tt) (λ k d h. absurd (omega arith)))))
 
 pub text_cleared : (a : ℕ) (written : List Written) → a < 2 ^ 32 → written ≡ range a (0 ∷ 0 ∷ 0 ∷ 0 ∷ []) →
     HasCallText (record { result = 0; written = written })
 text_cleared a written low e =
     subst (λ (w : List Written). HasCallText (record { result = 0; written = w })) (sym e)
-    (record { result = omega arith; two = omega arith; written = (record { address = low; some = omega arith; most = omega arith; bytes = zeros }, tt) })
+    (record {
+      result = omega arith;
+      two = omega arith;
+      written = (record { address = low; some = omega arith; most = omega arith; bytes = zeros }, tt);
+    })

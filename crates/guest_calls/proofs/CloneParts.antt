@@ -22,7 +22,8 @@ use Rattle.guest_calls.specs.Growth.{Succeeds}
 
 -- ---- what is written
 
-pub words_written : (places : List ℕ) (word : ℕ) (m : Memory) → stored_at_each places (to_le_bytes w32 word) m ≡ write_all (words_at places word) m
+pub words_written : (places : List ℕ) (word : ℕ) (m : Memory) →
+    stored_at_each places (to_le_bytes w32 word) m ≡ write_all (words_at places word) m
 unfolding stored_at_each write_all
 words_written [] word m = refl
 words_written (a ∷ places) word m = words_written places word (stored a (to_le_bytes w32 word) m)
@@ -56,17 +57,20 @@ word_bytes word = All-from_recursion (λ b. b < 256) (to_le_bytes w32 word) (ome
 word_text : (a word : ℕ) → a < 2 ^ 32 → HasWrittenText (record { address = a; bytes = to_le_bytes w32 word })
 word_text a word low = record { address = low; some = omega arith; most = omega arith; bytes = word_bytes word }
 
-one_more_text : (ws : List Written) (w : Written) → AllByRecursion HasWrittenText ws → HasWrittenText w → AllByRecursion HasWrittenText (ws ++ w ∷ [])
+one_more_text : (ws : List Written) (w : Written) → AllByRecursion HasWrittenText ws → HasWrittenText w →
+    AllByRecursion HasWrittenText (ws ++ w ∷ [])
 one_more_text [] w h x = (x, tt)
 one_more_text (v ∷ ws) w h x = (h.0, one_more_text ws w h.1 x)
 
-pub next_text : (so_far more : List Written) (w : Written) (a word : ℕ) → a < 2 ^ 32 → w ≡ record { address = a; bytes = to_le_bytes w32 word } →
+pub next_text : (so_far more : List Written) (w : Written) (a word : ℕ) → a < 2 ^ 32 →
+    w ≡ record { address = a; bytes = to_le_bytes w32 word } →
     more ≡ so_far ++ w ∷ [] → AllByRecursion HasWrittenText so_far → AllByRecursion HasWrittenText more
 next_text so_far more w a word low is pushed held =
     subst (λ (ws : List Written). AllByRecursion HasWrittenText ws) (sym pushed)
     (one_more_text so_far w held (subst HasWrittenText (sym is) (word_text a word low)))
 
-pub text_words : (places : List ℕ) (word : ℕ) (written : List Written) → word < 2 ^ 32 → written ≡ words_at places word → length places ≤ 2 →
+pub text_words : (places : List ℕ) (word : ℕ) (written : List Written) → word < 2 ^ 32 → written ≡ words_at places word →
+    length places ≤ 2 →
     AllByRecursion HasWrittenText written → HasCallText (record { result = word; written = written })
 text_words places word written low e few texts =
     let many : length written ≡ length places = ap length e ∙ length_words_at places word in
@@ -75,7 +79,8 @@ text_words places word written low e few texts =
 -- ---- the whole
 
 pub carries_child : (tid : ℕ) (old mid new : State) (t : Thread) (places : List ℕ) (r : CallRecord) →
-    r ≡ record { result = old.next_tid; written = words_at places old.next_tid } → mid ≡ with_child_at places t old → new ≡ results tid r.result mid →
+    r ≡ record { result = old.next_tid; written = words_at places old.next_tid } → mid ≡ with_child_at places t old →
+    new ≡ results tid r.result mid →
     Carries (makes_child old t places) tid old r new
 carries_child tid old mid new t places r r_is mid_is new_is =
     let made : State = with_thread old.next_tid (child_of t) (record old { next_tid = old.next_tid + 1 }) in
@@ -91,13 +96,16 @@ carries_child tid old mid new t places r r_is mid_is new_is =
 made_row : (a b c : Bool) (x y z w : Row) → a ≡ true → b ≡ false → c ≡ true → cond (not a) x (cond b y (cond (not c) z w)) ≡ w
 made_row a b c x y z w e f g = rw (e, f, g) refl
 
-pub row_of_child : (s : State) (t : Thread) → are_clone_flags (argument t 0) ≡ true → nat_le 16 (len s.threads) || nat_lt (2 ^ 31 - 1) s.next_tid ≡ false →
+pub row_of_child : (s : State) (t : Thread) → are_clone_flags (argument t 0) ≡ true →
+    nat_le 16 (len s.threads) || nat_lt (2 ^ 31 - 1) s.next_tid ≡ false →
     all_writable s.memory (tid_places t) ≡ true → clone_row s t ≡ makes_child s t (tid_places t)
 row_of_child s t flags room allowed =
-    made_row (are_clone_flags (argument t 0)) (nat_le 16 (len s.threads) || nat_lt (2 ^ 31 - 1) s.next_tid) (all_writable s.memory (tid_places t))
+    made_row (are_clone_flags (argument t 0)) (nat_le 16 (len s.threads) || nat_lt (2 ^ 31 - 1) s.next_tid)
+    (all_writable s.memory (tid_places t))
     (fails 22) (fails 11) (fails 14) (makes_child s t (tid_places t)) flags room allowed
 
-pub child_succeeds : (s : State) (t : Thread) → are_clone_flags (argument t 0) ≡ true → nat_le 16 (len s.threads) || nat_lt (2 ^ 31 - 1) s.next_tid ≡ false →
+pub child_succeeds : (s : State) (t : Thread) → are_clone_flags (argument t 0) ≡ true →
+    nat_le 16 (len s.threads) || nat_lt (2 ^ 31 - 1) s.next_tid ≡ false →
     all_writable s.memory (tid_places t) ≡ true → Succeeds (clone_row s t)
 child_succeeds s t flags room allowed =
     let low = room_left (len s.threads) s.next_tid room in
@@ -125,14 +133,16 @@ none_to_write : (m : Memory) (rest : List ℕ) → rest ≡ [] → true ≡ all_
 unfolding all_writable
 none_to_write m rest e = sym (ap (all_writable m) e)
 
-pub all_tested : (m : Memory) (places : List ℕ) (i : ℕ) → length places ≤ i → all_writable m (drop i places) ≡ all_writable m places → true ≡ all_writable m places
+pub all_tested : (m : Memory) (places : List ℕ) (i : ℕ) → length places ≤ i → all_writable m (drop i places) ≡ all_writable m places →
+    true ≡ all_writable m places
 all_tested m places i past held = none_to_write m (drop i places) (drop_all i places past) ∙ held
 
 -- ---- the child
 
 child_by : (t : Thread) (b d : Bool) (clear : ℕ) →
     (let z : Regs = with_register 10 0 t.regs in let stacked : Regs = cond b z (with_register 2 (argument t 1) z) in
-    let made : Thread = record { regs = cond d (with_register 4 (argument t 3) stacked) stacked; waits_at = t.waits_at; clear = clear } in made)
+    let made : Thread = record { regs = cond d (with_register 4 (argument t 3) stacked) stacked; waits_at = t.waits_at; clear = clear } in
+    made)
     ≡ (let z : Thread = set_register 10 0 t in let stacked : Thread = cond b z (set_register 2 (argument t 1) z) in
     let pointed : Thread = cond d (set_register 4 (argument t 3) stacked) stacked in record pointed { clear = clear })
 child_by t true true clear = refl

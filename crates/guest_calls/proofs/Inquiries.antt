@@ -52,7 +52,8 @@ asks wants.Input a count = tt
 asks wants.Random a count = tt
 asks (wants.Moment clock) a count = tt
 
-after_asking : (w : Wanted) (a count tid : ℕ) (r : CallRecord) (s : State) → results tid r.result (writes r.written s) ≡ after_call (asking_row w a count) tid r s
+after_asking : (w : Wanted) (a count tid : ℕ) (r : CallRecord) (s : State) →
+    results tid r.result (writes r.written s) ≡ after_call (asking_row w a count) tid r s
 after_asking wants.Input a count tid r s = refl
 after_asking wants.Random a count tid r s = refl
 after_asking (wants.Moment clock) a count tid r s = refl
@@ -72,12 +73,22 @@ module _ {O : Type 0} {gives : O → Question → Answer → O → Type 0} {row 
     refused = tt;
   }
   quiet (Err e) made memory refused =
-      record { answered = tt; leaves = tt; text = tt; puts_out = tt; keeps = kept old new refused; memory = memory; refused = (refused, refl) }
+      record {
+        answered = tt;
+        leaves = tt;
+        text = tt;
+        puts_out = tt;
+        keeps = kept old new refused;
+        memory = memory;
+        refused = (refused, refl);
+      }
 
   -- a call whose row comes to what another does, and may take memory where that one does
-  pub alike : {after : O} {row' : Row} {puts' : ℕ → List Chunk} {MayTakeMemory' : Type 0} (result : Result CallRecord Refusal) → row ≡ row' →
+  pub alike : {after : O} {row' : Row} {puts' : ℕ → List Chunk} {MayTakeMemory' : Type 0} (result : Result CallRecord Refusal) →
+      row ≡ row' →
       ((value : ℕ) → puts value ≡ puts' value) → (MayTakeMemory' → MayTakeMemory) →
-      ComesTo gives row' puts' MayTakeMemory' tid t old result new before after → ComesTo gives row puts MayTakeMemory tid t old result new before after
+      ComesTo gives row' puts' MayTakeMemory' tid t old result new before after →
+      ComesTo gives row puts MayTakeMemory tid t old result new before after
   alike {after} (Ok r) row_is puts_are takes p = record {
     answered = subst (λ (row : Row). IsAnswered gives row t r before after) (sym row_is) p.answered;
     leaves = subst (λ (row : Row). state_of new ≡ after_call row tid r (state_of old)) (sym row_is) p.leaves;
@@ -90,14 +101,16 @@ module _ {O : Type 0} {gives : O → Question → Answer → O → Type 0} {row 
   alike (Err e) row_is puts_are takes p =
       record { answered = tt; leaves = tt; text = tt; puts_out = tt; keeps = p.keeps; memory = takes p.memory; refused = p.refused }
 
-module _ {O : Type 0} {gives : O → Question → Answer → O → Type 0} {row : Row} {tid : ℕ} {t : Thread} {old new : GuestValue} {before : O} where
+module _ {O : Type 0} {gives : O → Question → Answer → O → Type 0} {row : Row} {tid : ℕ} {t : Thread} {old new : GuestValue}
+    {before : O} where
   -- a test before the question answers a value
   pub answers_value : {r : CallRecord} (value : ℕ) → row ≡ only_returns value → Makes (only_returns value) [] tid old r new →
       ComesTo gives row (λ _. []) (Asks row) tid t old (Ok r) new before before
   answers_value {r} value row_is made = quiet (Ok r) (subst (λ (row : Row). Makes row [] tid old r new) (sym row_is) made) tt tt
 
   -- a test before the question fails
-  pub fails_with : {r : CallRecord} {value : ℕ} (errno : ℕ) → value + errno ≡ 2 ^ 32 → row ≡ fails errno → Makes (only_returns value) [] tid old r new →
+  pub fails_with : {r : CallRecord} {value : ℕ} (errno : ℕ) → value + errno ≡ 2 ^ 32 → row ≡ fails errno →
+      Makes (only_returns value) [] tid old r new →
       ComesTo gives row (λ _. []) (Asks row) tid t old (Ok r) new before before
   fails_with {r} {value} errno value_is row_is made =
       let negated : 2 ^ 32 - errno ≡ value = omega (arith, value_is) in
@@ -109,12 +122,14 @@ module _ {O : Type 0} {gives : O → Question → Answer → O → Type 0} {row 
   finds_no_room {e} w a count row_is same = quiet (Err e) tt (subst Asks (sym row_is) (asks w a count)) same
 
   -- the question was answered
-  pub was_answered : {r : CallRecord} {after : O} (w : Wanted) (a count : ℕ) → row ≡ asking_row w a count → IsAnswered gives (asking_row w a count) t r before after →
+  pub was_answered : {r : CallRecord} {after : O} (w : Wanted) (a count : ℕ) → row ≡ asking_row w a count →
+      IsAnswered gives (asking_row w a count) t r before after →
       state_of new ≡ results tid r.result (writes r.written (state_of old)) → HasCallText r → chunks_of new.put ≡ [] →
       KeepsRest old new → ComesTo gives row (λ _. []) (Asks row) tid t old (Ok r) new before after
   was_answered {r} {after} w a count row_is answered leaves text put keeps = record {
     answered = subst (λ (row : Row). IsAnswered gives row t r before after) (sym row_is) answered;
-    leaves = subst (λ (row : Row). state_of new ≡ after_call row tid r (state_of old)) (sym row_is) (leaves ∙ after_asking w a count tid r (state_of old));
+    leaves = subst (λ (row : Row). state_of new ≡ after_call row tid r (state_of old)) (sym row_is)
+        (leaves ∙ after_asking w a count tid r (state_of old));
     text = text;
     puts_out = put;
     keeps = keeps;
@@ -126,10 +141,13 @@ module _ {O : Type 0} {gives : O → Question → Answer → O → Type 0} {row 
 
 -- room for some bytes is room for fewer
 pub fill_within : (s : SpaceValue) (a count less : ℕ) → CanFill s a count → less ≤ count → CanFill s a less
-fill_within s a count less ready within =
-    (all_pass is_some (memory_of s) a less (λ k below. one_of_all is_some (memory_of s) a count k ready.0 (omega arith)), λ k below. ready.1 k (omega (arith, below, within)))
+fill_within s a count less ready within = (
+  all_pass is_some (memory_of s) a less (λ k below. one_of_all is_some (memory_of s) a count k ready.0 (omega arith)),
+  λ k below. ready.1 k (omega (arith, below, within)),
+)
 
-pub at_room : (tid value a : ℕ) (bytes : List ℕ) (old mid new : State) → mid ≡ old → new ≡ results tid value (with_memory (stored a bytes mid.memory) mid) →
+pub at_room : (tid value a : ℕ) (bytes : List ℕ) (old mid new : State) → mid ≡ old →
+    new ≡ results tid value (with_memory (stored a bytes mid.memory) mid) →
     new ≡ results tid value (with_memory (stored a bytes old.memory) old)
 at_room tid value a bytes old mid new e n = n ∙ ap (λ (s : State). results tid value (with_memory (stored a bytes s.memory) s)) e
 
@@ -146,22 +164,26 @@ unfolding write_all
 written_range a [] m = sym (stored_none a m)
 written_range a (b ∷ bytes) m = refl
 
-pub leaves_range : (tid value a : ℕ) (bytes : List ℕ) (old new : State) (r : CallRecord) → r ≡ record { result = value; written = range a bytes } →
+pub leaves_range : (tid value a : ℕ) (bytes : List ℕ) (old new : State) (r : CallRecord) →
+    r ≡ record { result = value; written = range a bytes } →
     new ≡ results tid value (with_memory (stored a bytes old.memory) old) → new ≡ results tid r.result (writes r.written old)
 leaves_range tid value a bytes old new r is n =
     n ∙ ap (λ (m : Memory). results tid value (with_memory m old)) (sym (written_range a bytes old.memory))
     ∙ ap (λ (r : CallRecord). results tid r.result (writes r.written old)) (sym is)
 
-pub text_range : (value a : ℕ) (bytes : List ℕ) (r : CallRecord) → value < 2 ^ 32 → a < 2 ^ 32 → length bytes ≤ 65_536 → All (λ b. b < 256) bytes →
+pub text_range : (value a : ℕ) (bytes : List ℕ) (r : CallRecord) → value < 2 ^ 32 → a < 2 ^ 32 → length bytes ≤ 65_536 →
+    All (λ b. b < 256) bytes →
     r ≡ record { result = value; written = range a bytes } → HasCallText r
 text_range value a bytes r low at most small is = subst HasCallText (sym is) (listed bytes most small) where
-  listed : (bytes : List ℕ) → length bytes ≤ 65_536 → All (λ b. b < 256) bytes → HasCallText (record { result = value; written = range a bytes })
+  listed : (bytes : List ℕ) → length bytes ≤ 65_536 → All (λ b. b < 256) bytes →
+      HasCallText (record { result = value; written = range a bytes })
   listed [] most small = record { result = low; two = omega arith; written = tt }
   listed (b ∷ bytes) most small =
       record { result = low; two = omega arith; written = (record { address = at; some = omega arith; most = most; bytes = small }, tt) }
 
 -- the record of an answer, by what was wanted
-module _ {O : Type 0} (gives : O → Question → Answer → O → Type 0) (t : Thread) (a count value : ℕ) (bytes : List ℕ) (r : CallRecord) (before after : O) where
+module _ {O : Type 0} (gives : O → Question → Answer → O → Type 0) (t : Thread) (a count value : ℕ) (bytes : List ℕ) (r : CallRecord)
+    (before after : O) where
   pub answered_as : (w : Wanted) → IsClockOf t w → r ≡ record { result = value; written = range a bytes } → All (λ b. b < 256) bytes →
       Takes gives w count value bytes before after → IsAnswered gives (asking_row w a count) t r before after
   answered_as wants.Input clock is small taken =
@@ -180,7 +202,8 @@ module _ {O : Type 0} (gives : O → Question → Answer → O → Type 0) (t : 
       }
 
 -- no more bytes come than there is room for
-pub taken_within : {O : Type 0} (gives : O → Question → Answer → O → Type 0) (w : Wanted) (room value : ℕ) (bytes : List ℕ) (before after : O) →
+pub taken_within : {O : Type 0} (gives : O → Question → Answer → O → Type 0) (w : Wanted) (room value : ℕ) (bytes : List ℕ)
+    (before after : O) →
     Takes gives w room value bytes before after → length bytes ≤ room
 taken_within gives wants.Input room value bytes before after taken = taken.1
 taken_within gives wants.Random room value bytes before after taken = let all : length bytes ≡ room = taken.1 in omega arith

@@ -42,7 +42,8 @@ insert_same m k v there = same_map nat_cmp_total nat_cmp-IsAntisymmetric _ _ (λ
       here q false e = refl
 
 -- the thread there is changed
-pub changed_there : (tid : ℕ) (change : Thread → Thread) (s : State) (t : Thread) → thread_at s tid ≡ Some t → change_thread tid change s ≡ with_thread tid (change t) s
+pub changed_there : (tid : ℕ) (change : Thread → Thread) (s : State) (t : Thread) → thread_at s tid ≡ Some t →
+    change_thread tid change s ≡ with_thread tid (change t) s
 changed_there tid change s t there = rw there refl
 
 -- ---- steps
@@ -57,7 +58,8 @@ now t h = record t { regs = h.regs }
 
 with_hart_twice : (tid : ℕ) (t : Thread) (h h' : Hart) (s : State) → with_hart tid t h' s ≡ with_hart tid (now t h) h' (with_hart tid t h s)
 with_hart_twice tid t h h' s =
-    ap (λ (m : FinMap nat_cmp Thread). record s { memory = h'.memory; threads = m; reservation = h'.reservation }) (sym (insert_insert s.threads tid (now t h) (now t h')))
+    ap (λ (m : FinMap nat_cmp Thread). record s { memory = h'.memory; threads = m; reservation = h'.reservation })
+    (sym (insert_insert s.threads tid (now t h) (now t h')))
 
 module _ (tid : ℕ) (s : State) (t : Thread) (there : thread_at s tid ≡ Some t) (running : t.waits_at ≡ None) where
   there_now : (h : Hart) → thread_at (with_hart tid t h s) tid ≡ Some (now t h)
@@ -74,7 +76,8 @@ module _ (tid : ℕ) (s : State) (t : Thread) (there : thread_at s tid ≡ Some 
   pub lifted : (n : ℕ) (h : Hart) → HartSteps n (hart_of s t) h → Steps n tid s (with_hart tid t h s)
   unfolding HartSteps
   lifted zero h e =
-      ap (λ (h : Hart). with_hart tid t h s) e ∙ ap (λ (m : FinMap nat_cmp Thread). record s { threads = m }) (insert_same s.threads tid t there)
+      ap (λ (h : Hart). with_hart tid t h s) e
+      ∙ ap (λ (m : FinMap nat_cmp Thread). record s { threads = m }) (insert_same s.threads tid t there)
   lifted (suc n) h p = steps_then n tid s (with_hart tid t p.0 s) (with_hart tid t h s) (lifted n p.0 p.1) (one_step p.0 h p.2)
 
   back_to : (n : ℕ) → n < 2 ^ 32 → minus (plus n 4) 4 ≡ n
@@ -84,9 +87,11 @@ module _ (tid : ℕ) (s : State) (t : Thread) (there : thread_at s tid ≡ Some 
   stands_back b are =
       changed_there tid _ (with_hart tid t (goes_on b.regs b) s) (now t (goes_on b.regs b)) (there_now (goes_on b.regs b))
       ∙ ap (λ (m : FinMap nat_cmp Thread). record s { memory = b.memory; threads = m; reservation = b.reservation })
-      (insert_insert s.threads tid _ _ ∙ ap (λ pc. insert s.threads tid (record t { regs = record b.regs { pc = pc } })) (back_to b.regs.pc are.pc))
+      (insert_insert s.threads tid _ _
+      ∙ ap (λ pc. insert s.threads tid (record t { regs = record b.regs { pc = pc } })) (back_to b.regs.pc are.pc))
 
-  lifted_call : (limit count : ℕ) (h : Hart) → HartRunsToCall limit count (hart_of s t) h → RunsToCall limit tid count s (with_hart tid t h s)
+  lifted_call : (limit count : ℕ) (h : Hart) → HartRunsToCall limit count (hart_of s t) h →
+      RunsToCall limit tid count s (with_hart tid t h s)
   lifted_call limit count h p = record {
     some = p.some;
     within = p.within;
@@ -98,10 +103,12 @@ module _ (tid : ℕ) (s : State) (t : Thread) (there : thread_at s tid ≡ Some 
       step = record { there = there_now p.before; running = running; does = p.calls };
       after_is = with_hart_twice tid t p.before h s;
     };
-    back = subst (λ (h : Hart). before_call tid (with_hart tid t h s) ≡ with_hart tid t p.before s) (sym (called_hart p.before h p.calls)) (stands_back p.before p.regs);
+    back = subst (λ (h : Hart). before_call tid (with_hart tid t h s) ≡ with_hart tid t p.before s) (sym (called_hart p.before h p.calls))
+        (stands_back p.before p.regs);
   }
 
-  lifted_fault : (limit count : ℕ) (kind : FaultKind) (h : Hart) → HartRunsToFault limit count kind (hart_of s t) h → RunsToFault limit tid count kind s (with_hart tid t h s)
+  lifted_fault : (limit count : ℕ) (kind : FaultKind) (h : Hart) → HartRunsToFault limit count kind (hart_of s t) h →
+      RunsToFault limit tid count kind s (with_hart tid t h s)
   lifted_fault limit count kind h p = record {
     some = p.some;
     within = p.within;
@@ -109,14 +116,16 @@ module _ (tid : ℕ) (s : State) (t : Thread) (there : thread_at s tid ≡ Some 
     faults = record { thread = now t h; step = record { there = there_now h; running = running; does = p.faults } };
   }
 
-  lifted_memory : (limit count : ℕ) (h : Hart) → HartRunsToMemory limit count (hart_of s t) h → RunsToMemory limit tid count s (with_hart tid t h s)
+  lifted_memory : (limit count : ℕ) (h : Hart) → HartRunsToMemory limit count (hart_of s t) h →
+      RunsToMemory limit tid count s (with_hart tid t h s)
   lifted_memory limit count h p = record {
     within = p.within;
     steps = lifted count h p.steps;
     takes = record { thread = now t h; there = there_now h; running = running; next = p.takes };
   }
 
-  by_end : (end : RunEnd) (limit count : ℕ) (h : Hart) → HartRunsTo end limit count (hart_of s t) h → RunsTo end limit tid count s (with_hart tid t h s)
+  by_end : (end : RunEnd) (limit count : ℕ) (h : Hart) → HartRunsTo end limit count (hart_of s t) h →
+      RunsTo end limit tid count s (with_hart tid t h s)
   by_end ends.Limit limit count h p = (p.0, lifted limit h p.1)
   by_end ends.Call limit count h p = lifted_call limit count h p
   by_end (ends.Fault kind) limit count h p = lifted_fault limit count kind h p

@@ -16,7 +16,8 @@ unfolding highest_free_up_to
 found_up_to zero m count = tt
 found_up_to (suc n) m count = chosen (all_free m (suc n) count) n (highest_free_up_to n m count) (found_up_to n m count)
 
-weaker : (pages up_to : ℕ) (o : Option ℕ) → up_to ≡ 0x70000 - pages → IfSome o (IsUpTo up_to) → IfSome o (λ p. (1 ≤ p) × (p + pages ≤ 0x80000))
+weaker : (pages up_to : ℕ) (o : Option ℕ) → up_to ≡ 0x70000 - pages → IfSome o (IsUpTo up_to) →
+    IfSome o (λ p. (1 ≤ p) × (p + pages ≤ 0x80000))
 weaker pages up_to None e h = tt
 weaker pages up_to (Some p) e h = let low = h.0 in let high = h.1 in (omega arith, omega arith)
 

@@ -35,14 +35,16 @@ set_above_zero r value regs low =
 pub regs_changed : (tid : ℕ) (change : Thread → Thread) (s : State) (t : Thread) (regs : Regs) → thread_at s tid ≡ Some t →
     record t { regs = regs } ≡ change t → change_thread tid (λ u. record u { regs = regs }) s ≡ change_thread tid change s
 regs_changed tid change s t regs there is =
-    changed_there tid (λ u. record u { regs = regs }) s t there ∙ ap (λ (u : Thread). with_thread tid u s) is ∙ sym (changed_there tid change s t there)
+    changed_there tid (λ u. record u { regs = regs }) s t there ∙ ap (λ (u : Thread). with_thread tid u s) is
+    ∙ sym (changed_there tid change s t there)
 
 -- ---- a thread that leaves
 
 abbrev left_with : ℕ → State → State
 left_with status rest = cond (nat_eq (len rest.threads) 0) (ends status rest) rest
 
-pub last_left : (tid status : ℕ) (s rest : State) → rest ≡ without_thread tid s → len rest.threads ≡ 0 → ends status rest ≡ leaves tid status s
+pub last_left : (tid status : ℕ) (s rest : State) → rest ≡ without_thread tid s → len rest.threads ≡ 0 →
+    ends status rest ≡ leaves tid status s
 last_left tid status s rest is none =
     sym (ap (λ b. cond b (ends status rest) rest) ((Decides-eqb (len rest.threads) 0).1 none)) ∙ ap (left_with status) is
 

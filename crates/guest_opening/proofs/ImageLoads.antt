@@ -25,7 +25,8 @@ within_high : (a count x : ℕ) → is_within a count x ≡ true → x < a + cou
 within_high a count x h = grind (arith, nat_tests)
 
 -- a file's byte of a load stands in a page that the load touches
-touched_file : (file : List ℕ) (h : Header) (a : ℕ) → IsLoad file h → is_within h.address h.file_len a ≡ true → touches (a / page_bytes) h ≡ true
+touched_file : (file : List ℕ) (h : Header) (a : ℕ) → IsLoad file h → is_within h.address h.file_len a ≡ true →
+    touches (a / page_bytes) h ≡ true
 touched_file file h a good w =
     let low = within_low h.address h.file_len a w in
     let high = within_high h.address h.file_len a w in
@@ -37,12 +38,14 @@ no_byte_of : (file : List ℕ) (h : Header) (a byte rest : ℕ) (w : Bool) → I
 no_byte_of file h a byte rest true good none e none_behind = let t = touched_file file h a good e in cc
 no_byte_of file h a byte rest false good none e none_behind = none_behind
 
-no_byte : (file : List ℕ) (hs : List Header) (a : ℕ) → AreLoads file hs → list_any (touches (a / page_bytes)) hs ≡ false → loaded_byte file hs a ≡ 0
+no_byte : (file : List ℕ) (hs : List Header) (a : ℕ) → AreLoads file hs → list_any (touches (a / page_bytes)) hs ≡ false →
+    loaded_byte file hs a ≡ 0
 unfolding loaded_byte
 no_byte file [] a good none = refl
 no_byte file (h ∷ hs) a good none =
     let parts = or_parts (touches (a / page_bytes) h) (list_any (touches (a / page_bytes)) hs) none in
-    no_byte_of file h a (slice_index file (h.offset + (a - h.address))) (loaded_byte file hs a) (is_within h.address h.file_len a) good.0 parts.0 refl (no_byte file hs a good.1 parts.1)
+    no_byte_of file h a (slice_index file (h.offset + (a - h.address))) (loaded_byte file hs a) (is_within h.address h.file_len a) good.0
+    parts.0 refl (no_byte file hs a good.1 parts.1)
 
 no_flag_of : (t f rest : Bool) → t ≡ false → rest ≡ false → ((t && f) || rest) ≡ false
 no_flag_of true f rest e none = cc
@@ -71,7 +74,8 @@ same_permissions : (r w x r' w' x' : Bool) → r ≡ r' → w ≡ w' → x ≡ x
     record { read = r; write = w; execute = x } ≡ (let p : Permissions = record { read = r'; write = w'; execute = x' } in p)
 same_permissions r w x r' w' x' e f g i = record { read = e i; write = f i; execute = g i }
 
-same_cell : (b c : ℕ) (p q : Permissions) → b ≡ c → p ≡ q → Some (record { byte = b; permissions = p }) ≡ (let cell : Option Cell = Some (record { byte = c; permissions = q }) in cell)
+same_cell : (b c : ℕ) (p q : Permissions) → b ≡ c → p ≡ q →
+    Some (record { byte = b; permissions = p }) ≡ (let cell : Option Cell = Some (record { byte = c; permissions = q }) in cell)
 same_cell b c p q e f i = Some (record { byte = e i; permissions = f i })
 
 -- the flags of a page of the list
@@ -107,11 +111,13 @@ no_union_with f false e = or-false f
 
 no_flags : (f g : Flags) → g.four ≡ false → g.two ≡ false → g.one ≡ false → permissions_of (flags_with true f g) ≡ permissions_of f
 no_flags f g four two one =
-    same_permissions _ _ _ _ _ _ (no_union_read f.four g.four f.two g.two four two) (no_union_with f.two g.two two) (no_union_with f.one g.one one)
+    same_permissions _ _ _ _ _ _ (no_union_read f.four g.four f.two g.two four two) (no_union_with f.two g.two two)
+    (no_union_with f.one g.one one)
 
 -- t: the load touches the page; w: its file range holds the address; any: a load behind it touches the page
 one_more : (t w any : Bool) (byte stored_byte rest : ℕ) (f g : Flags) →
-    (w ≡ true → t ≡ true) → (w ≡ true → stored_byte ≡ byte) → (any ≡ false → (rest ≡ 0) × (g.four ≡ false) × (g.two ≡ false) × (g.one ≡ false)) →
+    (w ≡ true → t ≡ true) → (w ≡ true → stored_byte ≡ byte) →
+    (any ≡ false → (rest ≡ 0) × (g.four ≡ false) × (g.two ≡ false) × (g.one ≡ false)) →
     page_cell (t || any) (if w then byte else rest) (permissions_of (flags_with t f g))
     ≡ (if w then with_byte stored_byte (covered_if t (permissions_of f) (page_cell any rest (permissions_of g)))
     else covered_if t (permissions_of f) (page_cell any rest (permissions_of g)))
@@ -149,9 +155,12 @@ abbrev page_flags : ℕ → List Header → Flags
 page_flags page hs = record { four = page_has 4 page hs; two = page_has 2 page hs; one = page_has 1 page hs }
 
 with_load_at : (file : List ℕ) (h : Header) (m : Memory) (x : ℕ) → IsLoad file h →
-    with_load file h m x ≡ (if is_within h.address h.file_len x then with_byte (slice_index (file_bytes file h) (x - h.address)) (covered_load h m x) else covered_load h m x)
+    with_load file h m x
+    ≡ (if is_within h.address h.file_len x then with_byte (slice_index (file_bytes file h) (x - h.address)) (covered_load h m x) else
+    covered_load h m x)
 with_load_at file h m x good =
-    ap (λ (n : ℕ). if is_within h.address n x then with_byte (slice_index (file_bytes file h) (x - h.address)) (covered_load h m x) else covered_load h m x) (length-file_bytes file h good)
+    ap (λ (n : ℕ). if is_within h.address n x then with_byte (slice_index (file_bytes file h) (x - h.address)) (covered_load h m x) else
+    covered_load h m x) (length-file_bytes file h good)
 
 -- one more load at the front of the list, at each address
 image_more_at : (file : List ℕ) (h : Header) (hs : List Header) (x : ℕ) → IsLoad file h → AreLoads file hs →

@@ -28,7 +28,8 @@ drop-all (h ∷ hs) zero le = absurd (omega arith)
 drop-all (h ∷ hs) (suc k) le = drop-all hs k (omega arith)
 
 -- the n-th load from the end, and those behind it
-pub next_load : (hs : List Header) (n : ℕ) (h : Header) → n < length (reverse hs) → h ≡ get_or (reverse hs) n h → drop (length hs - (n + 1)) hs ≡ h ∷ drop (length hs - n) hs
+pub next_load : (hs : List Header) (n : ℕ) (h : Header) → n < length (reverse hs) → h ≡ get_or (reverse hs) n h →
+    drop (length hs - (n + 1)) hs ≡ h ∷ drop (length hs - n) hs
 next_load hs n h below is =
     let len : length (reverse hs) ≡ length hs = length-reverse hs in
     let place : length hs - 1 - n ≡ length hs - (n + 1) = omega arith in
@@ -42,14 +43,17 @@ pub record IsNext (file : List ℕ) (n : ℕ) (h : Header) : Type 0 where
   pub behind : AreLoads file (drop (length (loads file) - n) (loads file))
   pub place : drop (length (loads file) - (n + 1)) (loads file) ≡ h ∷ drop (length (loads file) - n) (loads file)
 
-pub is_next : (file : List ℕ) (n : ℕ) (h : Header) → refusal file ≡ None → n < length (reverse (loads file)) → h ≡ get_or (reverse (loads file)) n h → IsNext file n h
+pub is_next : (file : List ℕ) (n : ℕ) (h : Header) → refusal file ≡ None → n < length (reverse (loads file)) →
+    h ≡ get_or (reverse (loads file)) n h → IsNext file n h
 is_next file n h none below is =
     let hs = loads file in
     let place = next_load hs n h below is in
-    let good : AreLoads file (h ∷ drop (length hs - n) hs) = subst (AreLoads file) place (are_loads-drop file hs (length hs - (n + 1)) (is_accepted file none).good) in
+    let good : AreLoads file (h ∷ drop (length hs - n) hs) =
+    subst (AreLoads file) place (are_loads-drop file hs (length hs - (n + 1)) (is_accepted file none).good) in
     record { load = good.0; behind = good.1; place = place }
 
-pub next_has_room : (file : List ℕ) (n : ℕ) (h : Header) (m : Memory) → refusal file ≡ None → IsNext file n h → m ≡ image_of file (drop (length (loads file) - n) (loads file)) →
+pub next_has_room : (file : List ℕ) (n : ℕ) (h : Header) (m : Memory) → refusal file ≡ None → IsNext file n h →
+    m ≡ image_of file (drop (length (loads file) - n) (loads file)) →
     page_count (covered_load h m) ≤ 16_384
 next_has_room file n h m none next is =
     let hs = loads file in
@@ -58,24 +62,31 @@ next_has_room file n h m none next is =
 
 -- ---- the load's bytes have their pages
 
-covered_there : (t : Bool) (h : Header) (c : Option Cell) → t ≡ true → is_some (if t then Some (covered_cell (load_permissions h) c) else c) ≡ true
+covered_there : (t : Bool) (h : Header) (c : Option Cell) → t ≡ true →
+    is_some (if t then Some (covered_cell (load_permissions h) c) else c) ≡ true
 covered_there true h c e = refl
 covered_there false h c e = cc
 
-pub next_is_there : (file : List ℕ) (h : Header) (m covered : Memory) → IsLoad file h → covered ≡ covered_load h m → IsTrue (present covered h.address h.file_len)
+pub next_is_there : (file : List ℕ) (h : Header) (m covered : Memory) → IsLoad file h → covered ≡ covered_load h m →
+    IsTrue (present covered h.address h.file_len)
 next_is_there file h m covered load is =
     let sizes = load.sizes in
-    let there : IsTrue (present (covered_load h m) h.address h.file_len) = all_pass is_some (covered_load h m) h.address h.file_len (λ k below.
-    covered_there (touches ((h.address + k) / page_bytes) h) h (m (h.address + k)) (touched_page h (h.address + k) (omega arith) (omega arith))) in
+    let there : IsTrue (present (covered_load h m) h.address h.file_len) =
+    all_pass is_some (covered_load h m) h.address h.file_len (λ k below.
+    covered_there (touches ((h.address + k) / page_bytes) h) h (m (h.address + k))
+    (touched_page h (h.address + k) (omega arith) (omega arith))) in
     subst (λ (k : Memory). IsTrue (present k h.address h.file_len)) (sym is) there
 
 -- ---- the walk
 
 pub walk_begins : (file : List ℕ) (m : Memory) → m ≡ no_memory → m ≡ image_of file (drop (length (loads file) - 0) (loads file))
-walk_begins file m none = none ∙ sym (image_none file) ∙ ap (λ (hs : List Header). image_of file hs) (sym (drop-all (loads file) (length (loads file) - 0) (omega arith)))
+walk_begins file m none =
+    none ∙ sym (image_none file)
+    ∙ ap (λ (hs : List Header). image_of file hs) (sym (drop-all (loads file) (length (loads file) - 0) (omega arith)))
 
 pub walk_goes_on : (file : List ℕ) (n more : ℕ) (h : Header) (m covered filled : Memory) → IsNext file n h → more ≡ n + 1 →
-    m ≡ image_of file (drop (length (loads file) - n) (loads file)) → covered ≡ covered_load h m → filled ≡ stored h.address (file_bytes file h) covered →
+    m ≡ image_of file (drop (length (loads file) - n) (loads file)) → covered ≡ covered_load h m →
+    filled ≡ stored h.address (file_bytes file h) covered →
     filled ≡ image_of file (drop (length (loads file) - more) (loads file))
 walk_goes_on file n more h m covered filled next one is is_covered is_filled =
     let rest = drop (length (loads file) - n) (loads file) in
@@ -86,7 +97,9 @@ walk_goes_on file n more h m covered filled next one is is_covered is_filled =
     ∙ ap (λ (hs : List Header). image_of file hs) (sym next.place)
     ∙ ap (λ (k : ℕ). image_of file (drop (length (loads file) - k) (loads file))) (sym one)
 
-pub walk_ends : (file : List ℕ) (n : ℕ) (m : Memory) → n ≡ length (reverse (loads file)) → m ≡ image_of file (drop (length (loads file) - n) (loads file)) → m ≡ image_memory file
+pub walk_ends : (file : List ℕ) (n : ℕ) (m : Memory) → n ≡ length (reverse (loads file)) →
+    m ≡ image_of file (drop (length (loads file) - n) (loads file)) → m ≡ image_memory file
 walk_ends file n m all is =
-    let none : length (loads file) - n ≡ 0 = let len : length (reverse (loads file)) ≡ length (loads file) = length-reverse (loads file) in omega arith in
+    let none : length (loads file) - n ≡ 0 = let len : length (reverse (loads file)) ≡ length (loads file) =
+    length-reverse (loads file) in omega arith in
     is ∙ ap (λ (k : ℕ). image_of file (drop k (loads file))) none

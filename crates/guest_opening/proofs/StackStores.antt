@@ -27,8 +27,10 @@ is_out a count x h = grind (arith, nat_tests)
 
 -- t: in the first part; u: in the second; all: in both
 two_stores : (all t u : Bool) (whole first second : ℕ) (c : Option Cell) →
-    (t ≡ true → (all ≡ true) × (u ≡ false) × (whole ≡ first)) → (u ≡ true → (all ≡ true) × (whole ≡ second)) → (t ≡ false → u ≡ false → all ≡ false) →
-    (if all then with_byte whole c else c) ≡ (if u then with_byte second (if t then with_byte first c else c) else (if t then with_byte first c else c))
+    (t ≡ true → (all ≡ true) × (u ≡ false) × (whole ≡ first)) → (u ≡ true → (all ≡ true) × (whole ≡ second)) →
+    (t ≡ false → u ≡ false → all ≡ false) →
+    (if all then with_byte whole c else c)
+    ≡ (if u then with_byte second (if t then with_byte first c else c) else (if t then with_byte first c else c))
 two_stores true true false whole first second c one two none = let h = one refl in ap (λ (b : ℕ). with_byte b c) h.2
 two_stores true false true whole first second c one two none = let h = two refl in ap (λ (b : ℕ). with_byte b c) h.1
 two_stores false false false whole first second c one two none = refl
@@ -42,12 +44,19 @@ stored-append_at a xs ys m x =
     let len : length (xs ++ ys) ≡ length xs + length ys = length-append xs ys in
     two_stores (is_within a (length (xs ++ ys)) x) (is_within a (length xs) x) (is_within (a + length xs) (length ys) x)
     (slice_index (xs ++ ys) (x - a)) (slice_index xs (x - a)) (slice_index ys (x - (a + length xs))) (m x)
-    (λ t. let w = within a (length xs) x t in
-    (is_in a (length (xs ++ ys)) x w.0 (omega arith), is_out (a + length xs) (length ys) x (λ low. absurd (omega arith)), get_or_append_left xs ys 0 (x - a) (omega arith)))
+    (λ t. let w = within a (length xs) x t in (
+      is_in a (length (xs ++ ys)) x w.0 (omega arith),
+      is_out (a + length xs) (length ys) x (λ low. absurd (omega arith)),
+      get_or_append_left xs ys 0 (x - a) (omega arith),
+    ))
     (λ u. let w = within (a + length xs) (length ys) x u in
-    let place : x - a - length xs ≡ x - (a + length xs) = omega arith in
-    (is_in a (length (xs ++ ys)) x (omega arith) (omega arith), get_or-append_right xs ys (x - a) 0 (omega arith) ∙ ap (λ (j : ℕ). slice_index ys j) place))
-    (λ t u. is_out a (length (xs ++ ys)) x (λ low. let behind = not_within a (length xs) x t low in let past = not_within (a + length xs) (length ys) x u behind in omega arith))
+    let place : x - a - length xs ≡ x - (a + length xs) = omega arith in (
+      is_in a (length (xs ++ ys)) x (omega arith) (omega arith),
+      get_or-append_right xs ys (x - a) 0 (omega arith) ∙ ap (λ (j : ℕ). slice_index ys j) place,
+    ))
+    (λ t u. is_out a (length (xs ++ ys)) x
+    (λ low. let behind = not_within a (length xs) x t low in let past = not_within (a + length xs) (length ys) x u behind in
+    omega arith))
 
 -- a store of two lists is two stores
 pub stored-append : (a : ℕ) (xs ys : List ℕ) (m : Memory) → stored a (xs ++ ys) m ≡ stored (a + length xs) ys (stored a xs m)
@@ -68,10 +77,12 @@ length-words (w ∷ words) = let rest = length-words words in simp length-append
 
 -- one more word
 pub stored-word : (a : ℕ) (words : List ℕ) (i : ℕ) (word : ℕ) (m : Memory) → i < length words → word ≡ slice_index words i →
-    stored (a + 4 * i) (to_le_bytes w32 word) (stored a (flat_map (to_le_bytes w32) (take i words)) m) ≡ stored a (flat_map (to_le_bytes w32) (take (i + 1) words)) m
+    stored (a + 4 * i) (to_le_bytes w32 word) (stored a (flat_map (to_le_bytes w32) (take i words)) m)
+    ≡ stored a (flat_map (to_le_bytes w32) (take (i + 1) words)) m
 stored-word a words i word m below is =
     let bytes = flat_map (to_le_bytes w32) (take i words) in
-    let more : take (i + 1) words ≡ take i words ++ word ∷ [] = take_more words i 0 below ∙ ap (λ (w : ℕ). take i words ++ w ∷ []) (sym is) in
+    let more : take (i + 1) words ≡ take i words ++ word ∷ [] =
+    take_more words i 0 below ∙ ap (λ (w : ℕ). take i words ++ w ∷ []) (sym is) in
     let joined : flat_map (to_le_bytes w32) (take (i + 1) words) ≡ bytes ++ to_le_bytes w32 word =
     ap (λ (ws : List ℕ). flat_map (to_le_bytes w32) ws) more ∙ flat_map-append (to_le_bytes w32) (take i words) (word ∷ []) in
     let len : length bytes ≡ 4 * i = length-words (take i words) ∙ ap (λ (n : ℕ). 4 * n) (length-take-le i words (omega arith)) in
@@ -87,4 +98,5 @@ pub present_part : (a : ℕ) (bytes : List ℕ) (m : Memory) (b count c part : �
 present_part a bytes m b count c part there low high =
     all_pass is_some (stored a bytes m) c part (λ k below.
     let place : b + (c + k - b) ≡ c + k = omega arith in
-    is_some-stored a bytes m (c + k) ∙ ap (λ (x : ℕ). is_some (m x)) (sym place) ∙ one_of_all is_some m b count (c + k - b) there (omega arith))
+    is_some-stored a bytes m (c + k) ∙ ap (λ (x : ℕ). is_some (m x)) (sym place)
+    ∙ one_of_all is_some m b count (c + k - b) there (omega arith))

@@ -109,7 +109,8 @@ differ_in_page n None (Some q) hp hq apart = (0, omega arith, λ e. false≢true
 differ_in_page n (Some p) None hp hq apart = (0, omega arith, λ e. false≢true (sym (ap is_some e)))
 differ_in_page n (Some p) (Some q) hp hq apart = elim (first_difference 4096 (slice_index p.bytes) (slice_index q.bytes)) [
   | inl same ↦
-      let bytes : p.bytes ≡ q.bytes = same_number_lists p.bytes q.bytes (hp.full ∙ sym hq.full) (λ k l. same k (omega (arith, l, hp.full))) in
+      let bytes : p.bytes ≡ q.bytes =
+      same_number_lists p.bytes q.bytes (hp.full ∙ sym hq.full) (λ k l. same k (omega (arith, l, hp.full))) in
       (0, omega arith, λ e. apart (ap Some (same_page p q (ap (permissions_or p.permissions) e) bytes)))
   | inr d ↦ (d.0, d.1, λ e. d.2 (ap byte_or_zero e))
 ]
@@ -139,8 +140,10 @@ lists_changes a b ha hb xs h = record {
 
 -- ---- the changes since a snapshot
 
-pub kept_changes : (kept : ℕ → Option PageMap) (pages : PageMap) (n : ℕ) (xs : List ℕ) → ((i : ℕ) → IfSome (kept i) AreEachPage) → AreEachPage pages →
-    IsSomeAnd (kept n) (λ before. ListsOthers (SameAt before pages) 0x80000 xs) → IsSomeAnd (snapshots_in kept n) (λ before. AreChanges before (memory_in pages) xs)
+pub kept_changes : (kept : ℕ → Option PageMap) (pages : PageMap) (n : ℕ) (xs : List ℕ) → ((i : ℕ) → IfSome (kept i) AreEachPage) →
+    AreEachPage pages →
+    IsSomeAnd (kept n) (λ before. ListsOthers (SameAt before pages) 0x80000 xs) →
+    IsSomeAnd (snapshots_in kept n) (λ before. AreChanges before (memory_in pages) xs)
 unfolding snapshots_in
 kept_changes kept pages n xs each h listed = by_slot (kept n) (each n) listed where
   by_slot : (o : Option PageMap) → IfSome o AreEachPage → IsSomeAnd o (λ before. ListsOthers (SameAt before pages) 0x80000 xs) →
@@ -152,21 +155,25 @@ pub differs : (kept : ℕ → Option PageMap) (pages : PageMap) (n : ℕ) → ((
     IsSomeAnd (kept n) (λ before. (q : ℕ) × (SameAt before pages q → ⊥)) → snapshots_in kept n ≡ Some (memory_in pages) → ⊥
 unfolding snapshots_in
 differs kept pages n each h apart same = by_slot (kept n) (each n) apart same where
-  by_slot : (o : Option PageMap) → IfSome o AreEachPage → IsSomeAnd o (λ before. (q : ℕ) × (SameAt before pages q → ⊥)) → option_map memory_in o ≡ Some (memory_in pages) → ⊥
+  by_slot : (o : Option PageMap) → IfSome o AreEachPage → IsSomeAnd o (λ before. (q : ℕ) × (SameAt before pages q → ⊥)) →
+      option_map memory_in o ≡ Some (memory_in pages) → ⊥
   by_slot None i a e = a
   by_slot (Some before) i a e = a.1 (pages_of_same before pages i h (cc (e)) a.0)
 
 -- one number further, and on to the next at which either has a page
-pub same_then_on : (kept : Option PageMap) (pages : PageMap) (n next : ℕ) (xs : List ℕ) → n + 1 ≤ next → IsSomeAnd kept (λ before. ListsOthers (SameAt before pages) n xs)
+pub same_then_on : (kept : Option PageMap) (pages : PageMap) (n next : ℕ) (xs : List ℕ) → n + 1 ≤ next →
+    IsSomeAnd kept (λ before. ListsOthers (SameAt before pages) n xs)
     → IsSomeAnd kept (λ before. pages n ≡ before n) → IsSomeAnd kept (λ before. (q : ℕ) → n + 1 ≤ q → q < next → SameAt before pages q)
     → IsSomeAnd kept (λ before. ListsOthers (SameAt before pages) next xs)
 same_then_on None pages n next xs on listed here rest = absurd listed
 same_then_on (Some before) pages n next xs on listed here rest =
     more_pass (SameAt before pages) (n + 1) next xs (one_passes (SameAt before pages) n xs listed (sym here)) on rest
 
-pub differ_then_on : (kept : Option PageMap) (pages : PageMap) (n next : ℕ) (xs : List ℕ) → n + 1 ≤ next → IsSomeAnd kept (λ before. ListsOthers (SameAt before pages) n xs)
+pub differ_then_on : (kept : Option PageMap) (pages : PageMap) (n next : ℕ) (xs : List ℕ) → n + 1 ≤ next →
+    IsSomeAnd kept (λ before. ListsOthers (SameAt before pages) n xs)
     → IsSomeAnd kept (λ before. pages n ≢ before n) → IsSomeAnd kept (λ before. (q : ℕ) → n + 1 ≤ q → q < next → SameAt before pages q)
     → IsSomeAnd kept (λ before. ListsOthers (SameAt before pages) next (xs ++ n ∷ []))
 differ_then_on None pages n next xs on listed here rest = absurd listed
 differ_then_on (Some before) pages n next xs on listed here rest =
-    more_pass (SameAt before pages) (n + 1) next (xs ++ n ∷ []) (one_fails_too (SameAt before pages) n xs listed (λ e. here (sym e))) on rest
+    more_pass (SameAt before pages) (n + 1) next (xs ++ n ∷ []) (one_fails_too (SameAt before pages) n xs listed (λ e. here (sym e))) on
+    rest

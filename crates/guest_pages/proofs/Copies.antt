@@ -40,7 +40,8 @@ copied_all from copy least h none = λ i q. at q (below_or q least) i where
   at q (inr behind) = h.ahead q behind ∙ sym (none q behind)
 
 -- a space with the pages of another, and no snapshot
-pub copied_space : (s t : SpaceValue) (mapped : ℕ) → IsSpace s mapped → (contents_of t).pages ≡ (contents_of s).pages → ((i : ℕ) → (contents_of t).kept i ≡ None) → IsSpace t mapped
+pub copied_space : (s t : SpaceValue) (mapped : ℕ) → IsSpace s mapped → (contents_of t).pages ≡ (contents_of s).pages →
+    ((i : ℕ) → (contents_of t).kept i ≡ None) → IsSpace t mapped
 copied_space s t mapped h same none = record {
   pages = subst ArePages (sym same) h.pages;
   kept = λ i. subst (λ o. IfSome o AreEachPage) (sym (none i)) tt;

@@ -10,7 +10,8 @@ use Rattle.guest_pages.specs.Mapping.{AreOwnIn}
 use Rattle.guest_pages.proofs.Cells.{one_of_all}
 
 -- where all of them are there, the pages are as they were
-pub owned_same : (numbers : List ℕ) (old new : Contents) → AreOwned numbers old new → ((n : ℕ) → is_listed numbers n ≡ true → IsSome (old.pages n)) → new.pages ≡ old.pages
+pub owned_same : (numbers : List ℕ) (old new : Contents) → AreOwned numbers old new →
+    ((n : ℕ) → is_listed numbers n ≡ true → IsSome (old.pages n)) → new.pages ≡ old.pages
 owned_same numbers old new h there = λ i n. at n (is_listed numbers n) refl i where
   filled : (o : Option PageValue) → IsSome o → Some (page_or_zeros o) ≡ o
   filled None e = absurd (false≢true e)
@@ -20,7 +21,8 @@ owned_same numbers old new h there = λ i n. at n (is_listed numbers n) refl i w
   at n true e = h.here n e ∙ filled (old.pages n) (there n e)
   at n false e = h.pages n e
 
-pub owned_space : (s t : SpaceValue) (mapped : ℕ) → IsSpace s mapped → (contents_of t).pages ≡ (contents_of s).pages → (contents_of t).kept ≡ (contents_of s).kept → IsSpace t mapped
+pub owned_space : (s t : SpaceValue) (mapped : ℕ) → IsSpace s mapped → (contents_of t).pages ≡ (contents_of s).pages →
+    (contents_of t).kept ≡ (contents_of s).kept → IsSpace t mapped
 owned_space s t mapped h pages kept = record {
   pages = subst ArePages (sym pages) h.pages;
   kept = subst (λ (k : ℕ → Option PageMap). (i : ℕ) → IfSome (k i) AreEachPage) (sym kept) h.kept;
@@ -36,7 +38,8 @@ all_own_in s t numbers first count h others q from to = by_test (is_listed numbe
   by_test false e = h.counts q e ∙ others q from to e
 
 -- each page of a range that is there is there
-pub in_range : (pages : PageMap) (a count n : ℕ) → 1 ≤ count → present (memory_in pages) a count ≡ true → a / 4096 ≤ n → n * 4096 < a + count → IsSome (pages n)
+pub in_range : (pages : PageMap) (a count n : ℕ) → 1 ≤ count → present (memory_in pages) a count ≡ true → a / 4096 ≤ n →
+    n * 4096 < a + count → IsSome (pages n)
 unfolding memory_in
 in_range pages a count n some there low high =
     let k : ℕ = max a (n * 4096) - a in
@@ -55,9 +58,13 @@ low_page pages n h there = by_page (pages n) (h n) there where
   by_page (Some p) i e = i.high
 
 -- where each page is a space's own, what is there can be filled
-pub own_alone : (s : SpaceValue) (a count : ℕ) → present (memory_of s) a count ≡ true → ((n : ℕ) → IsSome ((contents_of s).pages n) → IsOwn (contents_of s) n) → CanFill s a count
-own_alone s a count there own =
-    (there, λ k l. own ((a + k) / 4096) (in_range (contents_of s).pages a count ((a + k) / 4096) (omega (arith, l)) there (omega arith) (omega (arith, l))))
+pub own_alone : (s : SpaceValue) (a count : ℕ) → present (memory_of s) a count ≡ true →
+    ((n : ℕ) → IsSome ((contents_of s).pages n) → IsOwn (contents_of s) n) → CanFill s a count
+own_alone s a count there own = (
+  there,
+  λ k l. own ((a + k) / 4096)
+      (in_range (contents_of s).pages a count ((a + k) / 4096) (omega (arith, l)) there (omega arith) (omega (arith, l))),
+)
 
 -- nothing can be filled
 pub none_to_fill : (s : SpaceValue) (a count : ℕ) → count ≡ 0 → CanFill s a count

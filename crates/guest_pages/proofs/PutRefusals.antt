@@ -13,7 +13,8 @@ writes None = refl
 writes (Some p) = refl
 
 -- a write into the page of some bytes is refused as a store of them is
-pub put_refused : (pages : PageMap) (a count : ℕ) (error : PutFault) → 0 < count → a % 4096 + count ≤ 4096 → IsPutRefusal (pages (a / 4096)) error →
+pub put_refused : (pages : PageMap) (a count : ℕ) (error : PutFault) → 0 < count → a % 4096 + count ≤ 4096 →
+    IsPutRefusal (pages (a / 4096)) error →
     IsStoreRefusal (memory_in pages) a count (fault_for error)
 put_refused pages a count errors.NotMapped some fits h =
     (is_in_page pages a count some fits ∙ ap is_some h, writes_in_page pages a count some fits ∙ ap (page_passes can_write) h)

@@ -33,7 +33,8 @@ permissions_or d (Some c) = c.permissions
 pub same_page : (p q : PageValue) → p.permissions ≡ q.permissions → p.bytes ≡ q.bytes → p ≡ q
 same_page p q e f = λ i. record { permissions = e i; bytes = f i }
 
-same_from_cells : (n : ℕ) (p q : Option PageValue) → IfSome p (IsPage n) → IfSome q (IsPage n) → ((k : ℕ) → k < 4096 → option_map (cell_in k) p ≡ option_map (cell_in k) q) → p ≡ q
+same_from_cells : (n : ℕ) (p q : Option PageValue) → IfSome p (IsPage n) → IfSome q (IsPage n) →
+    ((k : ℕ) → k < 4096 → option_map (cell_in k) p ≡ option_map (cell_in k) q) → p ≡ q
 same_from_cells n None None hp hq e = refl
 same_from_cells n None (Some q) hp hq e = absurd (false≢true (ap is_some (e 0 (omega arith))))
 same_from_cells n (Some p) None hp hq e = absurd (false≢true (sym (ap is_some (e 0 (omega arith)))))

@@ -23,7 +23,8 @@ unfolding snapshots_in
 still_kept kept after n e = ap (option_map memory_in) e
 
 -- what holds of the pages that are kept holds of their memory
-pub of_kept : (kept : ℕ → Option PageMap) (n : ℕ) (P : Memory → Type 0) → IsSomeAnd (kept n) (λ pages. P (memory_in pages)) → IsSomeAnd (snapshots_in kept n) P
+pub of_kept : (kept : ℕ → Option PageMap) (n : ℕ) (P : Memory → Type 0) → IsSomeAnd (kept n) (λ pages. P (memory_in pages)) →
+    IsSomeAnd (snapshots_in kept n) P
 unfolding snapshots_in
 of_kept kept n P h = by_slot (kept n) h where
   by_slot : (o : Option PageMap) → IsSomeAnd o (λ pages. P (memory_in pages)) → IsSomeAnd (option_map memory_in o) P

@@ -15,7 +15,8 @@ use Rattle.guest_pages.proofs.Facts.{is_mapped_in}
 use Rattle.guest_pages.proofs.SameMemory.{in_page}
 
 -- the pages stay pages, snapshots stay, and so many are mapped
-pub is_space : (s t : SpaceValue) (mapped later : ℕ) → IsSpace s mapped → AreEachPage (contents_of t).pages → (contents_of t).kept ≡ (contents_of s).kept
+pub is_space : (s t : SpaceValue) (mapped later : ℕ) → IsSpace s mapped → AreEachPage (contents_of t).pages →
+    (contents_of t).kept ≡ (contents_of s).kept
     → later ≡ page_count (memory_of t) → later ≤ MAX_PAGES → IsSpace t later
 is_space s t mapped later h each kept count few = record {
   pages = record { each = each; limit = subst (λ (k : ℕ). k ≤ MAX_PAGES) count few };
@@ -48,7 +49,8 @@ and_map None P Q h i = absurd i
 and_map (Some x) P Q h i = h x i
 
 -- a space once a snapshot is made
-pub kept_space : (s t : SpaceValue) (mapped number : ℕ) → IsSpace s mapped → IsKept number (contents_of s) (contents_of t) → IsSpace t mapped
+pub kept_space : (s t : SpaceValue) (mapped number : ℕ) → IsSpace s mapped → IsKept number (contents_of s) (contents_of t) →
+    IsSpace t mapped
 kept_space s t mapped number h k = record {
   pages = subst ArePages (sym k.pages) h.pages;
   kept = λ i. elim (eqb_tells i number) [
@@ -59,7 +61,8 @@ kept_space s t mapped number h k = record {
 }
 
 -- and once one is let go
-pub released_space : (s t : SpaceValue) (mapped number : ℕ) → IsSpace s mapped → IsReleased number (contents_of s) (contents_of t) → IsSpace t mapped
+pub released_space : (s t : SpaceValue) (mapped number : ℕ) → IsSpace s mapped → IsReleased number (contents_of s) (contents_of t) →
+    IsSpace t mapped
 released_space s t mapped number h k = record {
   pages = subst ArePages (sym k.pages) h.pages;
   kept = λ i. elim (eqb_tells i number) [
@@ -70,7 +73,8 @@ released_space s t mapped number h k = record {
 }
 
 -- a page that is taken away leaves the others pages
-pub removed_each : (pages after : PageMap) (n : ℕ) → AreEachPage pages → after n ≡ None → ((q : ℕ) → q ≢ n → after q ≡ pages q) → AreEachPage after
+pub removed_each : (pages after : PageMap) (n : ℕ) → AreEachPage pages → after n ≡ None → ((q : ℕ) → q ≢ n → after q ≡ pages q) →
+    AreEachPage after
 removed_each pages after n h gone others q = elim (eqb_tells q n) [
   | inl w ↦ subst (λ k. IfSome (after k) (IsPage k)) (sym w.1) (subst (λ (o : Option PageValue). IfSome o (IsPage n)) (sym gone) tt)
   | inr w ↦ subst (λ (o : Option PageValue). IfSome o (IsPage q)) (sym (others q w.1)) (h q)

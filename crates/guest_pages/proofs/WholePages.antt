@@ -29,7 +29,8 @@ pub page_count_put : (pages : PageMap) (v : PageView) (n : ℕ) → n < 0x80000 
 page_count_put pages v n high absent =
     let m : Memory = memory_in pages in
     let one : page_count (with_page n (Some v) m) ≡ page_count m + (if nat_lt n (2 ^ 20) then 1 else 0) =
-    pages_below_add m (with_page n (Some v) m) n (others_mapped n (Some v) m) (is_mapped_in pages n ∙ ap is_some absent) (here_mapped n v m) (2 ^ 20) in
+    pages_below_add m (with_page n (Some v) m) n (others_mapped n (Some v) m) (is_mapped_in pages n ∙ ap is_some absent) (here_mapped n v m)
+    (2 ^ 20) in
     let low : nat_lt n (2 ^ 20) ≡ true = grind (arith, nat_tests) in
     one ∙ rw low refl
 
@@ -56,16 +57,20 @@ unfolding memory_in
 put_in pages after n page here others = λ i x. at x i where
   at : (x : ℕ) → memory_in after x ≡ with_page n page (memory_in pages) x
   at x = elim (eqb_tells n (x / 4096)) [
-    | inl w ↦ rw w.0 (ap (λ q. option_map (cell_in (x % 4096)) (after q)) (sym w.1) ∙ ap (option_map (cell_in (x % 4096))) here ∙ put_cell page (x % 4096))
+    | inl w ↦ rw w.0
+        (ap (λ q. option_map (cell_in (x % 4096)) (after q)) (sym w.1) ∙ ap (option_map (cell_in (x % 4096))) here
+        ∙ put_cell page (x % 4096))
     | inr w ↦ rw w.0 (ap (option_map (cell_in (x % 4096))) (others (x / 4096) (λ e. w.1 (sym e))))
   ]
 
 -- ---- the pages
 
-pub put_each : (pages after : PageMap) (n : ℕ) (v : PageView) → AreEachPage pages → MayHave n (Some v) → length v.bytes.now ≡ 4096 → ((k : ℕ) → slice_index v.bytes.now k < 256)
+pub put_each : (pages after : PageMap) (n : ℕ) (v : PageView) → AreEachPage pages → MayHave n (Some v) → length v.bytes.now ≡ 4096 →
+    ((k : ℕ) → slice_index v.bytes.now k < 256)
     → after n ≡ Some (page_of v) → ((q : ℕ) → q ≢ n → after q ≡ pages q) → AreEachPage after
 put_each pages after n v h may full small here others q = elim (eqb_tells q n) [
-  | inl w ↦ subst (λ (k : ℕ). IfSome (after k) (IsPage k)) (sym w.1) (subst (λ (o : Option PageValue). IfSome o (IsPage n)) (sym here) is_page)
+  | inl w ↦ subst (λ (k : ℕ). IfSome (after k) (IsPage k)) (sym w.1)
+      (subst (λ (o : Option PageValue). IfSome o (IsPage n)) (sym here) is_page)
   | inr w ↦ subst (λ (o : Option PageValue). IfSome o (IsPage q)) (sym (others q w.1)) (h q)
 ] where
   is_page : IsPage n (page_of v)

@@ -43,25 +43,30 @@ writable_present m a count h = by_test (present m a count) refl where
 
 -- ---- one place, and those that are left
 
-parts : (m : Memory) (place : ℕ) (rest : List ℕ) → all_writable m (place ∷ rest) ≡ true → (writable m place 4 ≡ true) × (all_writable m rest ≡ true)
+parts : (m : Memory) (place : ℕ) (rest : List ℕ) → all_writable m (place ∷ rest) ≡ true → (writable m place 4 ≡ true) ×
+    (all_writable m rest ≡ true)
 unfolding all_writable
 parts m place rest h = and_parts (writable m place 4) (all_writable m rest) h
 
 pub next_place : (m : Memory) (places : List ℕ) (i : ℕ) → i < length places → all_writable m (drop i places) ≡ true →
     (writable m (get_or places i 0) 4 ≡ true) × (all_writable m (drop (i + 1) places) ≡ true)
-next_place m places i below h = parts m (get_or places i 0) (drop (i + 1) places) (ap (all_writable m) (sym (drop_more places i 0 below)) ∙ h)
+next_place m places i below h =
+    parts m (get_or places i 0) (drop (i + 1) places) (ap (all_writable m) (sym (drop_more places i 0 below)) ∙ h)
 
-pub allowed_after : (a : ℕ) (bs : List ℕ) (m : Memory) (places : List ℕ) → all_writable m places ≡ true → all_writable (stored a bs m) places ≡ true
+pub allowed_after : (a : ℕ) (bs : List ℕ) (m : Memory) (places : List ℕ) → all_writable m places ≡ true →
+    all_writable (stored a bs m) places ≡ true
 allowed_after a bs m places h = all_writable-stored a bs m places ∙ h
 
-one_stored : (bs : List ℕ) (m : Memory) (place : ℕ) (rest : List ℕ) → stored_at_each (place ∷ rest) bs m ≡ stored_at_each rest bs (stored place bs m)
+one_stored : (bs : List ℕ) (m : Memory) (place : ℕ) (rest : List ℕ) →
+    stored_at_each (place ∷ rest) bs m ≡ stored_at_each rest bs (stored place bs m)
 unfolding stored_at_each
 one_stored bs m place rest = refl
 
 pub next_stored : (bs : List ℕ) (m : Memory) (places : List ℕ) (i : ℕ) → i < length places →
     stored_at_each (drop (i + 1) places) bs (stored (get_or places i 0) bs m) ≡ stored_at_each (drop i places) bs m
 next_stored bs m places i below =
-    sym (ap (λ (ps : List ℕ). stored_at_each ps bs m) (drop_more places i 0 below) ∙ one_stored bs m (get_or places i 0) (drop (i + 1) places))
+    sym (ap (λ (ps : List ℕ). stored_at_each ps bs m) (drop_more places i 0 below)
+    ∙ one_stored bs m (get_or places i 0) (drop (i + 1) places))
 
 none_left : (bs : List ℕ) (m : Memory) (rest : List ℕ) → rest ≡ [] → stored_at_each rest bs m ≡ m
 unfolding stored_at_each
@@ -86,7 +91,8 @@ pub next_pages : (places : List ℕ) (i : ℕ) → i < length places →
 next_pages places i below = ap word_pages (drop_more places i 0 below) ∙ one_word (get_or places i 0) (drop (i + 1) places)
 
 -- each of them is there, where the words may be written
-pub words_there : (pages : PageMap) (places : List ℕ) → all_writable (memory_in pages) places ≡ true → (n : ℕ) → is_listed (word_pages places) n ≡ true → IsSome (pages n)
+pub words_there : (pages : PageMap) (places : List ℕ) → all_writable (memory_in pages) places ≡ true → (n : ℕ) →
+    is_listed (word_pages places) n ≡ true → IsSome (pages n)
 unfolding word_pages
 words_there pages [] h n e = absurd (false≢true e)
 words_there pages (a ∷ places) h n e =
@@ -104,7 +110,8 @@ listed_later : (x y : ℕ) (xs : List ℕ) (n : ℕ) → is_listed xs n ≡ true
 listed_later x y xs n e = rw e (ap (λ b. (x == n) || b) (or-true (y == n)) ∙ or-true (x == n))
 
 -- and each word lies in two of them
-pub words_own : (s : SpaceValue) (places : List ℕ) → ((n : ℕ) → is_listed (word_pages places) n ≡ true → IsOwn (contents_of s) n) → AreOwnWords s places
+pub words_own : (s : SpaceValue) (places : List ℕ) → ((n : ℕ) → is_listed (word_pages places) n ≡ true → IsOwn (contents_of s) n) →
+    AreOwnWords s places
 unfolding word_pages
 words_own s [] own k l = absurd (omega (arith, l))
 words_own s (a ∷ places) own zero l = λ k m. elim (eqb_tells (a / 4096) ((a + k) / 4096)) [
@@ -116,7 +123,8 @@ words_own s (a ∷ places) own zero l = λ k m. elim (eqb_tells (a / 4096) ((a +
         | inr v ↦ absurd (v.1 last)
       ])
 ]
-words_own s (a ∷ places) own (suc k) l = words_own s places (λ n e. own n (listed_later (a / 4096) ((a + 3) / 4096) (word_pages places) n e)) k (omega (arith, l))
+words_own s (a ∷ places) own (suc k) l =
+    words_own s places (λ n e. own n (listed_later (a / 4096) ((a + 3) / 4096) (word_pages places) n e)) k (omega (arith, l))
 
 -- where some page of a word isn't a space's own, there is a word
 pub some_word : (c : Contents) (places : List ℕ) → (((n : ℕ) → is_listed (word_pages places) n ≡ true → IsOwn c n) → ⊥) → 1 ≤ length places
@@ -126,4 +134,5 @@ some_word c (a ∷ places) h = omega arith
 
 pub two_more : (xs ys zs rest : List ℕ) (a b : ℕ) → ys ≡ xs ++ a ∷ [] → zs ≡ ys ++ b ∷ [] → zs ++ rest ≡ xs ++ a ∷ b ∷ rest
 two_more xs ys zs rest a b e f =
-    ap (λ (l : List ℕ). l ++ rest) (f ∙ ap (λ (l : List ℕ). l ++ b ∷ []) e) ∙ append_assoc (xs ++ a ∷ []) (b ∷ []) rest ∙ append_assoc xs (a ∷ []) (b ∷ rest)
+    ap (λ (l : List ℕ). l ++ rest) (f ∙ ap (λ (l : List ℕ). l ++ b ∷ []) e) ∙ append_assoc (xs ++ a ∷ []) (b ∷ []) rest
+    ∙ append_assoc xs (a ∷ []) (b ∷ rest)

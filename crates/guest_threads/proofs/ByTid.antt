@@ -29,7 +29,8 @@ pub get_thread : (es : List (ℕ × Thread)) (q : ℕ) → get (thread_map es) q
 get_thread es q = get-from_entries nat_cmp_total es q ∙ find_thread es q
 
 -- entries that differ at one tid make maps that differ there
-pub one_set : (es fs : List (ℕ × Thread)) (s : ℕ) (n : Thread) → ((q : ℕ) → entry_at fs q ≡ cond (is_at (nat_cmp s) q) (Some n) (entry_at es q)) →
+pub one_set : (es fs : List (ℕ × Thread)) (s : ℕ) (n : Thread) →
+    ((q : ℕ) → entry_at fs q ≡ cond (is_at (nat_cmp s) q) (Some n) (entry_at es q)) →
     thread_map fs ≡ insert (thread_map es) s n
 one_set es fs s n h = same_map nat_cmp_total nat_cmp-IsAntisymmetric _ _ (λ q.
     get_thread fs q ∙ h q ∙ ap (λ b. cond b (Some n) (entry_at es q)) ((eq_by_cmp_equiv nat_cmp_total).symm s q)
@@ -46,7 +47,8 @@ one_removed es fs s h = same_map nat_cmp_total nat_cmp-IsAntisymmetric _ _ (λ q
 -- no later entry has the first one's tid
 pub none_later : (e : ℕ × Thread) (es : List (ℕ × Thread)) → IsStrictlySortedBy nat_cmp (keys_of (e ∷ es)) → entry_at es e.0 ≡ None
 none_later e es h =
-    lookup-none (is_at (nat_cmp e.0)) es (none_past_head (eq_by_cmp_equiv nat_cmp_total) e.0 e es (IsDistinct-from_sorted nat_cmp (keys_of (e ∷ es)) h) (tied e.0))
+    lookup-none (is_at (nat_cmp e.0)) es
+    (none_past_head (eq_by_cmp_equiv nat_cmp_total) e.0 e es (IsDistinct-from_sorted nat_cmp (keys_of (e ∷ es)) h) (tied e.0))
 
 pub counted : (es : List (ℕ × Thread)) → IsStrictlySortedBy nat_cmp (keys_of es) → length es ≡ len (thread_map es)
 unfolding IsStrictlySortedBy
@@ -55,7 +57,8 @@ counted (e ∷ es) h =
     let rest = counted es h.1 in
     let none : get (thread_map es) e.0 ≡ None = get_thread es e.0 ∙ none_later e es h in
     let one_more : len (thread_map (e ∷ es)) ≡ len (thread_map es) + 1 =
-    len-insert nat_cmp_total (thread_map es) e.0 e.1 ∙ ap (λ (o : Option Thread). cond (is_some o) (len (thread_map es)) (len (thread_map es) + 1)) none in
+    len-insert nat_cmp_total (thread_map es) e.0 e.1
+    ∙ ap (λ (o : Option Thread). cond (is_some o) (len (thread_map es)) (len (thread_map es) + 1)) none in
     omega arith
 
 -- ---- some thread that runs
@@ -70,25 +73,30 @@ pub is_runs : (t : Thread) → t.waits_at ≡ None → runs t ≡ true
 is_runs t e = ap is_none e
 
 -- a thread that a later entry has
-later : (x : ℕ × Thread) (es : List (ℕ × Thread)) → IsStrictlySortedBy nat_cmp (keys_of (x ∷ es)) → (tid : ℕ) (b : Bool) → is_at (nat_cmp tid) x.0 ≡ b →
+later : (x : ℕ × Thread) (es : List (ℕ × Thread)) → IsStrictlySortedBy nat_cmp (keys_of (x ∷ es)) → (tid : ℕ) (b : Bool) →
+    is_at (nat_cmp tid) x.0 ≡ b →
     IsRunning (entry_at es tid) → IsRunning (cond b (Some x.1) (entry_at es tid))
-later x es h tid true t r = absurd (subst (λ (o : Option Thread). IsRunning o) (ap (entry_at es) (same_tid tid x.0 t) ∙ none_later x es h) r)
+later x es h tid true t r =
+    absurd (subst (λ (o : Option Thread). IsRunning o) (ap (entry_at es) (same_tid tid x.0 t) ∙ none_later x es h) r)
 later x es h tid false t r = r
 
 here : (x : ℕ × Thread) (es : List (ℕ × Thread)) → runs x.1 ≡ true → IsRunning (entry_at (x ∷ es) x.0)
 here x es r = subst (λ b. IsRunning (cond b (Some x.1) (entry_at es x.0))) (sym (tied x.0)) (runs_is x.1 r)
 
-either : (x : ℕ × Thread) (es : List (ℕ × Thread)) → IsStrictlySortedBy nat_cmp (keys_of (x ∷ es)) → (a b : Bool) → runs x.1 ≡ a → a || b ≡ true →
+either : (x : ℕ × Thread) (es : List (ℕ × Thread)) → IsStrictlySortedBy nat_cmp (keys_of (x ∷ es)) → (a b : Bool) → runs x.1 ≡ a →
+    a || b ≡ true →
     (b ≡ true → (tid : ℕ) × IsRunning (entry_at es tid)) → (tid : ℕ) × IsRunning (entry_at (x ∷ es) tid)
 either x es h true b r e f = (x.0, here x es r)
 either x es h false b r e f = let p = f e in (p.0, later x es h p.0 _ refl p.1)
 
-pub some_runs : (es : List (ℕ × Thread)) → IsStrictlySortedBy nat_cmp (keys_of es) → list_any runs (values_of es) ≡ true → (tid : ℕ) × IsRunning (entry_at es tid)
+pub some_runs : (es : List (ℕ × Thread)) → IsStrictlySortedBy nat_cmp (keys_of es) → list_any runs (values_of es) ≡ true → (tid : ℕ) ×
+    IsRunning (entry_at es tid)
 unfolding IsStrictlySortedBy
 some_runs [] h e = absurd (false≢true e)
 some_runs (x ∷ es) h e = either x es h (runs x.1) (list_any runs (values_of es)) refl e (some_runs es h.1)
 
-joins : (x : ℕ × Thread) (o : Option Thread) (a b : Bool) → IsRunning (cond a (Some x.1) o) → (IsRunning o → b ≡ true) → runs x.1 || b ≡ true
+joins : (x : ℕ × Thread) (o : Option Thread) (a b : Bool) → IsRunning (cond a (Some x.1) o) → (IsRunning o → b ≡ true) →
+    runs x.1 || b ≡ true
 joins x o true b r f = ap (λ c. c || b) (is_runs x.1 r)
 joins x o false b r f = ap (λ c. runs x.1 || c) (f r) ∙ or-true (runs x.1)
 

@@ -22,7 +22,8 @@ on_err (Err e) p = p
 
 -- ---- their order
 
-kept_above : (k : ℕ) (es : List (ℕ × Thread)) → AllByRecursion (λ y. nat_cmp k y ≡ Less) (keys_of es) → AllByRecursion (λ y. nat_cmp k y ≡ Less) (running_in es)
+kept_above : (k : ℕ) (es : List (ℕ × Thread)) → AllByRecursion (λ y. nat_cmp k y ≡ Less) (keys_of es) →
+    AllByRecursion (λ y. nat_cmp k y ≡ Less) (running_in es)
 kept_above k [] h = tt
 kept_above k (e ∷ es) h = by (runs e.1) (kept_above k es h.1) where
   by : (b : Bool) → AllByRecursion (λ y. nat_cmp k y ≡ Less) (running_in es) →
@@ -34,7 +35,8 @@ sorted : (es : List (ℕ × Thread)) → IsStrictlySortedBy nat_cmp (keys_of es)
 unfolding IsStrictlySortedBy
 sorted [] h = tt
 sorted (e ∷ es) h = sorted_by e es (runs e.1) h.0 (sorted es h.1) where
-  sorted_by : (e : ℕ × Thread) (es : List (ℕ × Thread)) (b : Bool) → AllByRecursion (λ y. nat_cmp e.0 y ≡ Less) (keys_of es) → IsStrictlySortedBy nat_cmp (running_in es) →
+  sorted_by : (e : ℕ × Thread) (es : List (ℕ × Thread)) (b : Bool) → AllByRecursion (λ y. nat_cmp e.0 y ≡ Less) (keys_of es) →
+      IsStrictlySortedBy nat_cmp (running_in es) →
       IsStrictlySortedBy nat_cmp (keys_of (cond b (e ∷ filter (λ e. runs e.1) es) (filter (λ e. runs e.1) es)))
   sorted_by e es true first rest = (kept_above e.0 es first, rest)
   sorted_by e es false first rest = rest
@@ -58,7 +60,8 @@ there_is None e = absurd (false≢true e)
 there_is (Some t) e = runs_is t e
 
 -- one entry before the others
-one_before : (q : ℕ) (e : ℕ × Thread) (es : List (ℕ × Thread)) (a b : Bool) → eq_by_cmp nat_cmp q e.0 ≡ a → runs e.1 ≡ b → entry_at es e.0 ≡ None →
+one_before : (q : ℕ) (e : ℕ × Thread) (es : List (ℕ × Thread)) (a b : Bool) → eq_by_cmp nat_cmp q e.0 ≡ a → runs e.1 ≡ b →
+    entry_at es e.0 ≡ None →
     list_any (eq_by_cmp nat_cmp q) (running_in es) ≡ runs_there (entry_at es q) →
     list_any (eq_by_cmp nat_cmp q) (keys_of (cond b (e ∷ filter (λ e. runs e.1) es) (filter (λ e. runs e.1) es)))
     ≡ runs_there (cond a (Some e.1) (entry_at es q))
@@ -68,16 +71,19 @@ one_before q e es true false at r none rest =
 one_before q e es false true at r none rest = ap (λ b. b || list_any (eq_by_cmp nat_cmp q) (running_in es)) at ∙ rest
 one_before q e es false false at r none rest = rest
 
-found : (q : ℕ) (es : List (ℕ × Thread)) → IsStrictlySortedBy nat_cmp (keys_of es) → list_any (eq_by_cmp nat_cmp q) (running_in es) ≡ runs_there (entry_at es q)
+found : (q : ℕ) (es : List (ℕ × Thread)) → IsStrictlySortedBy nat_cmp (keys_of es) →
+    list_any (eq_by_cmp nat_cmp q) (running_in es) ≡ runs_there (entry_at es q)
 unfolding IsStrictlySortedBy
 found q [] h = refl
 found q (e ∷ es) h = one_before q e es (eq_by_cmp nat_cmp q e.0) (runs e.1) refl refl (none_later e es h) (found q es h.1)
 
-pub which : (es : List (ℕ × Thread)) → IsStrictlySortedBy nat_cmp (keys_of es) → (tid : ℕ) → Contains (running_in es) tid ↔ IsRunning (get (thread_map es) tid)
+pub which : (es : List (ℕ × Thread)) → IsStrictlySortedBy nat_cmp (keys_of es) → (tid : ℕ) →
+    Contains (running_in es) tid ↔ IsRunning (get (thread_map es) tid)
 which es h tid =
     let here = get_thread es tid in (
       λ c. subst (λ (o : Option Thread). IsRunning o) (sym here)
-          (there_is (entry_at es tid) (sym (found tid es h) ∙ list_any-from_Contains (eq_by_cmp_equiv nat_cmp_total) tid (running_in es) c)),
+          (there_is (entry_at es tid)
+          (sym (found tid es h) ∙ list_any-from_Contains (eq_by_cmp_equiv nat_cmp_total) tid (running_in es) c)),
       λ r. Contains-from_any same_tid tid (running_in es)
           (found tid es h ∙ is_there (entry_at es tid) (subst (λ (o : Option Thread). IsRunning o) here r)),
     )

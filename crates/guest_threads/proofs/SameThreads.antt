@@ -25,20 +25,25 @@ same_place (Some x) (Some y) = (λ e. ap Some ((Decides-eqb x y).0 e), λ e. (De
 
 -- what `==` of two threads says
 pub same_thread : (a b : Thread) →
-    Decides ((eqb a.regs.pc b.regs.pc && pointwise eqb a.regs.registers b.regs.registers) && (option_eq eqb a.waits_at b.waits_at && eqb a.clear b.clear)) (a ≡ b)
+    Decides ((eqb a.regs.pc b.regs.pc && pointwise eqb a.regs.registers b.regs.registers)
+    && (option_eq eqb a.waits_at b.waits_at && eqb a.clear b.clear)) (a ≡ b)
 same_thread a b =
     let regs = Decides-and _ _ (Decides-eqb a.regs.pc b.regs.pc) (slice_eq-Decides Decides-eqb a.regs.registers b.regs.registers _ refl) in
     let rest = Decides-and _ _ (same_place a.waits_at b.waits_at) (Decides-eqb a.clear b.clear) in
     let all = Decides-and _ _ regs rest in (
       λ e. let h = all.0 e in
           λ i. record { regs = record { pc = h.0.0 i; registers = h.0.1 i }; waits_at = h.1.0 i; clear = h.1.1 i },
-      λ e. all.1 ((ap (λ (t : Thread). t.regs.pc) e, ap (λ (t : Thread). t.regs.registers) e), (ap (λ (t : Thread). t.waits_at) e, ap (λ (t : Thread). t.clear) e)),
+      λ e. all.1 (
+        (ap (λ (t : Thread). t.regs.pc) e, ap (λ (t : Thread). t.regs.registers) e),
+        (ap (λ (t : Thread). t.waits_at) e, ap (λ (t : Thread). t.clear) e),
+      ),
     )
 
 -- ---- all threads of a guest
 
 -- the tids rise, so the finite map tells the list
-pub same_list : (a b : BTreeMap ℕ Thread) → IsOrdered nat_cmp a → IsOrdered nat_cmp b → thread_map a.entries ≡ thread_map b.entries → a.entries ≡ b.entries
+pub same_list : (a b : BTreeMap ℕ Thread) → IsOrdered nat_cmp a → IsOrdered nat_cmp b → thread_map a.entries ≡ thread_map b.entries →
+    a.entries ≡ b.entries
 same_list a b ha hb e =
     btree_map_from_get nat_cmp_total a b ha hb
     (λ q. sym (get_thread a.entries q) ∙ ap (λ (m : FinMap nat_cmp Thread). get m q) e ∙ get_thread b.entries q)
@@ -49,13 +54,17 @@ same_list a b ha hb e =
 abbrev pub value_of : List (ℕ × Thread) → List ℕ → ℕ → ThreadsValue
 value_of es order next = record { threads = es; waiting = order; next_tid = next }
 
-module _ (es fs : List (ℕ × Thread)) (order order' : List ℕ) (next next' : ℕ) (a b : ThreadsValue) (is_a : value_of es order next ≡ a) (is_b : value_of fs order' next' ≡ b) where
+module _ (es fs : List (ℕ × Thread)) (order order' : List ℕ) (next next' : ℕ) (a b : ThreadsValue) (is_a : value_of es order next ≡ a)
+    (is_b : value_of fs order' next' ≡ b) where
   pub same_states : thread_map es ≡ thread_map fs → order ≡ order' → next ≡ next' → (s : State) → with_threads a s ≡ with_threads b s
   same_states e f g s =
-      ap (λ (v : ThreadsValue). with_threads v s) (sym is_a) ∙ (λ i. record s { threads = e i; waiting = f i; next_tid = g i }) ∙ ap (λ (v : ThreadsValue). with_threads v s) is_b
+      ap (λ (v : ThreadsValue). with_threads v s) (sym is_a) ∙ (λ i. record s { threads = e i; waiting = f i; next_tid = g i })
+      ∙ ap (λ (v : ThreadsValue). with_threads v s) is_b
 
-  as_one : ((s : State) → with_threads a s ≡ with_threads b s) → with_threads (value_of es order next) (alone a) ≡ with_threads (value_of fs order' next') (alone a)
-  as_one h = ap (λ (v : ThreadsValue). with_threads v (alone a)) is_a ∙ h (alone a) ∙ ap (λ (v : ThreadsValue). with_threads v (alone a)) (sym is_b)
+  as_one : ((s : State) → with_threads a s ≡ with_threads b s) →
+      with_threads (value_of es order next) (alone a) ≡ with_threads (value_of fs order' next') (alone a)
+  as_one h = ap (λ (v : ThreadsValue). with_threads v (alone a)) is_a ∙ h (alone a)
+      ∙ ap (λ (v : ThreadsValue). with_threads v (alone a)) (sym is_b)
 
   pub same_maps : ((s : State) → with_threads a s ≡ with_threads b s) → thread_map es ≡ thread_map fs
   same_maps h = ap (λ (s : State). s.threads) (as_one h)

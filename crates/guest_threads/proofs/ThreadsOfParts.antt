@@ -33,9 +33,11 @@ increases (p ∷ []) e k lt = absurd (omega arith)
 increases (p ∷ q ∷ parts) e zero lt = ltb-true p.tid q.tid (and_parts (nat_lt p.tid q.tid) (tids_rise (q ∷ parts)) e).0
 increases (p ∷ q ∷ parts) e (suc k) lt =
     let rest = (and_parts (nat_lt p.tid q.tid) (tids_rise (q ∷ parts)) e).1 in
-    let later : slice_index (map (λ (p : ThreadPart). p.tid) (q ∷ parts)) k < slice_index (map (λ (p : ThreadPart). p.tid) (q ∷ parts)) (k + 1) = increases (q ∷ parts) rest k (omega arith) in
+    let later : slice_index (map (λ (p : ThreadPart). p.tid) (q ∷ parts)) k
+    < slice_index (map (λ (p : ThreadPart). p.tid) (q ∷ parts)) (k + 1) = increases (q ∷ parts) rest k (omega arith) in
     let same : suc (k + 1) ≡ suc k + 1 = omega arith in
-    subst (λ (j : ℕ). slice_index (map (λ (p : ThreadPart). p.tid) (q ∷ parts)) k < slice_index (map (λ (p : ThreadPart). p.tid) (p ∷ q ∷ parts)) j) same later
+    subst (λ (j : ℕ). slice_index (map (λ (p : ThreadPart). p.tid) (q ∷ parts)) k
+    < slice_index (map (λ (p : ThreadPart). p.tid) (p ∷ q ∷ parts)) j) same later
 
 pub rises_where : (parts : List ThreadPart) → IsStrictlyIncreasing (map (λ p. p.tid) parts) → tids_rise parts ≡ true
 rises_where [] h = refl
@@ -44,30 +46,35 @@ rises_where (p ∷ q ∷ parts) h =
     let first : p.tid < q.tid = h 0 (omega arith) in
     let later : IsStrictlyIncreasing (map (λ (p : ThreadPart). p.tid) (q ∷ parts)) = λ k lt.
     let same : suc k + 1 ≡ suc (k + 1) = omega arith in
-    subst (λ (j : ℕ). slice_index (map (λ (p : ThreadPart). p.tid) (q ∷ parts)) k < slice_index (map (λ (p : ThreadPart). p.tid) (p ∷ q ∷ parts)) j) same (h (suc k) (omega arith)) in
+    subst (λ (j : ℕ). slice_index (map (λ (p : ThreadPart). p.tid) (q ∷ parts)) k
+    < slice_index (map (λ (p : ThreadPart). p.tid) (p ∷ q ∷ parts)) j) same (h (suc k) (omega arith)) in
     and_from (nat_lt p.tid q.tid) (tids_rise (q ∷ parts)) (lt-ltb p.tid q.tid first) (rises_where (q ∷ parts) later)
 
 keys_told : (parts : List ThreadPart) → keys_of (entries_of parts) ≡ map (λ p. p.tid) parts
 keys_told [] = refl
 keys_told (p ∷ parts) = ap (λ (ks : List ℕ). p.tid ∷ ks) (keys_told parts)
 
-sorted_told : (parts : List ThreadPart) → IsStrictlyIncreasing (map (λ p. p.tid) parts) → IsStrictlySortedBy nat_cmp (keys_of (entries_of parts))
+sorted_told : (parts : List ThreadPart) → IsStrictlyIncreasing (map (λ p. p.tid) parts) →
+    IsStrictlySortedBy nat_cmp (keys_of (entries_of parts))
 sorted_told parts h = subst (λ (ks : List ℕ). IsStrictlySortedBy nat_cmp ks) (sym (keys_told parts)) (sorted_from_strictly_increasing _ h)
 
 -- the tids of entries that stand in order rise
 pub told_rising : (parts : List ThreadPart) (es : List (ℕ × Thread)) → entries_of parts ≡ es → IsStrictlySortedBy nat_cmp (keys_of es)
     → IsStrictlyIncreasing (map (λ p. p.tid) parts)
 told_rising parts es told ordered =
-    let keys : keys_of es ≡ map (λ (p : ThreadPart). p.tid) parts = ap (λ (entries : List (ℕ × Thread)). keys_of entries) (sym told) ∙ keys_told parts in
+    let keys : keys_of es ≡ map (λ (p : ThreadPart). p.tid) parts =
+    ap (λ (entries : List (ℕ × Thread)). keys_of entries) (sym told) ∙ keys_told parts in
     subst (λ (ks : List ℕ). IsStrictlyIncreasing ks) keys (IsStrictlyIncreasing-from_sorted (keys_of es) ordered)
 
 -- ---- the threads by tid
 
 -- what holds of each part holds of what is found under a tid
-found : (P : ℕ → Thread → Type 0) (parts : List ThreadPart) → AllByRecursion (λ p. P p.tid p.thread) parts → (q : ℕ) → IfSome (entry_at (entries_of parts) q) (P q)
+found : (P : ℕ → Thread → Type 0) (parts : List ThreadPart) → AllByRecursion (λ p. P p.tid p.thread) parts → (q : ℕ) →
+    IfSome (entry_at (entries_of parts) q) (P q)
 found P [] h q = tt
 found P (p ∷ parts) h q = by (is_at (nat_cmp q) p.tid) refl (found P parts h.1 q) where
-  by : (b : Bool) → is_at (nat_cmp q) p.tid ≡ b → IfSome (entry_at (entries_of parts) q) (P q) → IfSome (cond b (Some p.thread) (entry_at (entries_of parts) q)) (P q)
+  by : (b : Bool) → is_at (nat_cmp q) p.tid ≡ b → IfSome (entry_at (entries_of parts) q) (P q) →
+      IfSome (cond b (Some p.thread) (entry_at (entries_of parts) q)) (P q)
   by true e rest = subst (λ (k : ℕ). P k p.thread) (sym (same_tid q p.tid e)) h.0
   by false e rest = rest
 
@@ -82,7 +89,8 @@ each P (p ∷ parts) sorted h = (
 ) where
   by : (q : ℕ) (b : Bool) → is_at (nat_cmp q) p.tid ≡ b → IfSome (entry_at (entries_of parts) q) (P q)
   by q true e =
-      let none : entry_at (entries_of parts) q ≡ None = ap (entry_at (entries_of parts)) (same_tid q p.tid e) ∙ none_later (p.tid, p.thread) (entries_of parts) sorted in
+      let none : entry_at (entries_of parts) q ≡ None =
+      ap (entry_at (entries_of parts)) (same_tid q p.tid e) ∙ none_later (p.tid, p.thread) (entries_of parts) sorted in
       subst (λ (o : Option Thread). IfSome o (P q)) (sym none) tt
   by q false e = subst (λ (b : Bool). IfSome (cond b (Some p.thread) (entry_at (entries_of parts) q)) (P q)) e (h q)
 
@@ -104,15 +112,20 @@ waits_too : (o : Option ThreadPart) → IsWaiting (option_map (λ p. p.thread) o
 waits_too None h = absurd h
 waits_too (Some p) h = h
 
-map_at : (parts : List ThreadPart) (q : ℕ) → get (thread_map (entries_of parts)) q ≡ option_map (λ p. p.thread) (find (λ p. p.tid == q) parts)
+map_at : (parts : List ThreadPart) (q : ℕ) →
+    get (thread_map (entries_of parts)) q ≡ option_map (λ p. p.thread) (find (λ p. p.tid == q) parts)
 map_at parts q = get_thread (entries_of parts) q ∙ first_of parts q
 
-named_wait : (parts : List ThreadPart) (order : List ℕ) → order_fits parts order ≡ true → AllByRecursion (λ q. IsWaiting (get (thread_map (entries_of parts)) q)) order
+named_wait : (parts : List ThreadPart) (order : List ℕ) → order_fits parts order ≡ true →
+    AllByRecursion (λ q. IsWaiting (get (thread_map (entries_of parts)) q)) order
 named_wait parts [] e = tt
 named_wait parts (q ∷ order) e =
-    let a = and_parts (waits_in (find (λ (p : ThreadPart). p.tid == q) parts) && not (list_any (λ other. other == q) order)) (order_fits parts order) e in
-    let b = and_parts (waits_in (find (λ (p : ThreadPart). p.tid == q) parts)) (not (list_any (λ other. other == q) order)) a.0 in
-    (subst (λ (o : Option Thread). IsWaiting o) (sym (map_at parts q)) (waits (find (λ p. p.tid == q) parts) b.0), named_wait parts order a.1)
+    let a = and_parts (waits_in (find (λ (p : ThreadPart). p.tid == q) parts) && not (list_any (λ other. other == q) order))
+    (order_fits parts order) e in
+    let b = and_parts (waits_in (find (λ (p : ThreadPart). p.tid == q) parts)) (not (list_any (λ other. other == q) order)) a.0 in (
+      subst (λ (o : Option Thread). IsWaiting o) (sym (map_at parts q)) (waits (find (λ p. p.tid == q) parts) b.0),
+      named_wait parts order a.1,
+    )
 
 -- two tids are the same, the later one first
 abbrev same : ℕ → ℕ → Bool
@@ -134,15 +147,18 @@ distinct : (parts : List ThreadPart) (order : List ℕ) → order_fits parts ord
 unfolding IsDistinct
 distinct parts [] e = tt
 distinct parts (q ∷ order) e =
-    let a = and_parts (waits_in (find (λ (p : ThreadPart). p.tid == q) parts) && not (list_any (same q) order)) (order_fits parts order) e in
+    let a = and_parts (waits_in (find (λ (p : ThreadPart). p.tid == q) parts) && not (list_any (same q) order)) (order_fits parts order)
+    e in
     let b = and_parts (waits_in (find (λ (p : ThreadPart). p.tid == q) parts)) (not (list_any (same q) order)) a.0 in
     (none_same q order (none_is_not (list_any (same q) order) b.1), distinct parts order a.1)
 
-order_of : (parts : List ThreadPart) (order : List ℕ) → AllByRecursion (λ q. IsWaiting (get (thread_map (entries_of parts)) q)) order → IsDistinct same order → order_fits parts order ≡ true
+order_of : (parts : List ThreadPart) (order : List ℕ) → AllByRecursion (λ q. IsWaiting (get (thread_map (entries_of parts)) q)) order →
+    IsDistinct same order → order_fits parts order ≡ true
 unfolding IsDistinct
 order_of parts [] h d = refl
 order_of parts (q ∷ order) h d =
-    let waiting : waits_in (find (λ (p : ThreadPart). p.tid == q) parts) ≡ true = waits_too (find (λ p. p.tid == q) parts) (subst (λ (o : Option Thread). IsWaiting o) (map_at parts q) h.0) in
+    let waiting : waits_in (find (λ (p : ThreadPart). p.tid == q) parts) ≡ true =
+    waits_too (find (λ p. p.tid == q) parts) (subst (λ (o : Option Thread). IsWaiting o) (map_at parts q) h.0) in
     let once : list_any (same q) order ≡ false = none_same_too q order d.0 in
     rw (waiting, once) (order_of parts order h.1 d.1)
 
@@ -155,12 +171,14 @@ if_some : {P Q : Thread → Type 0} (o : Option Thread) → ((t : Thread) → P 
 if_some None f h = tt
 if_some (Some t) f h = f t h
 
-if_both : (o : Option Thread) (order : List ℕ) (next q : ℕ) → IfSome o (λ _. (1 ≤ q) × (q < next)) → IfSome o IsThread → (IsWaiting o → Contains order q) →
+if_both : (o : Option Thread) (order : List ℕ) (next q : ℕ) → IfSome o (λ _. (1 ≤ q) × (q < next)) → IfSome o IsThread →
+    (IsWaiting o → Contains order q) →
     IfSome o (λ t. Fits order next (record { tid = q; thread = t }))
 if_both None order next q tid thread named = tt
 if_both (Some t) order next q tid thread named = record { tid = tid; thread = thread; named = named }
 
-named_there : (o : Option Thread) (order : List ℕ) (next q : ℕ) → IfSome o (λ t. Fits order next (record { tid = q; thread = t })) → IsWaiting o → Contains order q
+named_there : (o : Option Thread) (order : List ℕ) (next q : ℕ) → IfSome o (λ t. Fits order next (record { tid = q; thread = t })) →
+    IsWaiting o → Contains order q
 named_there None order next q h w = absurd w
 named_there (Some t) order next q h w = h.named w
 
@@ -175,12 +193,17 @@ makes parts order next few low high rise fit fits =
       tids_rising = rising;
       rules = record {
         threads = λ q. if_some (get (thread_map (entries_of parts)) q) (λ t h. h.thread) (at q);
-        live = omega (arith, counted (entries_of parts) (sorted_told parts rising), length-map parts (λ (p : ThreadPart). let e : ℕ × Thread = (p.tid, p.thread) in e));
+        live = omega (
+          arith,
+          counted (entries_of parts) (sorted_told parts rising),
+          length-map parts (λ (p : ThreadPart). let e : ℕ × Thread = (p.tid, p.thread) in e),
+        );
         tids = λ q. if_some (get (thread_map (entries_of parts)) q) (λ t h. h.tid) (at q);
         first = low;
         next_tid = high;
         waiting = λ q. (
-          λ c. All-contains (λ q. IsWaiting (get (thread_map (entries_of parts)) q)) order q (All-from_recursion _ order (named_wait parts order fits)) c,
+          λ c. All-contains (λ q. IsWaiting (get (thread_map (entries_of parts)) q)) order q
+              (All-from_recursion _ order (named_wait parts order fits)) c,
           named_there (get (thread_map (entries_of parts)) q) order next q (at q),
         );
         waiting_once = AllPairs-from_IsDistinct same_decides order (distinct parts order fits);
@@ -191,7 +214,12 @@ makes parts order next few low high rise fit fits =
 
 module _ (parts : List ThreadPart) (order : List ℕ) (next : ℕ) (h : MakeThreads parts order next) where
   pub few : length parts ≤ 16
-  few = omega (arith, h.rules.live, counted (entries_of parts) (sorted_told parts h.tids_rising), length-map parts (λ (p : ThreadPart). let e : ℕ × Thread = (p.tid, p.thread) in e))
+  few = omega (
+    arith,
+    h.rules.live,
+    counted (entries_of parts) (sorted_told parts h.tids_rising),
+    length-map parts (λ (p : ThreadPart). let e : ℕ × Thread = (p.tid, p.thread) in e),
+  )
 
   pub rise : tids_rise parts ≡ true
   rise = rises_where parts h.tids_rising
@@ -205,7 +233,8 @@ module _ (parts : List ThreadPart) (order : List ℕ) (next : ℕ) (h : MakeThre
   ordered = order_of parts order
       (recursion_from_All (λ q. IsWaiting (get (thread_map (entries_of parts)) q)) order (all_named order (λ q c. (h.rules.waiting q).0 c)))
       (IsDistinct-from_AllPairs same_decides order h.rules.waiting_once) where
-        all_named : (order : List ℕ) → ((q : ℕ) → Contains order q → IsWaiting (get (thread_map (entries_of parts)) q)) → All (λ q. IsWaiting (get (thread_map (entries_of parts)) q)) order
+        all_named : (order : List ℕ) → ((q : ℕ) → Contains order q → IsWaiting (get (thread_map (entries_of parts)) q)) →
+            All (λ q. IsWaiting (get (thread_map (entries_of parts)) q)) order
         all_named order f = λ k d l. f _ (All-contains_itself order k d l)
 
   -- each waiting thread stands once in the order
@@ -218,7 +247,8 @@ module _ (parts : List ThreadPart) (order : List ℕ) (next : ℕ) (h : MakeThre
       omega (arith, among, length-map parts (λ (p : ThreadPart). let e : ℕ × Thread = (p.tid, p.thread) in e), few) where
         apart_by_cmp : IsDistinct (eq_by_cmp nat_cmp) order
         apart_by_cmp = IsDistinct-from_apart (eq_by_cmp nat_cmp) order (λ i j d below inside.
-            by_cmp (get_or order i d) (get_or order j d) (unequal (get_or order i d) (get_or order j d) (h.rules.waiting_once i j d below inside)))
+            by_cmp (get_or order i d) (get_or order j d)
+            (unequal (get_or order i d) (get_or order j d) (h.rules.waiting_once i j d below inside)))
 
         is_there : (o : Option Thread) → IsWaiting o → IsSome o
         is_there None w = absurd w

@@ -21,15 +21,18 @@ abbrev apart : ℕ → ℕ → Bool
 apart a b = nat_eq b a
 
 distinct : (xs : List ℕ) → AllPairs (λ a b. a ≢ b) xs → IsDistinct apart xs
-distinct xs h = IsDistinct-from_apart apart xs (λ i j d below inside. unequal (get_or xs j d) (get_or xs i d) (λ e. h i j d below inside (sym e)))
+distinct xs h =
+    IsDistinct-from_apart apart xs (λ i j d below inside. unequal (get_or xs j d) (get_or xs i d) (λ e. h i j d below inside (sym e)))
 
 none_left : (x : ℕ) (xs : List ℕ) → AllByRecursion (λ y. apart x y ≡ false) xs → without x xs ≡ xs
 none_left x [] h = refl
 none_left x (y ∷ ys) h = ap (λ b. cond (not b) (y ∷ without x ys) (without x ys)) h.0 ∙ ap (λ zs. y ∷ zs) (none_left x ys h.1)
 
-kept_apart : (x : ℕ) (p : ℕ → Bool) (xs : List ℕ) → AllByRecursion (λ y. apart x y ≡ false) xs → AllByRecursion (λ y. apart x y ≡ false) (filter p xs)
+kept_apart : (x : ℕ) (p : ℕ → Bool) (xs : List ℕ) → AllByRecursion (λ y. apart x y ≡ false) xs →
+    AllByRecursion (λ y. apart x y ≡ false) (filter p xs)
 kept_apart x p xs h =
-    recursion_from_All (λ y. apart x y ≡ false) (filter p xs) (All-filter p (λ y. apart x y ≡ false) xs (All-from_recursion (λ y. apart x y ≡ false) xs h))
+    recursion_from_All (λ y. apart x y ≡ false) (filter p xs)
+    (All-filter p (λ y. apart x y ≡ false) xs (All-from_recursion (λ y. apart x y ≡ false) xs h))
 
 head_out : (x tid : ℕ) (ys : List ℕ) → AllByRecursion (λ y. apart x y ≡ false) ys → x ≡ tid → x ∷ ys ≡ tid ∷ without tid (x ∷ ys)
 head_out x tid ys h e =
@@ -43,11 +46,13 @@ never : (tid : ℕ) → None ≡ Some tid → ⊥
 never tid e = absurd (cc)
 
 -- the first of those that pass, and the others
-first_out : (p : ℕ → Bool) (xs : List ℕ) (tid : ℕ) → IsDistinct apart xs → find p xs ≡ Some tid → filter p xs ≡ tid ∷ without tid (filter p xs)
+first_out : (p : ℕ → Bool) (xs : List ℕ) (tid : ℕ) → IsDistinct apart xs → find p xs ≡ Some tid →
+    filter p xs ≡ tid ∷ without tid (filter p xs)
 first_out p [] tid d e = absurd (never tid e)
 first_out p (x ∷ xs) tid d e = by (first_out p xs tid (IsDistinct-tail apart x xs d)) (p x) e where
   by : (find p xs ≡ Some tid → filter p xs ≡ tid ∷ without tid (filter p xs)) → (b : Bool) →
-      cond b (Some x) (find p xs) ≡ Some tid → cond b (x ∷ filter p xs) (filter p xs) ≡ tid ∷ without tid (cond b (x ∷ filter p xs) (filter p xs))
+      cond b (Some x) (find p xs) ≡ Some tid →
+      cond b (x ∷ filter p xs) (filter p xs) ≡ tid ∷ without tid (cond b (x ∷ filter p xs) (filter p xs))
   by rest true e = head_out x tid (filter p xs) (kept_apart x p xs (IsDistinct-head apart x xs d)) (same_some x tid e)
   by rest false e = rest e
 
@@ -59,7 +64,8 @@ none_pass p (x ∷ xs) e = by (none_pass p xs) (p x) e where
   by rest false e = rest e
 
 -- two tests that agree but for one number
-agree : (p p' : ℕ → Bool) (tid : ℕ) → ((q : ℕ) → nat_eq q tid ≡ false → p' q ≡ p q) → (xs : List ℕ) → filter p' (without tid xs) ≡ without tid (filter p xs)
+agree : (p p' : ℕ → Bool) (tid : ℕ) → ((q : ℕ) → nat_eq q tid ≡ false → p' q ≡ p q) → (xs : List ℕ) →
+    filter p' (without tid xs) ≡ without tid (filter p xs)
 agree p p' tid h [] = refl
 agree p p' tid h (x ∷ xs) = by (agree p p' tid h xs) (nat_eq x tid) (p x) refl refl where
   by : filter p' (without tid xs) ≡ without tid (filter p xs) → (b c : Bool) → nat_eq x tid ≡ b → p x ≡ c →
@@ -117,10 +123,15 @@ pub record WakesOn (a count done : ℕ) (old now : ThreadsValue) : Type 0 where
 pub begins : (a count : ℕ) (v : ThreadsValue) → WakesOn a count 0 v v
 begins a count v =
     let all : count ≡ count - 0 = omega arith in
-    record { state = λ s. ap (λ n. wakes a n (with_threads v s)) all; many = λ s. omega (arith, ap (λ n. length (waiters (with_threads v s) a n)) all) }
+    record {
+      state = λ s. ap (λ n. wakes a n (with_threads v s)) all;
+      many = λ s. omega (arith, ap (λ n. length (waiters (with_threads v s) a n)) all);
+    }
 
-pub goes_on : (a count done tid : ℕ) (old mid new : ThreadsValue) → WakesOn a count done old mid → done < count → AllPairs (λ a b. a ≢ b) mid.waiting →
-    ((s : State) → Some tid ≡ find (waits_at (with_threads mid s) a) mid.waiting) → ((s : State) → with_threads new s ≡ woken (with_threads mid s) tid) →
+pub goes_on : (a count done tid : ℕ) (old mid new : ThreadsValue) → WakesOn a count done old mid → done < count →
+    AllPairs (λ a b. a ≢ b) mid.waiting →
+    ((s : State) → Some tid ≡ find (waits_at (with_threads mid s) a) mid.waiting) →
+    ((s : State) → with_threads new s ≡ woken (with_threads mid s) tid) →
     WakesOn a count (done + 1) old new
 goes_on a count done tid old mid new h below once first is =
     let left : count - done ≡ suc (count - (done + 1)) = omega arith in
@@ -134,15 +145,20 @@ goes_on a count done tid old mid new h below once first is =
     }
 
 pub none_left_to_wake : (a count done : ℕ) (old now : ThreadsValue) → WakesOn a count done old now →
-    ((s : State) → None ≡ find (waits_at (with_threads now s) a) now.waiting) → (s : State) → done ≡ length (waiters (with_threads old s) a count)
-none_left_to_wake a count done old now h none s = omega (arith, h.many s, ap length (no_waiters (with_threads now s) a (count - done) (sym (none s))))
+    ((s : State) → None ≡ find (waits_at (with_threads now s) a) now.waiting) → (s : State) →
+    done ≡ length (waiters (with_threads old s) a count)
+none_left_to_wake a count done old now h none s =
+    omega (arith, h.many s, ap length (no_waiters (with_threads now s) a (count - done) (sym (none s))))
 
 pub all_woken : (a count done : ℕ) (old now : ThreadsValue) → WakesOn a count done old now →
-    ((s : State) → None ≡ find (waits_at (with_threads now s) a) now.waiting) → (s : State) → with_threads now s ≡ wakes a count (with_threads old s)
+    ((s : State) → None ≡ find (waits_at (with_threads now s) a) now.waiting) → (s : State) →
+    with_threads now s ≡ wakes a count (with_threads old s)
 all_woken a count done old now h none s =
-    sym (h.state s ∙ ap (λ (tids : List ℕ). fold woken (with_threads now s) tids) (no_waiters (with_threads now s) a (count - done) (sym (none s))))
+    sym (h.state s
+    ∙ ap (λ (tids : List ℕ). fold woken (with_threads now s) tids) (no_waiters (with_threads now s) a (count - done) (sym (none s))))
 
-pub count_woken : (a count done : ℕ) (old now : ThreadsValue) → WakesOn a count done old now → count ≤ done → done ≤ count → (s : State) → count ≡ length (waiters (with_threads old s) a count)
+pub count_woken : (a count done : ℕ) (old now : ThreadsValue) → WakesOn a count done old now → count ≤ done → done ≤ count → (s : State) →
+    count ≡ length (waiters (with_threads old s) a count)
 count_woken a count done old now h e within s =
     let all : count - done ≡ 0 = omega arith in
     let none : waiters (with_threads now s) a (count - done) ≡ [] = ap (λ n. waiters (with_threads now s) a n) all in

@@ -51,7 +51,8 @@ some_apart (x ∷ xs) (y ∷ ys) long some = go (eqb x y) refl (λ none. some_ap
 -- ---- of 64 lanes
 
 bits_fit : (xs ys : List ℕ) → length xs ≡ 64 → length ys ≡ 64 → bits_apart xs ys % 2 ^ 64 ≡ bits_apart xs ys
-bits_fit xs ys long as_long = mask_l-mod _ 64 (omega (arith, length-map (zip2 apart xs ys) (top 7), length-zip2 apart xs ys (long ∙ sym as_long)))
+bits_fit xs ys long as_long =
+    mask_l-mod _ 64 (omega (arith, length-map (zip2 apart xs ys) (top 7), length-zip2 apart xs ys (long ∙ sym as_long)))
 
 not_true : (b : Bool) → not b ≡ true → b ≡ false
 not_true true e = sym e

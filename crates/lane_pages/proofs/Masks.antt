@@ -47,7 +47,8 @@ without_bit a b line mask h alike = (
 abbrev IsLineAt : (ℕ → ℕ) → ℕ → List ℕ → Type 0
 IsLineAt a line bytes = (k : ℕ) → k < 64 → slice_index bytes k ≡ a (64 * line + k)
 
-pub differ_in_line : (a b : ℕ → ℕ) (line : ℕ) (xs ys : List ℕ) → IsLineAt a line xs → IsLineAt b line ys → Differ xs ys ↔ DifferInLine a b line
+pub differ_in_line : (a b : ℕ → ℕ) (line : ℕ) (xs ys : List ℕ) → IsLineAt a line xs → IsLineAt b line ys →
+    Differ xs ys ↔ DifferInLine a b line
 differ_in_line a b line xs ys ours theirs = (
   λ d. (d.0, d.1, λ e. d.2 (ours d.0 d.1 ∙ e ∙ sym (theirs d.0 d.1))),
   λ d. (d.0, d.1, λ e. d.2 (sym (ours d.0 d.1) ∙ e ∙ theirs d.0 d.1)),
@@ -72,7 +73,8 @@ ones_more mask i =
 pub ones_before : (mask i j : ℕ) → i < j → bit_at mask i ≡ 1 → count_ones (mask % 2 ^ i) < count_ones (mask % 2 ^ j)
 ones_before mask i zero low set = absurd (omega arith)
 ones_before mask i (suc j) low set =
-    let more : count_ones (mask % 2 ^ suc j) ≡ bit_at mask j + count_ones (mask % 2 ^ j) = (let next : suc j ≡ j + 1 = omega arith in ap (λ n. count_ones (mask % 2 ^ n)) next ∙ ones_more mask j) in
+    let more : count_ones (mask % 2 ^ suc j) ≡ bit_at mask j + count_ones (mask % 2 ^ j) =
+    (let next : suc j ≡ j + 1 = omega arith in ap (λ n. count_ones (mask % 2 ^ n)) next ∙ ones_more mask j) in
     elim (cases_lt i j) [
       | inl l ↦ omega (arith, more, ones_before mask i j l set)
       | inr g ↦
@@ -95,10 +97,12 @@ line_has mask i fits low set = omega (arith, ones_before mask i 64 low set, all_
 pub line_byte_is : (mask : ℕ) (lines : List Line) (i k next : ℕ) (other : Line) → next ≡ count_ones (mask % 2 ^ i) → next < length lines →
     slice_index (get_or lines next other).bytes k ≡ line_byte mask lines i k
 line_byte_is mask lines i k next other is low =
-    let e : slice_get lines (count_ones (mask % 2 ^ i)) ≡ Some (get_or lines next other) = ap (slice_get lines) (sym is) ∙ slice_get-get_or lines next other low in
+    let e : slice_get lines (count_ones (mask % 2 ^ i)) ≡ Some (get_or lines next other) =
+    ap (slice_get lines) (sym is) ∙ slice_get-get_or lines next other low in
     rw e refl
 
-pub merged_set : (mask : ℕ) (lines : List Line) (old k : ℕ) → bit_at mask (k / 64) ≡ 1 → merged_byte mask lines old k ≡ line_byte mask lines (k / 64) (k % 64)
+pub merged_set : (mask : ℕ) (lines : List Line) (old k : ℕ) → bit_at mask (k / 64) ≡ 1 →
+    merged_byte mask lines old k ≡ line_byte mask lines (k / 64) (k % 64)
 merged_set mask lines old k set =
     let test : (bit_at mask (k / 64) == 1) ≡ true = (let e : bit_at mask (k / 64) ≡ 1 = set in rw e refl) in
     ap (λ b. cond b (line_byte mask lines (k / 64) (k % 64)) old) test
@@ -114,9 +118,11 @@ pub record IsMergedBelow (old : ℕ → ℕ) (mask : ℕ) (lines : List Line) (l
   pub done : (k : ℕ) → k < 64 * line → new k ≡ merged_byte mask lines (old k) k
   pub rest : (k : ℕ) → 64 * line ≤ k → new k ≡ old k
 
-pub merge_line : (old new more : ℕ → ℕ) (mask : ℕ) (lines : List Line) (line next : ℕ) (other : Line) → IsMergedBelow old mask lines line new next → bit_at mask line ≡ 1 →
+pub merge_line : (old new more : ℕ → ℕ) (mask : ℕ) (lines : List Line) (line next : ℕ) (other : Line) →
+    IsMergedBelow old mask lines line new next → bit_at mask line ≡ 1 →
     next < length lines →
-    ((k : ℕ) → k < 64 * line → more k ≡ new k) → ((k : ℕ) → k < 64 → more (64 * line + k) ≡ slice_index (get_or lines next other).bytes k) → ((k : ℕ) → 64 * line + 64 ≤ k → more k ≡ new k) →
+    ((k : ℕ) → k < 64 * line → more k ≡ new k) → ((k : ℕ) → k < 64 → more (64 * line + k) ≡ slice_index (get_or lines next other).bytes k) →
+    ((k : ℕ) → 64 * line + 64 ≤ k → more k ≡ new k) →
     IsMergedBelow old mask lines (line + 1) more (next + 1)
 merge_line old new more mask lines line next other h set low before within after = record {
   count = omega (arith, ones_more mask line, set, h.count);
@@ -132,7 +138,8 @@ merge_line old new more mask lines line next other h set low before within after
   rest = λ k above. after k (omega (arith, above)) ∙ h.rest k (omega (arith, above));
 }
 
-pub leave_line : (old new : ℕ → ℕ) (mask : ℕ) (lines : List Line) (line next : ℕ) → IsMergedBelow old mask lines line new next → bit_at mask line ≢ 1 →
+pub leave_line : (old new : ℕ → ℕ) (mask : ℕ) (lines : List Line) (line next : ℕ) → IsMergedBelow old mask lines line new next →
+    bit_at mask line ≢ 1 →
     IsMergedBelow old mask lines (line + 1) new next
 leave_line old new mask lines line next h clear =
     let none : bit_at mask line ≡ 0 = zero_or_one (bit_at mask line) (bit_at-lt mask line) clear in

@@ -15,10 +15,12 @@ chunk_is n (suc count) (suc i) xs low =
     let more : n + n * i ≡ n * suc i = omega arith in
     chunk_is n count i (drop n xs) (omega (arith, low)) ∙ ap (take n) (drop-drop (n * i) n xs) ∙ ap (λ k. take n (drop k xs)) more
 
-pub line_is : (page : List ℕ) (chunks : List (List ℕ)) (i k : ℕ) → length page ≡ 4096 → chunks ≡ first_chunks 64 (length page / 64) page → i < 64 → k < 64 →
+pub line_is : (page : List ℕ) (chunks : List (List ℕ)) (i k : ℕ) → length page ≡ 4096 → chunks ≡ first_chunks 64 (length page / 64) page →
+    i < 64 → k < 64 →
     get_or (get_or chunks i []) k 0 ≡ get_or page (64 * i + k) 0
 line_is page chunks i k long is low below =
-    ap (λ (cs : List (List ℕ)). get_or (get_or cs i []) k 0) is ∙ ap (λ l. get_or l k 0) (chunk_is 64 (length page / 64) i page (omega (arith, long, low)))
+    ap (λ (cs : List (List ℕ)). get_or (get_or cs i []) k 0) is
+    ∙ ap (λ l. get_or l k 0) (chunk_is 64 (length page / 64) i page (omega (arith, long, low)))
     ∙ get_or-chunk (64 * i) 64 page k 0 below
 
 -- ---- 64 bytes put in place of those from a place on
@@ -29,12 +31,17 @@ with_line at k page bytes = put_mid at k page (put_chunk 0 (mid_of at k page) by
 put_whole : (at k : ℕ) (page bytes : List ℕ) → at + k ≤ length page → length bytes ≡ k → put_chunk 0 (mid_of at k page) bytes ≡ bytes
 put_whole at k page bytes fits long = put_chunk_whole (mid_of at k page) bytes (length-chunk at k page fits ∙ sym long)
 
-pub line_before : (at k i : ℕ) (page bytes : List ℕ) → at + k ≤ length page → length bytes ≡ k → i < at → get_or (with_line at k page bytes) i 0 ≡ get_or page i 0
+pub line_before : (at k i : ℕ) (page bytes : List ℕ) → at + k ≤ length page → length bytes ≡ k → i < at →
+    get_or (with_line at k page bytes) i 0 ≡ get_or page i 0
 line_before at k i page bytes fits long low =
     let all = with_line at k page bytes in
-    sym (get_or-take at all i 0 low) ∙ ap (λ l. get_or l i 0) (take-put_mid_below at k page (put_chunk 0 (mid_of at k page) bytes) at (omega arith) (omega (arith, fits))) ∙ get_or-take at page i 0 low
+    sym (get_or-take at all i 0 low)
+    ∙ ap (λ l. get_or l i 0)
+    (take-put_mid_below at k page (put_chunk 0 (mid_of at k page) bytes) at (omega arith) (omega (arith, fits)))
+    ∙ get_or-take at page i 0 low
 
-pub line_within : (at k i : ℕ) (page bytes : List ℕ) → at + k ≤ length page → length bytes ≡ k → i < k → get_or (with_line at k page bytes) (at + i) 0 ≡ get_or bytes i 0
+pub line_within : (at k i : ℕ) (page bytes : List ℕ) → at + k ≤ length page → length bytes ≡ k → i < k →
+    get_or (with_line at k page bytes) (at + i) 0 ≡ get_or bytes i 0
 line_within at k i page bytes fits long low =
     let all = with_line at k page bytes in
     let put = put_chunk 0 (mid_of at k page) bytes in
@@ -45,7 +52,8 @@ line_within at k i page bytes fits long low =
     ∙ ap (λ l. get_or l i 0) (between-put_mid at k page put (at + k) (omega (arith, fits)) as_long)
     ∙ ap (λ l. get_or l i 0) same
 
-pub line_after : (at k i : ℕ) (page bytes : List ℕ) → at + k ≤ length page → length bytes ≡ k → at + k ≤ i → get_or (with_line at k page bytes) i 0 ≡ get_or page i 0
+pub line_after : (at k i : ℕ) (page bytes : List ℕ) → at + k ≤ length page → length bytes ≡ k → at + k ≤ i →
+    get_or (with_line at k page bytes) i 0 ≡ get_or page i 0
 line_after at k i page bytes fits long high =
     let all = with_line at k page bytes in
     let put = put_chunk 0 (mid_of at k page) bytes in

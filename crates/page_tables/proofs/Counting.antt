@@ -53,16 +53,25 @@ sum_past m (suc n) f l h = elim (cases_lt n m) [
 ]
 
 -- a function that has something in a range alone
-sum_in : (first count : ℕ) (f g : ℕ → ℕ) → ((q : ℕ) → q < first → f q ≡ 0) → ((k : ℕ) → k < count → f (first + k) ≡ g k) → sum_below (first + count) f ≡ sum_below count g
+sum_in : (first count : ℕ) (f g : ℕ → ℕ) → ((q : ℕ) → q < first → f q ≡ 0) → ((k : ℕ) → k < count → f (first + k) ≡ g k) →
+    sum_below (first + count) f ≡ sum_below count g
 sum_in first zero f g below here =
     let end : first + 0 ≡ first = omega arith in
     ap (λ (k : ℕ). sum_below k f) end ∙ sum_zero first f below ∙ sym (sum_none g)
 sum_in first (suc count) f g below here =
     let end : first + suc count ≡ suc (first + count) = omega arith in
     let whole : sum_below (first + suc count) f ≡ sum_below (suc (first + count)) f = ap (λ (k : ℕ). sum_below k f) end in
-    omega (arith, whole, sum_more (first + count) f, sum_more count g, sum_in first count f g below (λ k l. here k (omega (arith, l))), here count (omega arith))
+    omega (
+      arith,
+      whole,
+      sum_more (first + count) f,
+      sum_more count g,
+      sum_in first count f g below (λ k l. here k (omega (arith, l))),
+      here count (omega arith),
+    )
 
-pub sum_range : (limit first count : ℕ) (f g : ℕ → ℕ) → first + count ≤ limit → ((q : ℕ) → q < first → f q ≡ 0) → ((q : ℕ) → first + count ≤ q → f q ≡ 0) → ((k : ℕ) → k < count → f (first + k) ≡ g k) →
+pub sum_range : (limit first count : ℕ) (f g : ℕ → ℕ) → first + count ≤ limit → ((q : ℕ) → q < first → f q ≡ 0) →
+    ((q : ℕ) → first + count ≤ q → f q ≡ 0) → ((k : ℕ) → k < count → f (first + k) ≡ g k) →
     sum_below limit f ≡ sum_below count g
 sum_range limit first count f g fits below above here = sum_past (first + count) limit f fits above ∙ sum_in first count f g below here
 
@@ -75,7 +84,8 @@ count_none P (s ∷ slots) h =
     let first : f s ≡ 0 = ap one_if (h 0) in
     omega (arith, sum_by-cons f s slots, first, count_none P slots (λ i. h (suc i)))
 
-count_alike : (P Q : Option Page → Bool) (slots : List (Option Page)) → ((i : ℕ) → P (get_or slots i None) ≡ Q (get_or slots i None)) → count_by P slots ≡ count_by Q slots
+count_alike : (P Q : Option Page → Bool) (slots : List (Option Page)) → ((i : ℕ) → P (get_or slots i None) ≡ Q (get_or slots i None)) →
+    count_by P slots ≡ count_by Q slots
 count_alike P Q [] h = refl
 count_alike P Q (s ∷ slots) h =
     let f : Option Page → ℕ = λ s. one_if (P s) in
@@ -84,7 +94,8 @@ count_alike P Q (s ∷ slots) h =
     omega (arith, sum_by-cons f s slots, sum_by-cons g s slots, first, count_alike P Q slots (λ i. h (suc i)))
 
 -- one slot passes, or one alone
-count_some : (P : Option Page → Bool) (slots : List (Option Page)) (k : ℕ) → P None ≡ false → P (get_or slots k None) ≡ true → 1 ≤ count_by P slots
+count_some : (P : Option Page → Bool) (slots : List (Option Page)) (k : ℕ) → P None ≡ false → P (get_or slots k None) ≡ true →
+    1 ≤ count_by P slots
 count_some P slots k none here =
     let f : Option Page → ℕ = λ s. one_if (P s) in
     let one : f (get_or slots k None) ≡ 1 = ap one_if here in
@@ -93,7 +104,8 @@ count_some P slots k none here =
       | inr w ↦ absurd (false≢true (sym none ∙ ap P (sym (get_or_past slots k None w)) ∙ here))
     ]
 
-count_one : (P : Option Page → Bool) (slots : List (Option Page)) (k : ℕ) → P None ≡ false → P (get_or slots k None) ≡ true → ((i : ℕ) → i ≢ k → P (get_or slots i None) ≡ false) → count_by P slots ≡ 1
+count_one : (P : Option Page → Bool) (slots : List (Option Page)) (k : ℕ) → P None ≡ false → P (get_or slots k None) ≡ true →
+    ((i : ℕ) → i ≢ k → P (get_or slots i None) ≡ false) → count_by P slots ≡ 1
 count_one P slots k none here others = elim (cases_lt k (length slots)) [
   | inl w ↦
       let f : Option Page → ℕ = λ s. one_if (P s) in
@@ -118,7 +130,8 @@ abbrev is_below : ℕ → Option Page → Bool
 is_below n None = false
 is_below n (Some p) = nat_lt p.number n
 
-one_number_more : (n : ℕ) (slots : List (Option Page)) → count_by (is_below (suc n)) slots ≡ count_by (is_below n) slots + count_by (is_numbered n) slots
+one_number_more : (n : ℕ) (slots : List (Option Page)) →
+    count_by (is_below (suc n)) slots ≡ count_by (is_below n) slots + count_by (is_numbered n) slots
 one_number_more n [] = refl
 one_number_more n (s ∷ slots) =
     let f : Option Page → ℕ = λ s. one_if (is_below (suc n) s) in
@@ -148,11 +161,14 @@ module _ (pool : Slab Page) (table : Table) (kept : List (Option Table)) (h : Ar
   has_page : (n : ℕ) → one_if (is_some (pages_in (get pool) (entry_at table) n)) ≡ one_if (entry_at table n).mapped
   has_page n = by_test (entry_at table n).mapped refl where
     by_test : (b : Bool) → (entry_at table n).mapped ≡ b → one_if (is_some (pages_in (get pool) (entry_at table) n)) ≡ one_if b
-    by_test true m = let f = found (get pool) (entry_at table) n h.current m in ap (λ (o : Option PageValue). one_if (is_some o)) (page_mapped (get pool) (entry_at table) n f.0 m f.1)
+    by_test true m = let f =
+        found (get pool) (entry_at table) n h.current m in
+        ap (λ (o : Option PageValue). one_if (is_some o)) (page_mapped (get pool) (entry_at table) n f.0 m f.1)
     by_test false m = ap (λ (o : Option PageValue). one_if (is_some o)) (page_unmapped (get pool) (entry_at table) n m)
 
   total_is : page_total (pages_in (get pool) (entry_at table)) ≡ sum_below 0x80000 (λ n. one_if (entry_at table n).mapped)
-  total_is = sum_same 0x80000 (λ n. one_if (is_some (pages_in (get pool) (entry_at table) n))) (λ n. one_if (entry_at table n).mapped) (λ n l. has_page n)
+  total_is = sum_same 0x80000 (λ n. one_if (is_some (pages_in (get pool) (entry_at table) n))) (λ n. one_if (entry_at table n).mapped)
+      (λ n l. has_page n)
 
   -- the page of an entry has its number
   numbered : (n : ℕ) → (entry_at table n).mapped ≡ true → is_numbered n (get pool (entry_at table n).key) ≡ true
@@ -166,7 +182,8 @@ module _ (pool : Slab Page) (table : Table) (kept : List (Option Table)) (h : Ar
 
   some_below : (n : ℕ) → sum_below n (λ q. one_if (entry_at table q).mapped) ≤ count_by (is_below n) pool.slots
   some_below zero = omega (arith, sum_none (λ q. one_if (entry_at table q).mapped))
-  some_below (suc n) = omega (arith, sum_more n (λ q. one_if (entry_at table q).mapped), one_number_more n pool.slots, some_below n, numbered_some n)
+  some_below (suc n) =
+      omega (arith, sum_more n (λ q. one_if (entry_at table q).mapped), one_number_more n pool.slots, some_below n, numbered_some n)
 
   -- there are as many pages as the current table has, at the least
   pub least_live : page_total (pages_in (get pool) (entry_at table)) ≤ slab_len pool
@@ -175,11 +192,13 @@ module _ (pool : Slab Page) (table : Table) (kept : List (Option Table)) (h : Ar
       let g : Option Page → ℕ = λ s. one_if (is_some s) in
       omega (arith, total_is, some_below 0x80000, sum_by-le-sum_by f g pool.slots (below_some 0x80000))
 
-module _ (pool : Slab Page) (table : Table) (kept : List (Option Table)) (h : AreShared (get pool) (entry_at table) kept) (alone : (i : ℕ) → get_or kept i None ≡ None) where
+module _ (pool : Slab Page) (table : Table) (kept : List (Option Table)) (h : AreShared (get pool) (entry_at table) kept)
+    (alone : (i : ℕ) → get_or kept i None ≡ None) where
   -- with no snapshot a page is one of the current table
   is_had : (k : ℕ) (p : Page) → get pool k ≡ Some p → ((entry_at table p.number).mapped ≡ true) × ((entry_at table p.number).key ≡ k)
   is_had k p e = by_test (has (entry_at table) p.number k) refl where
-    by_test : (b : Bool) → has (entry_at table) p.number k ≡ b → ((entry_at table p.number).mapped ≡ true) × ((entry_at table p.number).key ≡ k)
+    by_test : (b : Bool) → has (entry_at table) p.number k ≡ b → ((entry_at table p.number).mapped ≡ true) ×
+        ((entry_at table p.number).key ≡ k)
     by_test true t = has_key (entry_at table) p.number k t
     by_test false t =
         let count = count_is (get pool) (entry_at table) kept h k p e in
@@ -187,7 +206,8 @@ module _ (pool : Slab Page) (table : Table) (kept : List (Option Table)) (h : Ar
         let others = no_shares kept p.number k (λ i. ap (λ (s : Option Table). has (slot_entry s) p.number k) (alone i)) in
         absurd (omega (arith, count.0, count.1, mine, others))
 
-  other_number : (n k : ℕ) (o : Option Page) → get pool k ≡ o → ((entry_at table n).mapped ≡ true → (entry_at table n).key ≡ k → ⊥) → is_numbered n o ≡ false
+  other_number : (n k : ℕ) (o : Option Page) → get pool k ≡ o → ((entry_at table n).mapped ≡ true → (entry_at table n).key ≡ k → ⊥) →
+      is_numbered n o ≡ false
   other_number n k None e apart = refl
   other_number n k (Some p) e apart = ne_eqb p.number n (λ same.
       let had = is_had k p e in
@@ -198,11 +218,13 @@ module _ (pool : Slab Page) (table : Table) (kept : List (Option Table)) (h : Ar
     by_test : (b : Bool) → (entry_at table n).mapped ≡ b → count_by (is_numbered n) pool.slots ≡ one_if b
     by_test true m = count_one (is_numbered n) pool.slots (entry_at table n).key refl (numbered pool table kept h n m)
         (λ i apart. other_number n i (get pool i) refl (λ mapped key. apart (sym key)))
-    by_test false m = count_none (is_numbered n) pool.slots (λ i. other_number n i (get pool i) refl (λ mapped key. false≢true (sym m ∙ mapped)))
+    by_test false m =
+        count_none (is_numbered n) pool.slots (λ i. other_number n i (get pool i) refl (λ mapped key. false≢true (sym m ∙ mapped)))
 
   all_below : (n : ℕ) → count_by (is_below n) pool.slots ≡ sum_below n (λ q. one_if (entry_at table q).mapped)
   all_below zero = none_below pool.slots ∙ sym (sum_none (λ q. one_if (entry_at table q).mapped))
-  all_below (suc n) = omega (arith, sum_more n (λ q. one_if (entry_at table q).mapped), one_number_more n pool.slots, all_below n, numbered_all n)
+  all_below (suc n) =
+      omega (arith, sum_more n (λ q. one_if (entry_at table q).mapped), one_number_more n pool.slots, all_below n, numbered_all n)
 
   low_number : (k : ℕ) (o : Option Page) → get pool k ≡ o → is_below 0x80000 o ≡ is_some o
   low_number k None e = refl
@@ -211,5 +233,6 @@ module _ (pool : Slab Page) (table : Table) (kept : List (Option Table)) (h : Ar
   -- and there are no others
   pub alone_live : slab_len pool ≡ page_total (pages_in (get pool) (entry_at table))
   alone_live =
-      let low : count_by (is_below 0x80000) pool.slots ≡ slab_len pool = count_alike (is_below 0x80000) is_some pool.slots (λ i. low_number i (get pool i) refl) in
+      let low : count_by (is_below 0x80000) pool.slots ≡ slab_len pool =
+      count_alike (is_below 0x80000) is_some pool.slots (λ i. low_number i (get pool i) refl) in
       sym low ∙ all_below 0x80000 ∙ sym (total_is pool table kept h)

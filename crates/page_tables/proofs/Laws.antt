@@ -20,11 +20,13 @@ maps_some f g None e = e
 maps_some f g (Some x) e = refl
 
 -- where there is a count there is a page
-pub counted_there : (pool : Slab Page) (table : Table) (kept : List (Option Table)) (n : ℕ) → IsSome ((contents_in pool table kept).counts n) → IsSome ((contents_in pool table kept).pages n)
+pub counted_there : (pool : Slab Page) (table : Table) (kept : List (Option Table)) (n : ℕ) →
+    IsSome ((contents_in pool table kept).counts n) → IsSome ((contents_in pool table kept).pages n)
 counted_there pool table kept n = maps_some (λ (p : Page). p.count) (value_in (entry_at table n)) (page_in (get pool) (entry_at table n))
 
 -- the pages of a table fill theirs
-pub filled_pages : (pool : ℕ → Option Page) (t : ℕ → Entry) → ((k : ℕ) → IfSome (pool k) (λ p. FillPage p.bytes.value)) → ArePages (pages_in pool t)
+pub filled_pages : (pool : ℕ → Option Page) (t : ℕ → Entry) → ((k : ℕ) → IfSome (pool k) (λ p. FillPage p.bytes.value)) →
+    ArePages (pages_in pool t)
 filled_pages pool t full n = by_page (page_in pool (t n)) (by_test (t n).mapped) where
   by_test : (b : Bool) → IfSome (if b then pool (t n).key else None) (λ p. FillPage p.bytes.value)
   by_test true = full (t n).key
@@ -34,7 +36,8 @@ filled_pages pool t full n = by_page (page_in pool (t n)) (by_test (t n).mapped)
   by_page None i = tt
   by_page (Some p) i = i
 
-module _ (pool : Slab Page) (table : Table) (kept : List (Option Table)) (v : TablesValue) (h : AreShared (get pool) (entry_at table) kept) (view : value_of (contents_in pool table kept) ≡ v) where
+module _ (pool : Slab Page) (table : Table) (kept : List (Option Table)) (v : TablesValue) (h : AreShared (get pool) (entry_at table) kept)
+    (view : value_of (contents_in pool table kept) ≡ v) where
   is_seen : contents_of v ≡ contents_in pool table kept
   is_seen = seen pool table kept v h view
 
@@ -43,25 +46,31 @@ module _ (pool : Slab Page) (table : Table) (kept : List (Option Table)) (v : Ta
     by_slot : (o : Option Table) → get_or kept i None ≡ o → get_or kept i None ≡ None
     by_slot None e = e
     by_slot (Some t) e =
-        let there : None ≡ Some (pages_in (get pool) (entry_at t)) = sym (none i) ∙ ap (λ (c : Contents). c.kept i) is_seen ∙ ap (option_map (λ (t : Table). pages_in (get pool) (entry_at t))) e in
+        let there : None ≡ Some (pages_in (get pool) (entry_at t)) =
+        sym (none i) ∙ ap (λ (c : Contents). c.kept i) is_seen ∙ ap (option_map (λ (t : Table). pages_in (get pool) (entry_at t))) e in
         absurd (false≢true (ap is_some there))
 
-  pub no_sharers : ((i : ℕ) → (contents_of v).kept i ≡ None) → (n : ℕ) → IsSome ((contents_of v).pages n) → (contents_of v).counts n ≡ Some 1
+  pub no_sharers : ((i : ℕ) → (contents_of v).kept i ≡ None) → (n : ℕ) → IsSome ((contents_of v).pages n) →
+      (contents_of v).counts n ≡ Some 1
   no_sharers none n there =
       let m = live_mapped pool table kept v h view n there in
       let f = found (get pool) (entry_at table) n h.current m in
       let k : ℕ = (entry_at table n).key in
       let none_else = no_shares kept n k (λ i. ap (λ (s : Option Table). has (slot_entry s) n k) (no_slot none i)) in
       let mine : one_if (has (entry_at table) n k) ≡ 1 = ap one_if (has_own (entry_at table) n m) in
-      let count : f.0.count ≡ sharers (entry_at table) kept n k = (count_is (get pool) (entry_at table) kept h k f.0 f.1).0 ∙ ap (λ (q : ℕ). sharers (entry_at table) kept q k) f.2 in
+      let count : f.0.count ≡ sharers (entry_at table) kept n k =
+      (count_is (get pool) (entry_at table) kept h k f.0 f.1).0 ∙ ap (λ (q : ℕ). sharers (entry_at table) kept q k) f.2 in
       let one : f.0.count ≡ 1 = omega (arith, count, mine, none_else) in
       count_at pool table kept v h view n f.0 m f.1 ∙ ap Some one
 
-  pub is_counted : (n : ℕ) → (IsSome ((contents_of v).pages n) → IsSome ((contents_of v).counts n)) × (IsSome ((contents_of v).counts n) → IsSome ((contents_of v).pages n))
+  pub is_counted : (n : ℕ) → (IsSome ((contents_of v).pages n) → IsSome ((contents_of v).counts n)) ×
+      (IsSome ((contents_of v).counts n) → IsSome ((contents_of v).pages n))
   is_counted n =
       let page : Option Page = page_in (get pool) (entry_at table n) in
-      subst (λ (c : Contents). (IsSome (c.pages n) → IsSome (c.counts n)) × (IsSome (c.counts n) → IsSome (c.pages n))) (sym is_seen)
-      (maps_some (value_in (entry_at table n)) (λ (p : Page). p.count) page, maps_some (λ (p : Page). p.count) (value_in (entry_at table n)) page)
+      subst (λ (c : Contents). (IsSome (c.pages n) → IsSome (c.counts n)) × (IsSome (c.counts n) → IsSome (c.pages n))) (sym is_seen) (
+        maps_some (value_in (entry_at table n)) (λ (p : Page). p.count) page,
+        maps_some (λ (p : Page). p.count) (value_in (entry_at table n)) page,
+      )
 
   pub has_least : page_total (contents_of v).pages ≤ (contents_of v).live
   has_least = subst (λ (c : Contents). page_total c.pages ≤ c.live) (sym is_seen) (least_live pool table kept h)

@@ -13,7 +13,8 @@ one_more : (xs : List ℕ) (n q : ℕ) → is_listed (xs ++ n ∷ []) q ≡ (is_
 one_more xs n q = listed-append xs (n ∷ []) q ∙ ap (λ b. is_listed xs q || b) (or-false (n == q))
 
 -- what is listed once a number is
-pub listed_more : (xs : List ℕ) (n : ℕ) (P : ℕ → Type 0) → ((q : ℕ) → is_listed xs q ≡ true → P q) → P n → (q : ℕ) → is_listed (xs ++ n ∷ []) q ≡ true → P q
+pub listed_more : (xs : List ℕ) (n : ℕ) (P : ℕ → Type 0) → ((q : ℕ) → is_listed xs q ≡ true → P q) → P n → (q : ℕ) →
+    is_listed (xs ++ n ∷ []) q ≡ true → P q
 listed_more xs n P h here q e = by_test (is_listed xs q) refl where
   by_test : (b : Bool) → is_listed xs q ≡ b → P q
   by_test true f = h q f
@@ -34,7 +35,8 @@ pub still_listed : (xs : List ℕ) (n q : ℕ) → is_listed xs q ≡ true → i
 still_listed xs n q e = one_more xs n q ∙ ap (λ b. b || (n == q)) e
 
 pub last_listed : (xs : List ℕ) (n : ℕ) → is_listed (xs ++ n ∷ []) n ≡ true
-last_listed xs n = let same : (n == n) ≡ true = grind (arith, nat_tests) in one_more xs n n ∙ ap (λ b. is_listed xs n || b) same ∙ or-true (is_listed xs n)
+last_listed xs n = let same : (n == n) ≡ true =
+    grind (arith, nat_tests) in one_more xs n n ∙ ap (λ b. is_listed xs n || b) same ∙ or-true (is_listed xs n)
 
 -- an element of a list is listed
 pub listed_taken : (xs : List ℕ) (i : ℕ) → i < length xs → is_listed xs (get_or xs i 0) ≡ true

@@ -22,24 +22,30 @@ pub record AreNearer (numbers : List ℕ) (old new : Contents) : Type 0 where
 pub no_step : (numbers : List ℕ) (c : Contents) → AreNearer numbers c c
 no_step numbers c = record { value = λ n. refl; pages = λ n l. refl; counts = λ n l. refl; kept = refl; live = refl }
 
-pub same_value : (n : ℕ) (page : PageValue) (old new : Contents) → IsPlaced n page old new → page ≡ page_or_zeros (old.pages n) → (q : ℕ) → page_or_zeros (new.pages q) ≡ page_or_zeros (old.pages q)
+pub same_value : (n : ℕ) (page : PageValue) (old new : Contents) → IsPlaced n page old new → page ≡ page_or_zeros (old.pages n) → (q : ℕ) →
+    page_or_zeros (new.pages q) ≡ page_or_zeros (old.pages q)
 same_value n page old new i e q = elim (cases_eq q n) [
-  | inl w ↦ ap (λ (j : ℕ). page_or_zeros (new.pages j)) w ∙ ap page_or_zeros i.here ∙ e ∙ sym (ap (λ (j : ℕ). page_or_zeros (old.pages j)) w)
+  | inl w ↦ ap (λ (j : ℕ). page_or_zeros (new.pages j)) w ∙ ap page_or_zeros i.here ∙ e
+      ∙ sym (ap (λ (j : ℕ). page_or_zeros (old.pages j)) w)
   | inr w ↦ ap page_or_zeros (i.rest.pages q w)
 ]
 
 -- a page that comes at a number adds what that number lacked
-one_less : (numbers : List ℕ) (n : ℕ) (page : PageValue) (old new : Contents) → IsPlaced n page old new → is_listed numbers n ≡ true → n < 0x80000 →
+one_less : (numbers : List ℕ) (n : ℕ) (page : PageValue) (old new : Contents) → IsPlaced n page old new → is_listed numbers n ≡ true →
+    n < 0x80000 →
     new.live + added_at (is_listed numbers) new.counts ≡ old.live + added_at (is_listed numbers) old.counts
 one_less numbers n page old new i listed low =
     let f : ℕ → ℕ = λ q. if is_listed numbers q then added (old.counts q) else 0 in
     let g : ℕ → ℕ = λ q. if is_listed numbers q then added (new.counts q) else 0 in
-    let changed = sum_changed 0x80000 n f g (λ q apart. ap (λ (o : Option ℕ). if is_listed numbers q then added o else 0) (i.rest.counts q apart)) low in
+    let changed =
+    sum_changed 0x80000 n f g (λ q apart. ap (λ (o : Option ℕ). if is_listed numbers q then added o else 0) (i.rest.counts q apart))
+    low in
     let lacked : f n ≡ added (old.counts n) = ap (λ (b : Bool). if b then added (old.counts n) else 0) listed in
     let lacks : g n ≡ 0 = ap (λ (b : Bool). if b then added (new.counts n) else 0) listed ∙ ap added i.own in
     omega (arith, changed, lacked, lacks, i.live)
 
-pub one_step : (numbers : List ℕ) (n : ℕ) (page : PageValue) (old mid new : Contents) → AreNearer numbers old mid → IsPlaced n page mid new → page ≡ page_or_zeros (mid.pages n) → is_listed numbers n ≡ true → n < 0x80000 → AreNearer numbers old new
+pub one_step : (numbers : List ℕ) (n : ℕ) (page : PageValue) (old mid new : Contents) → AreNearer numbers old mid →
+    IsPlaced n page mid new → page ≡ page_or_zeros (mid.pages n) → is_listed numbers n ≡ true → n < 0x80000 → AreNearer numbers old new
 one_step numbers n page old mid new s i e listed low = record {
   value = λ q. same_value n page mid new i e q ∙ s.value q;
   pages = λ q l. i.rest.pages q (apart q l) ∙ s.pages q l;
@@ -56,13 +62,15 @@ there_is (Some p) e = refl
 
 -- numbers whose pages are their own lack none
 none_lacked : (numbers : List ℕ) (counts : ℕ → Option ℕ) → AreUnshared numbers counts → added_at (is_listed numbers) counts ≡ 0
-none_lacked numbers counts own = sum_zero 0x80000 (λ q. if is_listed numbers q then added (counts q) else 0) (λ q l. by_test q (is_listed numbers q) refl) where
-  by_test : (q : ℕ) (b : Bool) → is_listed numbers q ≡ b → (if b then added (counts q) else 0) ≡ 0
-  by_test q true e = ap added (own q e)
-  by_test q false e = refl
+none_lacked numbers counts own =
+    sum_zero 0x80000 (λ q. if is_listed numbers q then added (counts q) else 0) (λ q l. by_test q (is_listed numbers q) refl) where
+      by_test : (q : ℕ) (b : Bool) → is_listed numbers q ≡ b → (if b then added (counts q) else 0) ≡ 0
+      by_test q true e = ap added (own q e)
+      by_test q false e = refl
 
 -- where the steps end each of the pages is its own
-pub all_steps : (numbers : List ℕ) (old new : Contents) → AreNearer numbers old new → AreUnshared numbers new.counts → ((n : ℕ) → IsSome (new.counts n) → IsSome (new.pages n)) → AreOwned numbers old new
+pub all_steps : (numbers : List ℕ) (old new : Contents) → AreNearer numbers old new → AreUnshared numbers new.counts →
+    ((n : ℕ) → IsSome (new.counts n) → IsSome (new.pages n)) → AreOwned numbers old new
 all_steps numbers old new s own there = record {
   here = λ n l. there_is (new.pages n) (there n (ap is_some (own n l))) ∙ ap Some (s.value n);
   own = own;
@@ -75,25 +83,30 @@ all_steps numbers old new s own there = record {
 -- ---- the pages that are to come
 
 -- one of them has come
-pub one_comes : (numbers : List ℕ) (old new : Contents) (all rest : List NewPage) (x : NewPage) → all ≡ rest ++ x ∷ [] → AreCopies numbers old.pages old.counts all → IsPlaced x.number (new_value x) old new →
+pub one_comes : (numbers : List ℕ) (old new : Contents) (all rest : List NewPage) (x : NewPage) → all ≡ rest ++ x ∷ [] →
+    AreCopies numbers old.pages old.counts all → IsPlaced x.number (new_value x) old new →
     AreCopies numbers new.pages new.counts rest
 one_comes numbers old new all rest x is c i =
     let both = All-pop (IsCopy numbers old.pages) all rest (Some x) is c.each in
     let same = same_value x.number (new_value x) old new i both.1.value in
     record {
-      each = All-weaker (IsCopy numbers old.pages) (IsCopy numbers new.pages) (λ p h. record { listed = h.listed; value = h.value ∙ sym (same p.number) }) rest both.0;
+      each = All-weaker (IsCopy numbers old.pages) (IsCopy numbers new.pages)
+          (λ p h. record { listed = h.listed; value = h.value ∙ sym (same p.number) }) rest both.0;
       whole = λ n a apart. elim (cases_eq n x.number) [
         | inl w ↦ ap new.counts w ∙ i.own
-        | inr w ↦ i.rest.counts n w ∙ c.whole n a (subst (All (λ p. p.number ≢ n)) (sym is) (All-push (λ p. p.number ≢ n) rest x apart (λ e. w (sym e))))
+        | inr w ↦ i.rest.counts n w
+            ∙ c.whole n a (subst (All (λ p. p.number ≢ n)) (sym is) (All-push (λ p. p.number ≢ n) rest x apart (λ e. w (sym e))))
       ];
     }
 
 -- when none is left
-pub none_left : (numbers : List ℕ) (pages : ℕ → Option PageValue) (counts : ℕ → Option ℕ) (xs : List NewPage) → length xs ≡ 0 → AreCopies numbers pages counts xs → AreUnshared numbers counts
+pub none_left : (numbers : List ℕ) (pages : ℕ → Option PageValue) (counts : ℕ → Option ℕ) (xs : List NewPage) → length xs ≡ 0 →
+    AreCopies numbers pages counts xs → AreUnshared numbers counts
 none_left numbers pages counts xs empty c = λ n a. c.whole n a (λ k d l. absurd (omega (arith, l, empty)))
 
 -- there is one number more
-module _ (numbers : List ℕ) (m : ℕ) (pages : ℕ → Option PageValue) (counts : ℕ → Option ℕ) (xs : List NewPage) (c : AreCopies numbers pages counts xs) where
+module _ (numbers : List ℕ) (m : ℕ) (pages : ℕ → Option PageValue) (counts : ℕ → Option ℕ) (xs : List NewPage)
+    (c : AreCopies numbers pages counts xs) where
   longer : (p : NewPage) → IsCopy numbers pages p → IsCopy (numbers ++ m ∷ []) pages p
   longer p h = record { listed = still_listed numbers m p.number h.listed; value = h.value }
 
@@ -103,19 +116,27 @@ module _ (numbers : List ℕ) (m : ℕ) (pages : ℕ → Option PageValue) (coun
     whole = listed_more numbers m (λ n. All (λ p. p.number ≢ n) xs → counts n ≡ Some 1) c.whole (λ apart. one);
   }
 
-  pub one_copied : (ys : List NewPage) (x : NewPage) → ys ≡ xs ++ x ∷ [] → x.number ≡ m → new_value x ≡ page_or_zeros (pages m) → AreCopies (numbers ++ m ∷ []) pages counts ys
+  pub one_copied : (ys : List NewPage) (x : NewPage) → ys ≡ xs ++ x ∷ [] → x.number ≡ m → new_value x ≡ page_or_zeros (pages m) →
+      AreCopies (numbers ++ m ∷ []) pages counts ys
   one_copied ys x is at value = record {
-    each = subst (All (IsCopy (numbers ++ m ∷ []) pages)) (sym is) (All-push (IsCopy (numbers ++ m ∷ []) pages) xs x (All-weaker (IsCopy numbers pages) (IsCopy (numbers ++ m ∷ []) pages) longer xs c.each) new);
+    each = subst (All (IsCopy (numbers ++ m ∷ []) pages)) (sym is)
+        (All-push (IsCopy (numbers ++ m ∷ []) pages) xs x
+        (All-weaker (IsCopy numbers pages) (IsCopy (numbers ++ m ∷ []) pages) longer xs c.each) new);
     whole = listed_more numbers m (λ n. All (λ p. p.number ≢ n) ys → counts n ≡ Some 1)
         (λ n a apart. let both = All-pop (λ p. p.number ≢ n) ys xs (Some x) is apart in c.whole n a both.0)
         (λ apart. let both = All-pop (λ p. p.number ≢ m) ys xs (Some x) is apart in absurd (both.1 at));
   } where
     new : IsCopy (numbers ++ m ∷ []) pages x
-    new = record { listed = ap (is_listed (numbers ++ m ∷ [])) at ∙ last_listed numbers m; value = value ∙ sym (ap (λ (n : ℕ). page_or_zeros (pages n)) at) }
+    new = record {
+      listed = ap (is_listed (numbers ++ m ∷ [])) at ∙ last_listed numbers m;
+      value = value ∙ sym (ap (λ (n : ℕ). page_or_zeros (pages n)) at);
+    }
 
 pub no_copies : (pages : ℕ → Option PageValue) (counts : ℕ → Option ℕ) → AreCopies [] pages counts []
 no_copies pages counts = record { each = All-nil (IsCopy [] pages); whole = λ n a apart. absurd (false≢true a) }
 
 -- the numbers of the pages that are to come are low where all are
-pub low_copies : (numbers : List ℕ) (pages : ℕ → Option PageValue) (counts : ℕ → Option ℕ) (xs : List NewPage) → AreCopies numbers pages counts xs → ((n : ℕ) → is_listed numbers n ≡ true → n < 0x80000) → All (λ p. p.number < 0x80000) xs
-low_copies numbers pages counts xs c low = All-weaker (IsCopy numbers pages) (λ p. p.number < 0x80000) (λ p h. low p.number h.listed) xs c.each
+pub low_copies : (numbers : List ℕ) (pages : ℕ → Option PageValue) (counts : ℕ → Option ℕ) (xs : List NewPage) →
+    AreCopies numbers pages counts xs → ((n : ℕ) → is_listed numbers n ≡ true → n < 0x80000) → All (λ p. p.number < 0x80000) xs
+low_copies numbers pages counts xs c low =
+    All-weaker (IsCopy numbers pages) (λ p. p.number < 0x80000) (λ p h. low p.number h.listed) xs c.each

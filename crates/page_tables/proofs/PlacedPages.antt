@@ -54,16 +54,19 @@ module _ (pool new : Slab Page) (table later : Table) (kept : List (Option Table
         let same : sharers (entry_at later) kept p.number k ≡ p.count = elim (cases_eq p.number n) [
           | inl w ↦
               let zero_if : one_if (has (entry_at table) n k) ≡ 0 = ap one_if t in
-              ap (λ (q : ℕ). sharers (entry_at later) kept q k) w ∙ omega (arith, less k, zero_if) ∙ sym (counted.0 ∙ ap (λ (q : ℕ). sharers (entry_at table) kept q k) w)
+              ap (λ (q : ℕ). sharers (entry_at later) kept q k) w ∙ omega (arith, less k, zero_if)
+              ∙ sym (counted.0 ∙ ap (λ (q : ℕ). sharers (entry_at table) kept q k) w)
           | inr w ↦ same_shares p.number k w ∙ sym counted.0
         ] in
-        is k ∙ ap (λ (b : Bool). if b then lowered (get pool k) else get pool k) t ∙ e ∙ sym (ap (λ (c : ℕ). at_count c p) same ∙ counted_page p.count p counted.1)
+        is k ∙ ap (λ (b : Bool). if b then lowered (get pool k) else get pool k) t ∙ e
+        ∙ sym (ap (λ (c : ℕ). at_count c p) same ∙ counted_page p.count p counted.1)
 
   later_table : IsTableOf (get pool) (entry_at later)
   later_table = record {
     low = λ q m. let t = mapped_before q m in h.current.low q (ap (λ (e : Entry). e.mapped) (sym (others q t)) ∙ m);
     own = λ q m. let t = mapped_before q m in
-        subst (λ (e : Entry). IsSomeAnd (get pool e.key) (λ p. p.number ≡ q)) (sym (others q t)) (h.current.own q (ap (λ (e : Entry). e.mapped) (sym (others q t)) ∙ m));
+        subst (λ (e : Entry). IsSomeAnd (get pool e.key) (λ p. p.number ≡ q)) (sym (others q t))
+        (h.current.own q (ap (λ (e : Entry). e.mapped) (sym (others q t)) ∙ m));
     none = λ q m. elim (cases_eq q n) [
       | inl w ↦ ap (λ (i : ℕ). (entry_at later i).permissions) w ∙ none
       | inr w ↦ ap (λ (e : Entry). e.permissions) (others q w) ∙ h.current.none q (ap (λ (e : Entry). e.mapped) (sym (others q w)) ∙ m)
@@ -82,20 +85,29 @@ module _ (pool new : Slab Page) (table later : Table) (kept : List (Option Table
 
   removed_pages : (q : ℕ) → q ≢ n → pages_in (get new) (entry_at later) q ≡ pages_in (get pool) (entry_at table) q
   removed_pages q apart =
-      pages_stay (get pool) (get new) (sharers (entry_at later) kept) removed_settles (entry_at later) later_table (current_shares (entry_at later) kept) q
+      pages_stay (get pool) (get new) (sharers (entry_at later) kept) removed_settles (entry_at later) later_table
+      (current_shares (entry_at later) kept) q
       ∙ ap (λ (e : Entry). option_map (value_in e) (page_in (get pool) e)) (others q apart)
 
   removed_counts : (q : ℕ) → q ≢ n → counts_in (get new) (entry_at later) q ≡ counts_in (get pool) (entry_at table) q
-  removed_counts q apart = by_test (entry_at later q).mapped refl ∙ ap (λ (e : Entry). option_map (λ (p : Page). p.count) (page_in (get pool) e)) (others q apart) where
-    by_test : (b : Bool) → (entry_at later q).mapped ≡ b → option_map (λ (p : Page). p.count) (if b then get new (entry_at later q).key else None) ≡ option_map (λ (p : Page). p.count) (if b then get pool (entry_at later q).key else None)
-    by_test false e = refl
-    by_test true e =
-        let f = settled (get pool) (get new) (sharers (entry_at later) kept) removed_settles (entry_at later) later_table (current_shares (entry_at later) kept) q e in
-        let k = (entry_at later q).key in
-        let count : f.0.count ≡ sharers (entry_at later) kept q k = (count_is (get pool) (entry_at table) kept h k f.0 f.1).0 ∙ ap (λ (i : ℕ). sharers (entry_at table) kept i k) f.2 ∙ sym (same_shares q k apart) in
-        ap (option_map (λ (p : Page). p.count)) f.3 ∙ ap Some (sym count) ∙ sym (ap (option_map (λ (p : Page). p.count)) f.1)
+  removed_counts q apart =
+      by_test (entry_at later q).mapped refl
+      ∙ ap (λ (e : Entry). option_map (λ (p : Page). p.count) (page_in (get pool) e)) (others q apart) where
+        by_test : (b : Bool) → (entry_at later q).mapped ≡ b →
+            option_map (λ (p : Page). p.count) (if b then get new (entry_at later q).key else None)
+            ≡ option_map (λ (p : Page). p.count) (if b then get pool (entry_at later q).key else None)
+        by_test false e = refl
+        by_test true e =
+            let f = settled (get pool) (get new) (sharers (entry_at later) kept) removed_settles (entry_at later) later_table
+            (current_shares (entry_at later) kept) q e in
+            let k = (entry_at later q).key in
+            let count : f.0.count ≡ sharers (entry_at later) kept q k =
+            (count_is (get pool) (entry_at table) kept h k f.0 f.1).0 ∙ ap (λ (i : ℕ). sharers (entry_at table) kept i k) f.2
+            ∙ sym (same_shares q k apart) in
+            ap (option_map (λ (p : Page). p.count)) f.3 ∙ ap Some (sym count) ∙ sym (ap (option_map (λ (p : Page). p.count)) f.1)
 
-  pub removed_contents : slab_len new + freed (counts_in (get pool) (entry_at table) n) ≡ slab_len pool → IsRemoved n (contents_in pool table kept) (contents_in new later kept)
+  pub removed_contents : slab_len new + freed (counts_in (get pool) (entry_at table) n) ≡ slab_len pool →
+      IsRemoved n (contents_in pool table kept) (contents_in new later kept)
   removed_contents len = record {
     here = ap (λ (b : Bool). option_map (value_in (entry_at later n)) (if b then get new (entry_at later n).key else None)) gone;
     count = ap (λ (b : Bool). option_map (λ (p : Page). p.count) (if b then get new (entry_at later n).key else None)) gone;
@@ -103,21 +115,25 @@ module _ (pool new : Slab Page) (table later : Table) (kept : List (Option Table
       pages = removed_pages;
       counts = removed_counts;
       kept = λ i j. kept_pages_stay (get pool) (get new) kept kept j refl
-          (pages_stay (get pool) (get new) (sharers (entry_at later) kept) removed_settles (slot_at kept j) (h.slots j) (slot_shares (entry_at later) kept j)) i;
+          (pages_stay (get pool) (get new) (sharers (entry_at later) kept) removed_settles (slot_at kept j) (h.slots j)
+          (slot_shares (entry_at later) kept j)) i;
     };
     live = len;
   }
 
-pub no_shares : (kept : List (Option Table)) (n k : ℕ) → ((i : ℕ) → has (slot_at kept i) n k ≡ false) → count_by (λ s. has (slot_entry s) n k) kept ≡ 0
+pub no_shares : (kept : List (Option Table)) (n k : ℕ) → ((i : ℕ) → has (slot_at kept i) n k ≡ false) →
+    count_by (λ s. has (slot_entry s) n k) kept ≡ 0
 no_shares [] n k h = refl
 no_shares (s ∷ kept) n k h =
     let f : Option Table → ℕ = λ s. one_if (has (slot_entry s) n k) in
     let first : f s ≡ 0 = ap one_if (h 0) in
     omega (arith, sum_by-cons f s kept, first, no_shares kept n k (λ i. h (suc i)))
 
-module _ (pool new : Slab Page) (table later : Table) (kept : List (Option Table)) (n key : ℕ) (h : AreShared (get pool) (entry_at table) kept)
+module _ (pool new : Slab Page) (table later : Table) (kept : List (Option Table)) (n key : ℕ)
+    (h : AreShared (get pool) (entry_at table) kept)
     (low : n < 0x80000) (gone : (entry_at table n).mapped ≡ false) (free : get pool key ≡ None) (e : Entry) (p : Page)
-    (here : entry_at later n ≡ e) (keyed : e.key ≡ key) (mapped : e.mapped ≡ true) (numbered : p.number ≡ n) (counted-one : p.count ≡ 1) (fits : FillPage p.bytes.value)
+    (here : entry_at later n ≡ e) (keyed : e.key ≡ key) (mapped : e.mapped ≡ true) (numbered : p.number ≡ n) (counted-one : p.count ≡ 1)
+    (fits : FillPage p.bytes.value)
     (others : (q : ℕ) → q ≢ n → entry_at later q ≡ entry_at table q)
     (page : get new key ≡ Some p) (rest : (k : ℕ) → k ≢ key → get new k ≡ get pool k) where
   no_key : (t : ℕ → Entry) → IsTableOf (get pool) t → (q : ℕ) → (t q).mapped ≡ true → (t q).key ≢ key
@@ -156,15 +172,19 @@ module _ (pool new : Slab Page) (table later : Table) (kept : List (Option Table
     no = elim (eqb_tells key k) [ inl w ↦ absurd (apart (sym w.1)) | inr w ↦ w.0 ]
 
     by_number : (q ≡ n) ⊎ (q ≡ n → ⊥) → has (entry_at later) q k ≡ has (entry_at table) q k
-    by_number (inl w) = ap (λ (i : ℕ). has (entry_at later) i k) w ∙ has_here k ∙ no ∙ sym (ap (λ (i : ℕ). has (entry_at table) i k) w ∙ ap (λ (b : Bool). b && ((entry_at table n).key == k)) gone)
+    by_number (inl w) =
+        ap (λ (i : ℕ). has (entry_at later) i k) w ∙ has_here k ∙ no
+        ∙ sym (ap (λ (i : ℕ). has (entry_at table) i k) w ∙ ap (λ (b : Bool). b && ((entry_at table n).key == k)) gone)
     by_number (inr w) = ap (λ (d : Entry). entry_has d k) (others q w)
 
   placed_current : IsTableOf (get new) (entry_at later)
   placed_current = record {
-    low = λ q m. elim (cases_eq q n) [ inl w ↦ omega (arith, w, low) | inr w ↦ h.current.low q (ap (λ (d : Entry). d.mapped) (sym (others q w)) ∙ m) ];
+    low = λ q m. elim (cases_eq q n)
+        [ inl w ↦ omega (arith, w, low) | inr w ↦ h.current.low q (ap (λ (d : Entry). d.mapped) (sym (others q w)) ∙ m) ];
     own = λ q m. elim (cases_eq q n) [
       | inl w ↦ subst (λ (i : ℕ). IsSomeAnd (get new (entry_at later i).key) (λ p. p.number ≡ i)) (sym w)
-          (subst (λ (o : Option Page). IsSomeAnd o (λ p. p.number ≡ n)) (sym (ap (λ (d : Entry). get new d.key) here ∙ ap (get new) keyed ∙ page)) numbered)
+          (subst (λ (o : Option Page). IsSomeAnd o (λ p. p.number ≡ n))
+          (sym (ap (λ (d : Entry). get new d.key) here ∙ ap (get new) keyed ∙ page)) numbered)
       | inr w ↦ subst (λ (d : Entry). IsSomeAnd (get new d.key) (λ p. p.number ≡ q)) (sym (others q w))
           ((stays (entry_at table) h.current).own q (ap (λ (d : Entry). d.mapped) (sym (others q w)) ∙ m))
     ];
@@ -175,36 +195,52 @@ module _ (pool new : Slab Page) (table later : Table) (kept : List (Option Table
   }
 
   pub placed_shared : AreShared (get new) (entry_at later) kept
-  placed_shared = record { current = placed_current; slots = λ i. stays (slot_at kept i) (h.slots i); counted = counted; few = h.few; filled = filled } where
-    filled : (k : ℕ) → IfSome (get new k) (λ p. FillPage p.bytes.value)
-    filled k = elim (cases_eq k key) [
-      | inl w ↦ subst (λ (o : Option Page). IfSome o (λ p. FillPage p.bytes.value)) (sym (ap (get new) w ∙ page)) fits
-      | inr w ↦ subst (λ (o : Option Page). IfSome o (λ p. FillPage p.bytes.value)) (sym (rest k w)) (h.filled k)
-    ]
+  placed_shared =
+      record {
+        current = placed_current;
+        slots = λ i. stays (slot_at kept i) (h.slots i);
+        counted = counted;
+        few = h.few;
+        filled = filled;
+      } where
+        filled : (k : ℕ) → IfSome (get new k) (λ p. FillPage p.bytes.value)
+        filled k = elim (cases_eq k key) [
+          | inl w ↦ subst (λ (o : Option Page). IfSome o (λ p. FillPage p.bytes.value)) (sym (ap (get new) w ∙ page)) fits
+          | inr w ↦ subst (λ (o : Option Page). IfSome o (λ p. FillPage p.bytes.value)) (sym (rest k w)) (h.filled k)
+        ]
 
-    old : (k : ℕ) → k ≢ key → (o : Option Page) → get pool k ≡ o → IfSome o (λ p. (p.count ≡ sharers (entry_at later) kept p.number k) × (1 ≤ p.count))
-    old k apart None w = tt
-    old k apart (Some q) w = let c = count_is (get pool) (entry_at table) kept h k q w in (c.0 ∙ sym (same_share q.number k apart), c.1)
+        old : (k : ℕ) → k ≢ key → (o : Option Page) → get pool k ≡ o →
+            IfSome o (λ p. (p.count ≡ sharers (entry_at later) kept p.number k) × (1 ≤ p.count))
+        old k apart None w = tt
+        old k apart (Some q) w = let c = count_is (get pool) (entry_at table) kept h k q w in (c.0 ∙ sym (same_share q.number k apart), c.1)
 
-    counted : (k : ℕ) → IfSome (get new k) (λ p. (p.count ≡ sharers (entry_at later) kept p.number k) × (1 ≤ p.count))
-    counted k = elim (cases_eq k key) [
-      | inl w ↦
-          let one : p.count ≡ sharers (entry_at later) kept p.number k = counted-one ∙ sym own_shares ∙ sym (ap (λ (i : ℕ). sharers (entry_at later) kept i k) numbered ∙ ap (λ (i : ℕ). sharers (entry_at later) kept n i) w) in
-          subst (λ (o : Option Page). IfSome o (λ p. (p.count ≡ sharers (entry_at later) kept p.number k) × (1 ≤ p.count))) (sym (ap (get new) w ∙ page)) (one, omega (arith, counted-one))
-      | inr w ↦ subst (λ (o : Option Page). IfSome o (λ p. (p.count ≡ sharers (entry_at later) kept p.number k) × (1 ≤ p.count))) (sym (rest k w)) (old k w (get pool k) refl)
-    ]
+        counted : (k : ℕ) → IfSome (get new k) (λ p. (p.count ≡ sharers (entry_at later) kept p.number k) × (1 ≤ p.count))
+        counted k = elim (cases_eq k key) [
+          | inl w ↦
+              let one : p.count ≡ sharers (entry_at later) kept p.number k =
+              counted-one ∙ sym own_shares
+              ∙ sym (ap (λ (i : ℕ). sharers (entry_at later) kept i k) numbered ∙ ap (λ (i : ℕ). sharers (entry_at later) kept n i) w) in
+              subst (λ (o : Option Page). IfSome o (λ p. (p.count ≡ sharers (entry_at later) kept p.number k) × (1 ≤ p.count)))
+              (sym (ap (get new) w ∙ page)) (one, omega (arith, counted-one))
+          | inr w ↦ subst (λ (o : Option Page). IfSome o (λ p. (p.count ≡ sharers (entry_at later) kept p.number k) × (1 ≤ p.count)))
+              (sym (rest k w)) (old k w (get pool k) refl)
+        ]
 
   placed_page : page_in (get new) (entry_at later n) ≡ Some p
   placed_page = ap (page_in (get new)) here ∙ ap (λ (b : Bool). if b then get new e.key else None) mapped ∙ ap (get new) keyed ∙ page
 
-  pub attached_contents : slab_len new ≡ slab_len pool + 1 → IsAttached n (value_in e p) (contents_in pool table kept) (contents_in new later kept)
+  pub attached_contents : slab_len new ≡ slab_len pool + 1 →
+      IsAttached n (value_in e p) (contents_in pool table kept) (contents_in new later kept)
   attached_contents len = record {
     here = ap (option_map (value_in (entry_at later n))) placed_page ∙ ap (λ (d : Entry). Some (value_in d p)) here;
     own = ap (option_map (λ (q : Page). q.count)) placed_page ∙ ap Some counted-one;
     rest = record {
-      pages = λ q w. ap (λ (d : Entry). option_map (value_in d) (page_in (get new) d)) (others q w) ∙ ap (option_map (value_in (entry_at table q))) (page_stays (entry_at table) h.current q);
-      counts = λ q w. ap (λ (d : Entry). option_map (λ (p : Page). p.count) (page_in (get new) d)) (others q w) ∙ ap (option_map (λ (p : Page). p.count)) (page_stays (entry_at table) h.current q);
-      kept = λ i j. kept_pages_stay (get pool) (get new) kept kept j refl (λ q. ap (option_map (value_in (slot_at kept j q))) (page_stays (slot_at kept j) (h.slots j) q)) i;
+      pages = λ q w. ap (λ (d : Entry). option_map (value_in d) (page_in (get new) d)) (others q w)
+          ∙ ap (option_map (value_in (entry_at table q))) (page_stays (entry_at table) h.current q);
+      counts = λ q w. ap (λ (d : Entry). option_map (λ (p : Page). p.count) (page_in (get new) d)) (others q w)
+          ∙ ap (option_map (λ (p : Page). p.count)) (page_stays (entry_at table) h.current q);
+      kept = λ i j. kept_pages_stay (get pool) (get new) kept kept j refl
+          (λ q. ap (option_map (value_in (slot_at kept j q))) (page_stays (slot_at kept j) (h.slots j) q)) i;
     };
     live = len;
   }
@@ -231,7 +267,8 @@ placed n page old mid new r a = record {
 
 -- ---- room that is made changes nothing
 
-module _ (pool new : Slab Page) (table later : Table) (kept : List (Option Table)) (alike : AreAlike table later) (same : (k : ℕ) → get new k ≡ get pool k) where
+module _ (pool new : Slab Page) (table later : Table) (kept : List (Option Table)) (alike : AreAlike table later)
+    (same : (k : ℕ) → get new k ≡ get pool k) where
   tables : entry_at later ≡ entry_at table
   tables = λ i n. alike.at n i
 
@@ -239,50 +276,75 @@ module _ (pool new : Slab Page) (table later : Table) (kept : List (Option Table
   pools = λ i k. same k i
 
   pub roomy_shared : AreShared (get pool) (entry_at table) kept → AreShared (get new) (entry_at later) kept
-  roomy_shared h = subst (λ (t : ℕ → Entry). AreShared (get new) t kept) (sym tables) (subst (λ (f : ℕ → Option Page). AreShared f (entry_at table) kept) (sym pools) h)
+  roomy_shared h =
+      subst (λ (t : ℕ → Entry). AreShared (get new) t kept) (sym tables)
+      (subst (λ (f : ℕ → Option Page). AreShared f (entry_at table) kept) (sym pools) h)
 
   pub roomy_contents : slab_len new ≡ slab_len pool → contents_in new later kept ≡ contents_in pool table kept
-  roomy_contents len = λ i. record { pages = pages_in (pools i) (tables i); counts = counts_in (pools i) (tables i); kept = kept_in (pools i) kept; live = len i }
+  roomy_contents len =
+      λ i. record {
+        pages = pages_in (pools i) (tables i);
+        counts = counts_in (pools i) (tables i);
+        kept = kept_in (pools i) kept;
+        live = len i;
+      }
 
 -- ---- bytes that are written into a page that no snapshot shares
 
-module _ (pool new : Slab Page) (table : Table) (kept : List (Option Table)) (n at key : ℕ) (bs : List ℕ) (h : AreShared (get pool) (entry_at table) kept)
-    (m : (entry_at table n).mapped ≡ true) (keyed : (entry_at table n).key ≡ key) (p q : Page) (there : get pool key ≡ Some p) (one : p.count ≡ 1)
+module _ (pool new : Slab Page) (table : Table) (kept : List (Option Table)) (n at key : ℕ) (bs : List ℕ)
+    (h : AreShared (get pool) (entry_at table) kept)
+    (m : (entry_at table n).mapped ≡ true) (keyed : (entry_at table n).key ≡ key) (p q : Page) (there : get pool key ≡ Some p)
+    (one : p.count ≡ 1)
     (page : get new key ≡ Some q) (is : IsRewritten (written p.bytes.value at bs) p q)
     (rest : (k : ℕ) → k ≢ key → get new k ≡ get pool k) where
   numbered : p.number ≡ n
-  numbered = let f = found (get pool) (entry_at table) n h.current m in let same : Some f.0 ≡ Some p = sym f.1 ∙ ap (get pool) keyed ∙ there in cc (same, f.2)
+  numbered = let f = found (get pool) (entry_at table) n h.current m in let same : Some f.0 ≡ Some p =
+      sym f.1 ∙ ap (get pool) keyed ∙ there in cc (same, f.2)
 
   -- a table that has the page has it at its number
   at_number : (t : ℕ → Entry) → IsTableOf (get pool) t → (i : ℕ) → (t i).mapped ≡ true → (t i).key ≡ key → i ≡ n
-  at_number t j i w e = let f = found (get pool) t i j w in let same : Some f.0 ≡ Some p = sym f.1 ∙ ap (get pool) e ∙ there in let number : f.0.number ≡ p.number = cc (same) in sym f.2 ∙ number ∙ numbered
+  at_number t j i w e = let f = found (get pool) t i j w in let same : Some f.0 ≡ Some p =
+      sym f.1 ∙ ap (get pool) e ∙ there in let number : f.0.number ≡ p.number = cc (same) in sym f.2 ∙ number ∙ numbered
 
   stays-written : (t : ℕ → Entry) → IsTableOf (get pool) t → IsTableOf (get new) t
   stays-written t j = record {
     low = j.low;
     own = λ i w. elim (cases_eq (t i).key key) [
-      | inl e ↦ subst (λ (o : Option Page). IsSomeAnd o (λ p. p.number ≡ i)) (sym (ap (get new) e ∙ page)) (is.number ∙ numbered ∙ sym (at_number t j i w e))
+      | inl e ↦ subst (λ (o : Option Page). IsSomeAnd o (λ p. p.number ≡ i)) (sym (ap (get new) e ∙ page))
+          (is.number ∙ numbered ∙ sym (at_number t j i w e))
       | inr e ↦ subst (λ (o : Option Page). IsSomeAnd o (λ p. p.number ≡ i)) (sym (rest (t i).key e)) (j.own i w)
     ];
     none = j.none;
   }
 
   pub written_shared : AreShared (get new) (entry_at table) kept
-  written_shared = record { current = stays-written (entry_at table) h.current; slots = λ i. stays-written (slot_at kept i) (h.slots i); counted = counted; few = h.few; filled = filled } where
-    filled : (k : ℕ) → IfSome (get new k) (λ p. FillPage p.bytes.value)
-    filled k = elim (cases_eq k key) [
-      | inl e ↦ subst (λ (o : Option Page). IfSome o (λ p. FillPage p.bytes.value)) (sym (ap (get new) e ∙ page)) is.filled
-      | inr e ↦ subst (λ (o : Option Page). IfSome o (λ p. FillPage p.bytes.value)) (sym (rest k e)) (h.filled k)
-    ]
+  written_shared =
+      record {
+        current = stays-written (entry_at table) h.current;
+        slots = λ i. stays-written (slot_at kept i) (h.slots i);
+        counted = counted;
+        few = h.few;
+        filled = filled;
+      } where
+        filled : (k : ℕ) → IfSome (get new k) (λ p. FillPage p.bytes.value)
+        filled k = elim (cases_eq k key) [
+          | inl e ↦ subst (λ (o : Option Page). IfSome o (λ p. FillPage p.bytes.value)) (sym (ap (get new) e ∙ page)) is.filled
+          | inr e ↦ subst (λ (o : Option Page). IfSome o (λ p. FillPage p.bytes.value)) (sym (rest k e)) (h.filled k)
+        ]
 
-    counted : (k : ℕ) → IfSome (get new k) (λ p. (p.count ≡ sharers (entry_at table) kept p.number k) × (1 ≤ p.count))
-    counted k = elim (cases_eq k key) [
-      | inl e ↦
-          let c = count_is (get pool) (entry_at table) kept h key p there in
-          let same : q.count ≡ sharers (entry_at table) kept q.number k = is.count ∙ c.0 ∙ sym (ap (λ (i : ℕ). sharers (entry_at table) kept i k) is.number ∙ ap (λ (i : ℕ). sharers (entry_at table) kept p.number i) e) in
-          subst (λ (o : Option Page). IfSome o (λ p. (p.count ≡ sharers (entry_at table) kept p.number k) × (1 ≤ p.count))) (sym (ap (get new) e ∙ page)) (same, omega (arith, is.count, c.1))
-      | inr e ↦ subst (λ (o : Option Page). IfSome o (λ p. (p.count ≡ sharers (entry_at table) kept p.number k) × (1 ≤ p.count))) (sym (rest k e)) (h.counted k)
-    ]
+        counted : (k : ℕ) → IfSome (get new k) (λ p. (p.count ≡ sharers (entry_at table) kept p.number k) × (1 ≤ p.count))
+        counted k = elim (cases_eq k key) [
+          | inl e ↦
+              let c = count_is (get pool) (entry_at table) kept h key p there in
+              let same : q.count ≡ sharers (entry_at table) kept q.number k =
+              is.count ∙ c.0
+              ∙ sym (ap (λ (i : ℕ). sharers (entry_at table) kept i k) is.number
+              ∙ ap (λ (i : ℕ). sharers (entry_at table) kept p.number i) e) in
+              subst (λ (o : Option Page). IfSome o (λ p. (p.count ≡ sharers (entry_at table) kept p.number k) × (1 ≤ p.count)))
+              (sym (ap (get new) e ∙ page)) (same, omega (arith, is.count, c.1))
+          | inr e ↦ subst (λ (o : Option Page). IfSome o (λ p. (p.count ≡ sharers (entry_at table) kept p.number k) × (1 ≤ p.count)))
+              (sym (rest k e)) (h.counted k)
+        ]
 
   unmoved : (t : ℕ → Entry) (i : ℕ) → ((t i).mapped ≡ true → (t i).key ≢ key) → page_in (get new) (t i) ≡ page_in (get pool) (t i)
   unmoved t i apart = by_test (t i).mapped refl where
@@ -293,7 +355,9 @@ module _ (pool new : Slab Page) (table : Table) (kept : List (Option Table)) (n 
   -- no snapshot has it
   kept_apart : (j i : ℕ) → (slot_at kept j i).mapped ≡ true → (slot_at kept j i).key ≢ key
   kept_apart j i w e =
-      let count : sharers (entry_at table) kept n key ≡ 1 = ap (λ (i : ℕ). sharers (entry_at table) kept i key) (sym numbered) ∙ sym (count_is (get pool) (entry_at table) kept h key p there).0 ∙ one in
+      let count : sharers (entry_at table) kept n key ≡ 1 =
+      ap (λ (i : ℕ). sharers (entry_at table) kept i key) (sym numbered)
+      ∙ sym (count_is (get pool) (entry_at table) kept h key p there).0 ∙ one in
       let mine : has (entry_at table) n key ≡ true = ap (λ (k : ℕ). has (entry_at table) n k) (sym keyed) ∙ has_own (entry_at table) n m in
       let none = alone (entry_at table) kept n key count mine j in
       let has_it : has (slot_at kept j) i key ≡ true = ap (λ (k : ℕ). has (slot_at kept j) i k) (sym e) ∙ has_own (slot_at kept j) i w in
@@ -307,15 +371,21 @@ module _ (pool new : Slab Page) (table : Table) (kept : List (Option Table)) (n 
 
   pub written_contents : slab_len new ≡ slab_len pool → IsWritten n at bs (contents_in pool table kept) (contents_in new table kept)
   written_contents len = record {
-    page = ap (option_map (value_in (entry_at table n))) page-new ∙ ap (λ (bytes : List ℕ). Some (page_of (entry_at table n) bytes)) is.bytes_are
+    page = ap (option_map (value_in (entry_at table n))) page-new
+        ∙ ap (λ (bytes : List ℕ). Some (page_of (entry_at table n) bytes)) is.bytes_are
         ∙ sym (ap (λ (o : Option Page). option_map (with_bytes at bs) (option_map (value_in (entry_at table n)) o)) page-old);
     own = ap (option_map (λ (p : Page). p.count)) page-new ∙ ap Some (is.count ∙ one);
     rest = record {
-      pages = λ i apart. ap (option_map (value_in (entry_at table i))) (unmoved (entry_at table) i (λ w e. apart (at_number (entry_at table) h.current i w e)));
-      counts = λ i apart. ap (option_map (λ (p : Page). p.count)) (unmoved (entry_at table) i (λ w e. apart (at_number (entry_at table) h.current i w e)));
-      kept = λ i j. kept_pages_stay (get pool) (get new) kept kept j refl (λ w. ap (option_map (value_in (slot_at kept j w))) (unmoved (slot_at kept j) w (kept_apart j w))) i;
+      pages = λ i apart. ap (option_map (value_in (entry_at table i)))
+          (unmoved (entry_at table) i (λ w e. apart (at_number (entry_at table) h.current i w e)));
+      counts = λ i apart. ap (option_map (λ (p : Page). p.count))
+          (unmoved (entry_at table) i (λ w e. apart (at_number (entry_at table) h.current i w e)));
+      kept = λ i j. kept_pages_stay (get pool) (get new) kept kept j refl
+          (λ w. ap (option_map (value_in (slot_at kept j w))) (unmoved (slot_at kept j) w (kept_apart j w))) i;
     };
-    live = let none : added (option_map (λ (p : Page). p.count) (page_in (get pool) (entry_at table n))) ≡ 0 = ap (λ (o : Option Page). added (option_map (λ (p : Page). p.count) o)) page-old ∙ ap (λ (c : ℕ). added (Some c)) one in omega (arith, len, none);
+    live = let none : added (option_map (λ (p : Page). p.count) (page_in (get pool) (entry_at table n))) ≡ 0 =
+        ap (λ (o : Option Page). added (option_map (λ (p : Page). p.count) o)) page-old ∙ ap (λ (c : ℕ). added (Some c)) one in
+        omega (arith, len, none);
   }
 
 pub on_err : {T E : Type 0} (r : Result T E) (P : Type 0) → P → OnErr r P
@@ -336,15 +406,19 @@ unchanged n c one = record {
   live = let none : added (c.counts n) ≡ 0 = ap added one in omega (arith, none);
 }
 
-pub placed_again : (n : ℕ) (page : PageValue) (old new : Contents) → Some page ≡ old.pages n → IsPlaced n page old new → IsUnshared n old new
+pub placed_again : (n : ℕ) (page : PageValue) (old new : Contents) → Some page ≡ old.pages n → IsPlaced n page old new →
+    IsUnshared n old new
 placed_again n page old new e i = record { here = i.here ∙ e; own = i.own; rest = i.rest; live = i.live }
 
-module _ (pool : Slab Page) (table : Table) (kept : List (Option Table)) (v : TablesValue) (h : AreShared (get pool) (entry_at table) kept) (view : value_of (contents_in pool table kept) ≡ v) (n : ℕ) where
+module _ (pool : Slab Page) (table : Table) (kept : List (Option Table)) (v : TablesValue) (h : AreShared (get pool) (entry_at table) kept)
+    (view : value_of (contents_in pool table kept) ≡ v) (n : ℕ) where
   pub live_mapped : IsSome ((contents_of v).pages n) → (entry_at table n).mapped ≡ true
-  live_mapped live = by_test (entry_at table n).mapped (subst (λ (c : Contents). IsSome (c.pages n)) (seen pool table kept v h view) live) where
-    by_test : (b : Bool) → IsSome (option_map (value_in (entry_at table n)) (if b then get pool (entry_at table n).key else None)) → b ≡ true
-    by_test true i = refl
-    by_test false i = i
+  live_mapped live =
+      by_test (entry_at table n).mapped (subst (λ (c : Contents). IsSome (c.pages n)) (seen pool table kept v h view) live) where
+        by_test : (b : Bool) → IsSome (option_map (value_in (entry_at table n)) (if b then get pool (entry_at table n).key else None)) →
+            b ≡ true
+        by_test true i = refl
+        by_test false i = i
 
   pub own_mapped : (contents_of v).counts n ≡ Some 1 → (entry_at table n).mapped ≡ true
   own_mapped one = by_test (entry_at table n).mapped (sym (ap (λ (c : Contents). c.counts n) (seen pool table kept v h view)) ∙ one) where
@@ -352,16 +426,25 @@ module _ (pool : Slab Page) (table : Table) (kept : List (Option Table)) (v : Ta
     by_test true i = refl
     by_test false i = ap is_some i
 
-  pub count_at : (p : Page) → (entry_at table n).mapped ≡ true → get pool (entry_at table n).key ≡ Some p → (contents_of v).counts n ≡ Some p.count
-  count_at p m e = ap (λ (c : Contents). c.counts n) (seen pool table kept v h view) ∙ ap (λ (b : Bool). option_map (λ (p : Page). p.count) (if b then get pool (entry_at table n).key else None)) m ∙ ap (option_map (λ (p : Page). p.count)) e
+  pub count_at : (p : Page) → (entry_at table n).mapped ≡ true → get pool (entry_at table n).key ≡ Some p →
+      (contents_of v).counts n ≡ Some p.count
+  count_at p m e =
+      ap (λ (c : Contents). c.counts n) (seen pool table kept v h view)
+      ∙ ap (λ (b : Bool). option_map (λ (p : Page). p.count) (if b then get pool (entry_at table n).key else None)) m
+      ∙ ap (option_map (λ (p : Page). p.count)) e
 
   module _ (new : Slab Page) (at : ℕ) (bs : List ℕ) (e : Entry) (is : e ≡ entry_at table n) (own : (contents_of v).counts n ≡ Some 1)
-      (here : IfSome (get pool e.key) (λ p. IsSomeAnd (get new e.key) (IsRewritten (written p.bytes.value at bs) p))) (rest : (k : ℕ) → k ≢ e.key → get new k ≡ get pool k) where
+      (here : IfSome (get pool e.key) (λ p. IsSomeAnd (get new e.key) (IsRewritten (written p.bytes.value at bs) p)))
+      (rest : (k : ℕ) → k ≢ e.key → get new k ≡ get pool k) where
     rewritten : (p : Page) → get pool e.key ≡ Some p → (q : Page) × (get new e.key ≡ Some q) × IsRewritten (written p.bytes.value at bs) p q
-    rewritten p there = by_page (get new e.key) refl (subst (λ (o : Option Page). IfSome o (λ p. IsSomeAnd (get new e.key) (IsRewritten (written p.bytes.value at bs) p))) there here) where
-      by_page : (o : Option Page) → get new e.key ≡ o → IsSomeAnd o (IsRewritten (written p.bytes.value at bs) p) → (q : Page) × (get new e.key ≡ Some q) × IsRewritten (written p.bytes.value at bs) p q
-      by_page None w i = absurd i
-      by_page (Some q) w i = (q, w, i)
+    rewritten p there =
+        by_page (get new e.key) refl
+        (subst (λ (o : Option Page). IfSome o (λ p. IsSomeAnd (get new e.key) (IsRewritten (written p.bytes.value at bs) p))) there
+        here) where
+          by_page : (o : Option Page) → get new e.key ≡ o → IsSomeAnd o (IsRewritten (written p.bytes.value at bs) p) → (q : Page) ×
+              (get new e.key ≡ Some q) × IsRewritten (written p.bytes.value at bs) p q
+          by_page None w i = absurd i
+          by_page (Some q) w i = (q, w, i)
 
     keyed : (entry_at table n).key ≡ e.key
     keyed = ap (λ (d : Entry). d.key) (sym is)
@@ -376,20 +459,29 @@ module _ (pool : Slab Page) (table : Table) (kept : List (Option Table)) (v : Ta
     alone-page = let same : Some old-page.0.count ≡ Some 1 = sym (count_at old-page.0 (own_mapped own) old-page.1) ∙ own in cc (same)
 
     pub write_shared : AreShared (get new) (entry_at table) kept
-    write_shared = let r = rewritten old-page.0 there in written_shared pool new table kept n at e.key bs h (own_mapped own) keyed old-page.0 r.0 there alone-page r.1 r.2 rest
+    write_shared = let r =
+        rewritten old-page.0 there in
+        written_shared pool new table kept n at e.key bs h (own_mapped own) keyed old-page.0 r.0 there alone-page r.1 r.2 rest
 
-    pub write_contents : slab_len new ≡ slab_len pool → (w : TablesValue) → value_of (contents_in new table kept) ≡ w → IsWritten n at bs (contents_of v) (contents_of w)
+    pub write_contents : slab_len new ≡ slab_len pool → (w : TablesValue) → value_of (contents_in new table kept) ≡ w →
+        IsWritten n at bs (contents_of v) (contents_of w)
     write_contents len w view-new =
         let r = rewritten old-page.0 there in
-        transport (IsWritten n at bs) (contents_in pool table kept) (contents_in new table kept) (contents_of v) (contents_of w) (seen pool table kept v h view) (seen new table kept w write_shared view-new)
+        transport (IsWritten n at bs) (contents_in pool table kept) (contents_in new table kept) (contents_of v) (contents_of w)
+        (seen pool table kept v h view) (seen new table kept w write_shared view-new)
         (written_contents pool new table kept n at e.key bs h (own_mapped own) keyed old-page.0 r.0 there alone-page r.1 r.2 rest len)
 
 -- a page is unshared, and then written
-pub written_after : (n at : ℕ) (bs : List ℕ) (old mid new : Contents) → IsUnshared n old mid → IsWritten n at bs mid new → IsWritten n at bs old new
+pub written_after : (n at : ℕ) (bs : List ℕ) (old mid new : Contents) → IsUnshared n old mid → IsWritten n at bs mid new →
+    IsWritten n at bs old new
 written_after n at bs old mid new u w = record {
   page = w.page ∙ ap (option_map (with_bytes at bs)) u.here;
   own = w.own;
-  rest = record { pages = λ q a. w.rest.pages q a ∙ u.rest.pages q a; counts = λ q a. w.rest.counts q a ∙ u.rest.counts q a; kept = w.rest.kept ∙ u.rest.kept };
+  rest = record {
+    pages = λ q a. w.rest.pages q a ∙ u.rest.pages q a;
+    counts = λ q a. w.rest.counts q a ∙ u.rest.counts q a;
+    kept = w.rest.kept ∙ u.rest.kept;
+  };
   live = let none : added (mid.counts n) ≡ 0 = ap added u.own in omega (arith, w.live, u.live, none);
 }
 
@@ -397,15 +489,20 @@ pub writable_there : (o : Option PageValue) → allows_write o ≡ true → IsSo
 writable_there None e = e
 writable_there (Some p) e = refl
 
-module _ (pool : Slab Page) (table : Table) (kept : List (Option Table)) (v : TablesValue) (h : AreShared (get pool) (entry_at table) kept) (view : value_of (contents_in pool table kept) ≡ v) (n : ℕ)
+module _ (pool : Slab Page) (table : Table) (kept : List (Option Table)) (v : TablesValue) (h : AreShared (get pool) (entry_at table) kept)
+    (view : value_of (contents_in pool table kept) ≡ v) (n : ℕ)
     (e : Entry) (is : e ≡ entry_at table n) (allowed : e.permissions.write ≡ true) where
   writes_mapped : (entry_at table n).mapped ≡ true
-  writes_mapped = allowed_mapped (get pool) (entry_at table) n (λ p. p.write) h.current refl (ap (λ (d : Entry). d.permissions.write) (sym is) ∙ allowed)
+  writes_mapped =
+      allowed_mapped (get pool) (entry_at table) n (λ p. p.write) h.current refl
+      (ap (λ (d : Entry). d.permissions.write) (sym is) ∙ allowed)
 
   pub writable_page : allows_write ((contents_of v).pages n) ≡ true
   writable_page =
       let f = found (get pool) (entry_at table) n h.current writes_mapped in
-      ap (λ (c : Contents). allows_write (c.pages n)) (seen pool table kept v h view) ∙ ap allows_write (page_mapped (get pool) (entry_at table) n f.0 writes_mapped f.1) ∙ ap (λ (d : Entry). d.permissions.write) (sym is) ∙ allowed
+      ap (λ (c : Contents). allows_write (c.pages n)) (seen pool table kept v h view)
+      ∙ ap allows_write (page_mapped (get pool) (entry_at table) n f.0 writes_mapped f.1)
+      ∙ ap (λ (d : Entry). d.permissions.write) (sym is) ∙ allowed
 
   pub writable_present : IsSome (get pool e.key)
   writable_present = subst (λ (d : Entry). IsSome (get pool d.key)) (sym is) (present (get pool) (entry_at table) n h.current writes_mapped)
@@ -418,18 +515,22 @@ module _ (pool : Slab Page) (table : Table) (kept : List (Option Table)) (v : Ta
 
 -- ---- permissions that are set
 
-module _ (pool : Slab Page) (table later : Table) (kept : List (Option Table)) (n : ℕ) (permissions : Permissions) (h : AreShared (get pool) (entry_at table) kept)
+module _ (pool : Slab Page) (table later : Table) (kept : List (Option Table)) (n : ℕ) (permissions : Permissions)
+    (h : AreShared (get pool) (entry_at table) kept)
     (m : (entry_at table n).mapped ≡ true) (key : ℕ) (keyed : (entry_at table n).key ≡ key)
-    (here : entry_at later n ≡ record { key = key; mapped = true; permissions = permissions }) (others : (q : ℕ) → q ≢ n → entry_at later q ≡ entry_at table q) where
+    (here : entry_at later n ≡ record { key = key; mapped = true; permissions = permissions })
+    (others : (q : ℕ) → q ≢ n → entry_at later q ≡ entry_at table q) where
   same-mapped : (q : ℕ) → (entry_at later q).mapped ≡ (entry_at table q).mapped
   same-mapped q = elim (cases_eq q n) [
-    | inl w ↦ ap (λ (i : ℕ). (entry_at later i).mapped) w ∙ ap (λ (d : Entry). d.mapped) here ∙ sym (ap (λ (i : ℕ). (entry_at table i).mapped) w ∙ m)
+    | inl w ↦ ap (λ (i : ℕ). (entry_at later i).mapped) w ∙ ap (λ (d : Entry). d.mapped) here
+        ∙ sym (ap (λ (i : ℕ). (entry_at table i).mapped) w ∙ m)
     | inr w ↦ ap (λ (d : Entry). d.mapped) (others q w)
   ]
 
   same-key : (q : ℕ) → (entry_at later q).key ≡ (entry_at table q).key
   same-key q = elim (cases_eq q n) [
-    | inl w ↦ ap (λ (i : ℕ). (entry_at later i).key) w ∙ ap (λ (d : Entry). d.key) here ∙ sym (ap (λ (i : ℕ). (entry_at table i).key) w ∙ keyed)
+    | inl w ↦ ap (λ (i : ℕ). (entry_at later i).key) w ∙ ap (λ (d : Entry). d.key) here
+        ∙ sym (ap (λ (i : ℕ). (entry_at table i).key) w ∙ keyed)
     | inr w ↦ ap (λ (d : Entry). d.key) (others q w)
   ]
 
@@ -441,7 +542,8 @@ module _ (pool : Slab Page) (table later : Table) (kept : List (Option Table)) (
     current : IsTableOf (get pool) (entry_at later)
     current = record {
       low = λ q w. h.current.low q (sym (same-mapped q) ∙ w);
-      own = λ q w. subst (λ (k : ℕ). IsSomeAnd (get pool k) (λ p. p.number ≡ q)) (sym (same-key q)) (h.current.own q (sym (same-mapped q) ∙ w));
+      own = λ q w. subst (λ (k : ℕ). IsSomeAnd (get pool k) (λ p. p.number ≡ q)) (sym (same-key q))
+          (h.current.own q (sym (same-mapped q) ∙ w));
       none = λ q w. elim (cases_eq q n) [
         | inl e ↦ absurd (false≢true (sym (sym (same-mapped q) ∙ w) ∙ ap (λ (i : ℕ). (entry_at table i).mapped) e ∙ m))
         | inr e ↦ ap (λ (d : Entry). d.permissions) (others q e) ∙ h.current.none q (sym (same-mapped q) ∙ w)
@@ -451,7 +553,8 @@ module _ (pool : Slab Page) (table later : Table) (kept : List (Option Table)) (
     same-shares : (q k : ℕ) → sharers (entry_at later) kept q k ≡ sharers (entry_at table) kept q k
     same-shares q k = λ i. one_if (same-mapped q i && (same-key q i == k)) + count_by (λ s. has (slot_entry s) q k) kept
 
-    by_page : (k : ℕ) (o : Option Page) → IfSome o (λ p. (p.count ≡ sharers (entry_at table) kept p.number k) × (1 ≤ p.count)) → IfSome o (λ p. (p.count ≡ sharers (entry_at later) kept p.number k) × (1 ≤ p.count))
+    by_page : (k : ℕ) (o : Option Page) → IfSome o (λ p. (p.count ≡ sharers (entry_at table) kept p.number k) × (1 ≤ p.count)) →
+        IfSome o (λ p. (p.count ≡ sharers (entry_at later) kept p.number k) × (1 ≤ p.count))
     by_page k None i = tt
     by_page k (Some p) i = (i.0 ∙ sym (same-shares p.number k), i.1)
 
@@ -461,7 +564,8 @@ module _ (pool : Slab Page) (table later : Table) (kept : List (Option Table)) (
   pub protected_contents : IsProtected n permissions (contents_in pool table kept) (contents_in pool later kept)
   protected_contents = record {
     page =
-        ap (λ (d : Entry). option_map (value_in d) (page_in (get pool) (entry_at later n))) here ∙ ap (option_map (value_in (record { key = key; mapped = true; permissions = permissions }))) (same-page n)
+        ap (λ (d : Entry). option_map (value_in d) (page_in (get pool) (entry_at later n))) here
+        ∙ ap (option_map (value_in (record { key = key; mapped = true; permissions = permissions }))) (same-page n)
         ∙ by_page (page_in (get pool) (entry_at table n));
     count = ap (option_map (λ (p : Page). p.count)) (same-page n);
     rest = record {
@@ -471,7 +575,9 @@ module _ (pool : Slab Page) (table later : Table) (kept : List (Option Table)) (
     };
     live = refl;
   } where
-    by_page : (o : Option Page) → option_map (value_in (record { key = key; mapped = true; permissions = permissions })) o ≡ option_map (with_permissions permissions) (option_map (value_in (entry_at table n)) o)
+    by_page : (o : Option Page) →
+        option_map (value_in (record { key = key; mapped = true; permissions = permissions })) o
+        ≡ option_map (with_permissions permissions) (option_map (value_in (entry_at table n)) o)
     by_page None = refl
     by_page (Some p) = refl
 
@@ -498,7 +604,8 @@ overwritten bs bytes e =
     written_is bs bytes 0 (omega (arith, e)) ∙ ap (λ (rest : List ℕ). bs ++ rest) none ∙ append-nil bs
 
 -- all bytes of a page are written, and then its permissions set
-pub written_anew : (n : ℕ) (permissions : Permissions) (bs : List ℕ) (old mid new : Contents) → IsSome (old.pages n) → IfSome (old.pages n) (λ p. length bs ≡ length p.bytes) → IsWritten n 0 bs old mid → IsProtected n permissions mid new →
+pub written_anew : (n : ℕ) (permissions : Permissions) (bs : List ℕ) (old mid new : Contents) → IsSome (old.pages n) →
+    IfSome (old.pages n) (λ p. length bs ≡ length p.bytes) → IsWritten n 0 bs old mid → IsProtected n permissions mid new →
     IsPlaced n (record { permissions = permissions; bytes = bs }) old new
 written_anew n permissions bs old mid new there full w p = record {
   here = p.page ∙ ap (option_map (with_permissions permissions)) w.page ∙ by_page (old.pages n) there full;
@@ -510,6 +617,7 @@ written_anew n permissions bs old mid new there full w p = record {
   };
   live = p.live ∙ w.live;
 } where
-  by_page : (o : Option PageValue) → IsSome o → IfSome o (λ p. length bs ≡ length p.bytes) → option_map (with_permissions permissions) (option_map (with_bytes 0 bs) o) ≡ Some (record { permissions = permissions; bytes = bs })
+  by_page : (o : Option PageValue) → IsSome o → IfSome o (λ p. length bs ≡ length p.bytes) →
+      option_map (with_permissions permissions) (option_map (with_bytes 0 bs) o) ≡ Some (record { permissions = permissions; bytes = bs })
   by_page None e i = absurd (false≢true e)
   by_page (Some p) e i = ap (λ (bytes : List ℕ). Some (record { permissions = permissions; bytes = bytes })) (overwritten bs p.bytes i)

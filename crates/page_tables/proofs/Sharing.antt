@@ -28,9 +28,11 @@ has_key t n k h =
     (parts.0, elim (eqb_tells (t n).key k) [ inl w ↦ w.1 | inr w ↦ absurd (false≢true (sym w.0 ∙ parts.1)) ])
 
 -- the page of an entry
-pub found : (pool : ℕ → Option Page) (t : ℕ → Entry) (n : ℕ) → IsTableOf pool t → (t n).mapped ≡ true → (p : Page) × (pool (t n).key ≡ Some p) × (p.number ≡ n)
+pub found : (pool : ℕ → Option Page) (t : ℕ → Entry) (n : ℕ) → IsTableOf pool t → (t n).mapped ≡ true → (p : Page) ×
+    (pool (t n).key ≡ Some p) × (p.number ≡ n)
 found pool t n h m = by_option (pool (t n).key) refl (h.own n m) where
-  by_option : (o : Option Page) → pool (t n).key ≡ o → IsSomeAnd o (λ p. p.number ≡ n) → (p : Page) × (pool (t n).key ≡ Some p) × (p.number ≡ n)
+  by_option : (o : Option Page) → pool (t n).key ≡ o → IsSomeAnd o (λ p. p.number ≡ n) → (p : Page) × (pool (t n).key ≡ Some p) ×
+      (p.number ≡ n)
   by_option None e i = absurd i
   by_option (Some p) e i = (p, e, i)
 
@@ -48,7 +50,8 @@ slot_shares t kept i n k h =
     ]
 
 -- with one sharer there is no other
-pub alone : (t : ℕ → Entry) (kept : List (Option Table)) (n k : ℕ) → sharers t kept n k ≡ 1 → has t n k ≡ true → (i : ℕ) → has (slot_at kept i) n k ≡ false
+pub alone : (t : ℕ → Entry) (kept : List (Option Table)) (n k : ℕ) → sharers t kept n k ≡ 1 → has t n k ≡ true → (i : ℕ) →
+    has (slot_at kept i) n k ≡ false
 alone t kept n k count h i = by_test (has (slot_at kept i) n k) refl where
   by_test : (b : Bool) → has (slot_at kept i) n k ≡ b → b ≡ false
   by_test false e = refl
@@ -73,11 +76,17 @@ counted_page (suc c) p h = refl
 -- a table each of whose keys keeps a sharer keeps its pages
 module _ (pool new : ℕ → Option Page) (w : ℕ → ℕ → ℕ) (s : Settles pool w new) (t : ℕ → Entry) (h : IsTableOf pool t)
     (shared : (n k : ℕ) → has t n k ≡ true → 1 ≤ w n k) where
-  pub settled : (n : ℕ) → (t n).mapped ≡ true → (p : Page) × (pool (t n).key ≡ Some p) × (p.number ≡ n) × (new (t n).key ≡ Some (record p { count = w n (t n).key }))
+  pub settled : (n : ℕ) → (t n).mapped ≡ true → (p : Page) × (pool (t n).key ≡ Some p) × (p.number ≡ n) ×
+      (new (t n).key ≡ Some (record p { count = w n (t n).key }))
   settled n m =
       let f = found pool t n h m in
-      let own = has_own t n m in
-      (f.0, f.1, f.2, s (t n).key f.0 f.1 ∙ ap (λ (q : ℕ). at_count (w q (t n).key) f.0) f.2 ∙ counted_page (w n (t n).key) f.0 (shared n (t n).key own))
+      let own = has_own t n m in (
+        f.0,
+        f.1,
+        f.2,
+        s (t n).key f.0 f.1 ∙ ap (λ (q : ℕ). at_count (w q (t n).key) f.0) f.2
+            ∙ counted_page (w n (t n).key) f.0 (shared n (t n).key own),
+      )
 
   pub table_stays : IsTableOf new t
   table_stays = record {
@@ -88,7 +97,8 @@ module _ (pool new : ℕ → Option Page) (w : ℕ → ℕ → ℕ) (s : Settles
 
   pub pages_stay : (n : ℕ) → pages_in new t n ≡ pages_in pool t n
   pages_stay n = by_test (t n).mapped refl where
-    by_test : (b : Bool) → (t n).mapped ≡ b → option_map (value_in (t n)) (if b then new (t n).key else None) ≡ option_map (value_in (t n)) (if b then pool (t n).key else None)
+    by_test : (b : Bool) → (t n).mapped ≡ b →
+        option_map (value_in (t n)) (if b then new (t n).key else None) ≡ option_map (value_in (t n)) (if b then pool (t n).key else None)
     by_test false e = refl
     by_test true e = let f = settled n e in ap (option_map (value_in (t n))) f.3 ∙ sym (ap (option_map (value_in (t n))) f.1)
 
@@ -119,13 +129,16 @@ slot_pushed kept i slot e = record {
   others : (j : ℕ) → j ≢ i → get_or (kept ++ slot ∷ []) j None ≡ get_or kept j None
   others j apart = elim (cases_lt j (length kept)) [
     | inl w ↦ get_or-append kept (slot ∷ []) None j w
-    | inr w ↦ get_or-append_right kept (slot ∷ []) j None w ∙ nothing_in (j - length kept) (λ z. apart (omega (arith, z, w, e))) ∙ sym (get_or_past kept j None w)
+    | inr w ↦ get_or-append_right kept (slot ∷ []) j None w ∙ nothing_in (j - length kept) (λ z. apart (omega (arith, z, w, e)))
+        ∙ sym (get_or_past kept j None w)
   ]
 
 -- ---- tables over a pool whose counts settle
 
-pub shared_after : (pool new : ℕ → Option Page) (t : ℕ → Entry) (kept : List (Option Table)) → Settles pool (sharers t kept) new → ((k : ℕ) → pool k ≡ None → new k ≡ None) →
-    IsTableOf pool t → ((i : ℕ) → IsTableOf pool (slot_at kept i)) → length kept < 2 ^ 32 - 1 → ((k : ℕ) → IfSome (pool k) (λ p. FillPage p.bytes.value)) → AreShared new t kept
+pub shared_after : (pool new : ℕ → Option Page) (t : ℕ → Entry) (kept : List (Option Table)) → Settles pool (sharers t kept) new →
+    ((k : ℕ) → pool k ≡ None → new k ≡ None) →
+    IsTableOf pool t → ((i : ℕ) → IsTableOf pool (slot_at kept i)) → length kept < 2 ^ 32 - 1 →
+    ((k : ℕ) → IfSome (pool k) (λ p. FillPage p.bytes.value)) → AreShared new t kept
 shared_after pool new t kept s none h hs few full = record {
   current = table_stays pool new (sharers t kept) s t h (current_shares t kept);
   slots = λ i. table_stays pool new (sharers t kept) s (slot_at kept i) (hs i) (slot_shares t kept i);
@@ -137,21 +150,28 @@ shared_after pool new t kept s none h hs few full = record {
   filled_count p zero i = tt
   filled_count p (suc c) i = i
 
-  filled_page : (k : ℕ) (o : Option Page) → pool k ≡ o → IfSome o (λ p. FillPage p.bytes.value) → IfSome (new k) (λ p. FillPage p.bytes.value)
+  filled_page : (k : ℕ) (o : Option Page) → pool k ≡ o → IfSome o (λ p. FillPage p.bytes.value) →
+      IfSome (new k) (λ p. FillPage p.bytes.value)
   filled_page k None e i = subst (λ (o : Option Page). IfSome o (λ p. FillPage p.bytes.value)) (sym (none k e)) tt
-  filled_page k (Some p) e i = subst (λ (o : Option Page). IfSome o (λ p. FillPage p.bytes.value)) (sym (s k p e)) (filled_count p (sharers t kept p.number k) i)
+  filled_page k (Some p) e i =
+      subst (λ (o : Option Page). IfSome o (λ p. FillPage p.bytes.value)) (sym (s k p e)) (filled_count p (sharers t kept p.number k) i)
 
-  by_count : (k : ℕ) (p : Page) (c : ℕ) → sharers t kept p.number k ≡ c → IfSome (at_count c p) (λ q. (q.count ≡ sharers t kept q.number k) × (1 ≤ q.count))
+  by_count : (k : ℕ) (p : Page) (c : ℕ) → sharers t kept p.number k ≡ c →
+      IfSome (at_count c p) (λ q. (q.count ≡ sharers t kept q.number k) × (1 ≤ q.count))
   by_count k p zero e = tt
   by_count k p (suc c) e = (sym e, omega arith)
 
   by_page : (k : ℕ) (o : Option Page) → pool k ≡ o → IfSome (new k) (λ p. (p.count ≡ sharers t kept p.number k) × (1 ≤ p.count))
   by_page k None e = subst (λ (o : Option Page). IfSome o (λ p. (p.count ≡ sharers t kept p.number k) × (1 ≤ p.count))) (sym (none k e)) tt
-  by_page k (Some p) e = subst (λ (o : Option Page). IfSome o (λ p. (p.count ≡ sharers t kept p.number k) × (1 ≤ p.count))) (sym (s k p e)) (by_count k p (sharers t kept p.number k) refl)
+  by_page k (Some p) e =
+      subst (λ (o : Option Page). IfSome o (λ p. (p.count ≡ sharers t kept p.number k) × (1 ≤ p.count))) (sym (s k p e))
+      (by_count k p (sharers t kept p.number k) refl)
 
 -- the count of a page of the pool
-pub count_is : (pool : ℕ → Option Page) (t : ℕ → Entry) (kept : List (Option Table)) → AreShared pool t kept → (k : ℕ) (p : Page) → pool k ≡ Some p → (p.count ≡ sharers t kept p.number k) × (1 ≤ p.count)
-count_is pool t kept h k p e = subst (λ (o : Option Page). IfSome o (λ p. (p.count ≡ sharers t kept p.number k) × (1 ≤ p.count))) e (h.counted k)
+pub count_is : (pool : ℕ → Option Page) (t : ℕ → Entry) (kept : List (Option Table)) → AreShared pool t kept → (k : ℕ) (p : Page) →
+    pool k ≡ Some p → (p.count ≡ sharers t kept p.number k) × (1 ≤ p.count)
+count_is pool t kept h k p e =
+    subst (λ (o : Option Page). IfSome o (λ p. (p.count ≡ sharers t kept p.number k) × (1 ≤ p.count))) e (h.counted k)
 
 -- the test whether a table has a key, below the end of all pages
 pub below_end : (pool : ℕ → Option Page) (t : ℕ → Entry) → IsTableOf pool t → (k number : ℕ) → has_below t 0x80000 k number ≡ has t number k
@@ -168,7 +188,9 @@ raised_settles pool t u w v h counted more new is k p e =
     is k ∙ ap (raised_by u 0x80000 k) e ∙ ap (λ (b : Bool). if b then raised (Some p) else Some p) (below_end pool u h k p.number)
     ∙ by_test (has u p.number k) (more p.number k) where
       by_test : (b : Bool) → v p.number k ≡ w p.number k + one_if b → (if b then raised (Some p) else Some p) ≡ at_count (v p.number k) p
-      by_test true m = sym (ap (λ (c : ℕ). at_count c p) (m ∙ ap (λ (c : ℕ). c + 1) (sym (counted k p e).0)) ∙ counted_page (p.count + 1) p (omega arith))
+      by_test true m =
+          sym (ap (λ (c : ℕ). at_count c p) (m ∙ ap (λ (c : ℕ). c + 1) (sym (counted k p e).0))
+          ∙ counted_page (p.count + 1) p (omega arith))
       by_test false m =
           let same : v p.number k ≡ p.count = omega (arith, m, (counted k p e).0) in
           sym (ap (λ (c : ℕ). at_count c p) same ∙ counted_page p.count p (counted k p e).1)
@@ -188,7 +210,9 @@ lowered_settles pool u w v h counted less new is k p e =
 
 pub kept_pages_stay : (pool new : ℕ → Option Page) (kept later : List (Option Table)) (j : ℕ) → get_or later j None ≡ get_or kept j None →
     ((n : ℕ) → pages_in new (slot_at kept j) n ≡ pages_in pool (slot_at kept j) n) → kept_in new later j ≡ kept_in pool kept j
-kept_pages_stay pool new kept later j same stay = ap (option_map (λ t. pages_in new (entry_at t))) same ∙ by_slot (get_or kept j None) stay where
-  by_slot : (o : Option Table) → ((n : ℕ) → pages_in new (slot_entry o) n ≡ pages_in pool (slot_entry o) n) → option_map (λ t. pages_in new (entry_at t)) o ≡ option_map (λ t. pages_in pool (entry_at t)) o
-  by_slot None s = refl
-  by_slot (Some t) s = λ i. Some (λ n. s n i)
+kept_pages_stay pool new kept later j same stay =
+    ap (option_map (λ t. pages_in new (entry_at t))) same ∙ by_slot (get_or kept j None) stay where
+      by_slot : (o : Option Table) → ((n : ℕ) → pages_in new (slot_entry o) n ≡ pages_in pool (slot_entry o) n) →
+          option_map (λ t. pages_in new (entry_at t)) o ≡ option_map (λ t. pages_in pool (entry_at t)) o
+      by_slot None s = refl
+      by_slot (Some t) s = λ i. Some (λ n. s n i)

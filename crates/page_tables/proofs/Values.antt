@@ -24,7 +24,8 @@ with_apart : {X : Type 0} (m : List (ℕ × X)) (n q : ℕ) (o : Option X) → e
 with_apart m n q None e = refl
 with_apart m n q (Some x) e = ap (λ b. cond b (Some x) (at_number m q)) (is_at_nat q n ∙ e)
 
-with_here : {X : Type 0} (m : List (ℕ × X)) (n q : ℕ) (o : Option X) → eqb n q ≡ true → at_number m q ≡ None → at_number (with_entry m n o) q ≡ o
+with_here : {X : Type 0} (m : List (ℕ × X)) (n q : ℕ) (o : Option X) → eqb n q ≡ true → at_number m q ≡ None →
+    at_number (with_entry m n o) q ≡ o
 with_here m n q None e none = none
 with_here m n q (Some x) e none = ap (λ b. cond b (Some x) (at_number m q)) (is_at_nat q n ∙ e)
 
@@ -54,17 +55,25 @@ gathered_is n f h = λ i q. at q i where
   at q = elim (cases_lt q n) [ inl w ↦ gathered_below n f q w | inr w ↦ gathered_above n f q w ∙ sym (h q w) ]
 
 -- the value of bounded contents stands for them
-pub contents_is : (c : Contents) → IsBounded 0x80000 c.pages → IsBounded 0x80000 c.counts → IsBounded (2 ^ 32) c.kept → ((i : ℕ) → IfSome (c.kept i) (IsBounded 0x80000)) → contents_of (value_of c) ≡ c
-contents_is c pages counts kept each = λ i. record { pages = gathered_is 0x80000 c.pages pages i; counts = gathered_is 0x80000 c.counts counts i; kept = λ j. at j i; live = c.live } where
-  maps : (o : Option (ℕ → Option PageValue)) → IfSome o (IsBounded 0x80000) → option_map at_number (option_map (gathered 0x80000) o) ≡ o
-  maps None h = refl
-  maps (Some f) h = ap Some (gathered_is 0x80000 f h)
+pub contents_is : (c : Contents) → IsBounded 0x80000 c.pages → IsBounded 0x80000 c.counts → IsBounded (2 ^ 32) c.kept →
+    ((i : ℕ) → IfSome (c.kept i) (IsBounded 0x80000)) → contents_of (value_of c) ≡ c
+contents_is c pages counts kept each =
+    λ i. record {
+      pages = gathered_is 0x80000 c.pages pages i;
+      counts = gathered_is 0x80000 c.counts counts i;
+      kept = λ j. at j i;
+      live = c.live;
+    } where
+      maps : (o : Option (ℕ → Option PageValue)) → IfSome o (IsBounded 0x80000) → option_map at_number (option_map (gathered 0x80000) o) ≡ o
+      maps None h = refl
+      maps (Some f) h = ap Some (gathered_is 0x80000 f h)
 
-  none : IsBounded (2 ^ 32) (λ j. option_map (gathered 0x80000) (c.kept j))
-  none = λ j h. ap (option_map (gathered 0x80000)) (kept j h)
+      none : IsBounded (2 ^ 32) (λ j. option_map (gathered 0x80000) (c.kept j))
+      none = λ j h. ap (option_map (gathered 0x80000)) (kept j h)
 
-  at : (j : ℕ) → option_map at_number (at_number (gathered (2 ^ 32) (λ j. option_map (gathered 0x80000) (c.kept j))) j) ≡ c.kept j
-  at j = ap (option_map at_number) (λ i. gathered_is (2 ^ 32) (λ j. option_map (gathered 0x80000) (c.kept j)) none i j) ∙ maps (c.kept j) (each j)
+      at : (j : ℕ) → option_map at_number (at_number (gathered (2 ^ 32) (λ j. option_map (gathered 0x80000) (c.kept j))) j) ≡ c.kept j
+      at j = ap (option_map at_number) (λ i. gathered_is (2 ^ 32) (λ j. option_map (gathered 0x80000) (c.kept j)) none i j)
+          ∙ maps (c.kept j) (each j)
 
 -- ---- the contents of tables
 
@@ -74,14 +83,19 @@ high pool t h n l = by_test (t n).mapped refl where
   by_test false e = refl
   by_test true e = absurd (omega (arith, h.low n e))
 
-kept_high : (pool : ℕ → Option Page) (kept : List (Option Table)) → ((i : ℕ) → IsTableOf pool (slot_at kept i)) → (i : ℕ) → IfSome (kept_in pool kept i) (IsBounded 0x80000)
+kept_high : (pool : ℕ → Option Page) (kept : List (Option Table)) → ((i : ℕ) → IsTableOf pool (slot_at kept i)) → (i : ℕ) →
+    IfSome (kept_in pool kept i) (IsBounded 0x80000)
 kept_high pool kept h i = by_slot (get_or kept i None) refl where
   by_slot : (o : Option Table) → get_or kept i None ≡ o → IfSome (option_map (λ t. pages_in pool (entry_at t)) o) (IsBounded 0x80000)
   by_slot None e = tt
-  by_slot (Some t) e = λ n l. ap (option_map (value_in (entry_at t n))) (high pool (entry_at t) (subst (λ (s : Option Table). IsTableOf pool (slot_entry s)) e (h i)) n l)
+  by_slot (Some t) e =
+      λ n l. ap (option_map (value_in (entry_at t n)))
+      (high pool (entry_at t) (subst (λ (s : Option Table). IsTableOf pool (slot_entry s)) e (h i)) n l)
 
 -- what the value of page tables stands for
-pub seen : (pool : Slab Page) (table : Table) (kept : List (Option Table)) (v : TablesValue) → AreShared (slab_get pool) (entry_at table) kept → value_of (contents_in pool table kept) ≡ v → contents_of v ≡ contents_in pool table kept
+pub seen : (pool : Slab Page) (table : Table) (kept : List (Option Table)) (v : TablesValue) →
+    AreShared (slab_get pool) (entry_at table) kept → value_of (contents_in pool table kept) ≡ v →
+    contents_of v ≡ contents_in pool table kept
 seen pool table kept v h view = ap contents_of (sym view) ∙ contents_is (contents_in pool table kept)
     (λ n l. ap (option_map (value_in (entry_at table n))) (high (slab_get pool) (entry_at table) h.current n l))
     (λ n l. ap (option_map (λ (p : Page). p.count)) (high (slab_get pool) (entry_at table) h.current n l))
@@ -94,7 +108,8 @@ abbrev pub page_of : Entry → List ℕ → PageValue
 page_of e bytes = record { permissions = e.permissions; bytes = bytes }
 
 -- an entry that allows something is of a page
-pub allowed_mapped : (pool : ℕ → Option Page) (t : ℕ → Entry) (n : ℕ) (allows : Permissions → Bool) → IsTableOf pool t → allows NO_PAGE.permissions ≡ false → allows (t n).permissions ≡ true → (t n).mapped ≡ true
+pub allowed_mapped : (pool : ℕ → Option Page) (t : ℕ → Entry) (n : ℕ) (allows : Permissions → Bool) → IsTableOf pool t →
+    allows NO_PAGE.permissions ≡ false → allows (t n).permissions ≡ true → (t n).mapped ≡ true
 allowed_mapped pool t n allows h nothing e = by_test (t n).mapped refl where
   by_test : (b : Bool) → (t n).mapped ≡ b → b ≡ true
   by_test true m = refl
@@ -104,26 +119,37 @@ allowed_mapped pool t n allows h nothing e = by_test (t n).mapped refl where
 pub present : (pool : ℕ → Option Page) (t : ℕ → Entry) (n : ℕ) → IsTableOf pool t → (t n).mapped ≡ true → IsSome (pool (t n).key)
 present pool t n h m = let f = found pool t n h m in ap is_some f.1
 
-pub page_mapped : (pool : ℕ → Option Page) (t : ℕ → Entry) (n : ℕ) (p : Page) → (t n).mapped ≡ true → pool (t n).key ≡ Some p → pages_in pool t n ≡ Some (value_in (t n) p)
-page_mapped pool t n p m e = ap (λ (b : Bool). option_map (value_in (t n)) (if b then pool (t n).key else None)) m ∙ ap (option_map (value_in (t n))) e
+pub page_mapped : (pool : ℕ → Option Page) (t : ℕ → Entry) (n : ℕ) (p : Page) → (t n).mapped ≡ true → pool (t n).key ≡ Some p →
+    pages_in pool t n ≡ Some (value_in (t n) p)
+page_mapped pool t n p m e =
+    ap (λ (b : Bool). option_map (value_in (t n)) (if b then pool (t n).key else None)) m ∙ ap (option_map (value_in (t n))) e
 
 pub page_unmapped : (pool : ℕ → Option Page) (t : ℕ → Entry) (n : ℕ) → (t n).mapped ≡ false → pages_in pool t n ≡ None
 page_unmapped pool t n m = ap (λ (b : Bool). option_map (value_in (t n)) (if b then pool (t n).key else None)) m
 
-pub shown_page : (pool : Slab Page) (table : Table) (kept : List (Option Table)) (v : TablesValue) → AreShared (slab_get pool) (entry_at table) kept → value_of (contents_in pool table kept) ≡ v →
-    (n : ℕ) (e : Entry) (p : Page) (bytes : List ℕ) → e ≡ entry_at table n → e.mapped ≡ true → slab_get pool e.key ≡ Some p → bytes ≡ p.bytes.value → Some (page_of e bytes) ≡ (contents_of v).pages n
+pub shown_page : (pool : Slab Page) (table : Table) (kept : List (Option Table)) (v : TablesValue) →
+    AreShared (slab_get pool) (entry_at table) kept → value_of (contents_in pool table kept) ≡ v →
+    (n : ℕ) (e : Entry) (p : Page) (bytes : List ℕ) → e ≡ entry_at table n → e.mapped ≡ true → slab_get pool e.key ≡ Some p →
+    bytes ≡ p.bytes.value → Some (page_of e bytes) ≡ (contents_of v).pages n
 shown_page pool table kept v h view n e p bytes is mapped there same =
     ap (λ (bs : List ℕ). Some (page_of e bs)) same ∙ ap (λ (d : Entry). Some (value_in d p)) is
-    ∙ sym (ap (λ (c : Contents). c.pages n) (seen pool table kept v h view) ∙ page_mapped (slab_get pool) (entry_at table) n p (ap (λ (d : Entry). d.mapped) (sym is) ∙ mapped) (ap (λ (d : Entry). slab_get pool d.key) (sym is) ∙ there))
+    ∙ sym (ap (λ (c : Contents). c.pages n) (seen pool table kept v h view)
+    ∙ page_mapped (slab_get pool) (entry_at table) n p (ap (λ (d : Entry). d.mapped) (sym is) ∙ mapped)
+    (ap (λ (d : Entry). slab_get pool d.key) (sym is) ∙ there))
 
-pub shown_none : (pool : Slab Page) (table : Table) (kept : List (Option Table)) (v : TablesValue) → AreShared (slab_get pool) (entry_at table) kept → value_of (contents_in pool table kept) ≡ v →
+pub shown_none : (pool : Slab Page) (table : Table) (kept : List (Option Table)) (v : TablesValue) →
+    AreShared (slab_get pool) (entry_at table) kept → value_of (contents_in pool table kept) ≡ v →
     (n : ℕ) (e : Entry) → e ≡ entry_at table n → e.mapped ≡ false → (contents_of v).pages n ≡ None
 shown_none pool table kept v h view n e is mapped =
-    ap (λ (c : Contents). c.pages n) (seen pool table kept v h view) ∙ page_unmapped (slab_get pool) (entry_at table) n (ap (λ (d : Entry). d.mapped) (sym is) ∙ mapped)
+    ap (λ (c : Contents). c.pages n) (seen pool table kept v h view)
+    ∙ page_unmapped (slab_get pool) (entry_at table) n (ap (λ (d : Entry). d.mapped) (sym is) ∙ mapped)
 
 -- what the entry doesn't allow the page doesn't
-pub shown_not : (pool : Slab Page) (table : Table) (kept : List (Option Table)) (v : TablesValue) → AreShared (slab_get pool) (entry_at table) kept → value_of (contents_in pool table kept) ≡ v →
-    (allows : Permissions → Bool) (test : Option PageValue → Bool) → test None ≡ false → ((p : PageValue) → test (Some p) ≡ allows p.permissions) → (n : ℕ) (e : Entry) → e ≡ entry_at table n → allows e.permissions ≡ false → test ((contents_of v).pages n) ≡ false
+pub shown_not : (pool : Slab Page) (table : Table) (kept : List (Option Table)) (v : TablesValue) →
+    AreShared (slab_get pool) (entry_at table) kept → value_of (contents_in pool table kept) ≡ v →
+    (allows : Permissions → Bool) (test : Option PageValue → Bool) → test None ≡ false →
+    ((p : PageValue) → test (Some p) ≡ allows p.permissions) → (n : ℕ) (e : Entry) → e ≡ entry_at table n →
+    allows e.permissions ≡ false → test ((contents_of v).pages n) ≡ false
 shown_not pool table kept v h view allows test nothing some n e is not =
     ap (λ (c : Contents). test (c.pages n)) (seen pool table kept v h view) ∙ by_page (page_in (slab_get pool) (entry_at table n)) where
       by_page : (o : Option Page) → test (option_map (value_in (entry_at table n)) o) ≡ false
@@ -142,20 +168,24 @@ pub gathered_none : {X : Type 0} (n : ℕ) (f : ℕ → Option X) → ((q : ℕ)
 gathered_none n f all q = elim (cases_lt q n) [ inl w ↦ gathered_below n f q w ∙ all q | inr w ↦ gathered_above n f q w ]
 
 -- a live snapshot has a slot
-pub slot_there : (pool : Slab Page) (table : Table) (kept : List (Option Table)) (v : TablesValue) → AreShared (slab_get pool) (entry_at table) kept → value_of (contents_in pool table kept) ≡ v →
+pub slot_there : (pool : Slab Page) (table : Table) (kept : List (Option Table)) (v : TablesValue) →
+    AreShared (slab_get pool) (entry_at table) kept → value_of (contents_in pool table kept) ≡ v →
     (i : ℕ) → IsSome ((contents_of v).kept i) → IsSome (get_or kept i None)
-slot_there pool table kept v h view i live = by_slot (get_or kept i None) (subst (λ (c : Contents). IsSome (c.kept i)) (seen pool table kept v h view) live) where
-  by_slot : (o : Option Table) → IsSome (option_map (λ t. pages_in (slab_get pool) (entry_at t)) o) → IsSome o
-  by_slot None e = e
-  by_slot (Some t) e = refl
+slot_there pool table kept v h view i live =
+    by_slot (get_or kept i None) (subst (λ (c : Contents). IsSome (c.kept i)) (seen pool table kept v h view) live) where
+      by_slot : (o : Option Table) → IsSome (option_map (λ t. pages_in (slab_get pool) (entry_at t)) o) → IsSome o
+      by_slot None e = e
+      by_slot (Some t) e = refl
 
 -- what comes next
-pub next_some : (pool : ℕ → Option Page) (t : ℕ → Entry) (least n : ℕ) → IsTableOf pool t → least ≤ n → n < 0x80000 → (t n).mapped ≡ true → ((q : ℕ) → least ≤ q → q < n → (t q).mapped ≡ false) → IsNext (pages_in pool t) least (Some n)
+pub next_some : (pool : ℕ → Option Page) (t : ℕ → Entry) (least n : ℕ) → IsTableOf pool t → least ≤ n → n < 0x80000 → (t n).mapped ≡ true →
+    ((q : ℕ) → least ≤ q → q < n → (t q).mapped ≡ false) → IsNext (pages_in pool t) least (Some n)
 next_some pool t least n h low high here free =
     let f = found pool t n h here in
     (low, high, subst IsSome (sym (page_mapped pool t n f.0 here f.1)) refl, λ q a b. page_unmapped pool t q (free q a b))
 
-pub next_none : (pool : ℕ → Option Page) (t : ℕ → Entry) (least : ℕ) → IsTableOf pool t → ((q : ℕ) → least ≤ q → q < 0x80000 → (t q).mapped ≡ false) → IsNext (pages_in pool t) least None
+pub next_none : (pool : ℕ → Option Page) (t : ℕ → Entry) (least : ℕ) → IsTableOf pool t →
+    ((q : ℕ) → least ≤ q → q < 0x80000 → (t q).mapped ≡ false) → IsNext (pages_in pool t) least None
 next_none pool t least h free q l = elim (cases_lt q 0x80000) [
   | inl w ↦ page_unmapped pool t q (free q l w)
   | inr w ↦ ap (option_map (value_in (t q))) (high pool t h q w)

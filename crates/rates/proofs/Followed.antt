@@ -12,5 +12,6 @@ pub followed_next : (frames : List Frame) (i : ℕ) (f : Frame) (s last new : St
     StateAtFrom s (take i frames) (total (take i frames)) last → FrameStep last f new →
     StateAtFrom s (take (i + 1) frames) (total (take (i + 1) frames)) new
 followed_next frames i f s last new below is before step =
-    let one_more : take (i + 1) frames ≡ take i frames ++ f ∷ [] = take_more frames i f below ∙ ap (λ g. take i frames ++ g ∷ []) (sym is) in
+    let one_more : take (i + 1) frames ≡ take i frames ++ f ∷ [] =
+    take_more frames i f below ∙ ap (λ g. take i frames ++ g ∷ []) (sym is) in
     subst (λ fs. StateAtFrom s fs (total fs) new) (sym one_more) (at_total_append (take i frames) s last new f before step)

@@ -14,12 +14,15 @@ leaves_both seen a b c p q h k = record {
   upward = (let x = h.upward in let y = k.upward in omega arith);
   within = (let x = h.within in let y = k.within in omega arith);
   all = k.all ∙ h.all;
-  parts = λ n le from. append_assoc p q (left_of c n) ∙ ap (λ (l : List (ℕ × ℕ)). p ++ l) (k.parts n le (let x = h.within in omega arith)) ∙ h.parts n le from;
+  parts = λ n le from. append_assoc p q (left_of c n) ∙ ap (λ (l : List (ℕ × ℕ)). p ++ l) (k.parts n le (let x = h.within in omega arith))
+      ∙ h.parts n le from;
 }
 
-pub leaves_first : (seen : ℕ) (old new : Owed) (put : List (ℕ × ℕ)) (all : Bool) → old.released < seen → LeavesFirst old new put all → Leaves seen old new put
+pub leaves_first : (seen : ℕ) (old new : Owed) (put : List (ℕ × ℕ)) (all : Bool) → old.released < seen → LeavesFirst old new put all →
+    Leaves seen old new put
 leaves_first seen old new put true low h =
-    let size : length old.owed ≡ length new.owed + 1 = ap length h.1 ∙ (let e : suc (length new.owed) ≡ length new.owed + 1 = omega arith in e) in
+    let size : length old.owed ≡ length new.owed + 1 =
+    ap length h.1 ∙ (let e : suc (length new.owed) ≡ length new.owed + 1 = omega arith in e) in
     let r = h.0 in
     record {
       upward = omega arith;
@@ -48,8 +51,10 @@ leaves_first seen old new put false low h =
     }
 
 -- the output of one record more
-pub releases_more : {S : Type 0} (tells : S → Type 0) (taken : S → List (ℕ × ℕ)) (seen : ℕ) (a b c : Owed) (s m t : S) (j count n : ℕ) (all : Bool) → (tells s → tells m) → b.released < seen
-    → n ≡ min (j + count) 18446744073709551615 → Releases tells taken seen a b s m j → ReleasesFirst tells taken all b c m t count → Releases tells taken seen a c s t n
+pub releases_more : {S : Type 0} (tells : S → Type 0) (taken : S → List (ℕ × ℕ)) (seen : ℕ) (a b c : Owed) (s m t : S) (j count n : ℕ)
+    (all : Bool) → (tells s → tells m) → b.released < seen
+    → n ≡ min (j + count) 18446744073709551615 → Releases tells taken seen a b s m j → ReleasesFirst tells taken all b c m t count →
+    Releases tells taken seen a c s t n
 releases_more tells taken seen a b c s m t j count n all still low is g h = record {
   put = g.put ++ h.put;
   takes = λ tell. h.takes (still tell) ∙ ap (λ (l : List (ℕ × ℕ)). l ++ h.put) (g.takes tell) ∙ append_assoc (taken s) g.put h.put;
@@ -58,7 +63,8 @@ releases_more tells taken seen a b c s m t j count n all still low is g h = reco
 }
 
 -- the same of equal values
-pub left_by : (old inside new : Owed) (put : List (ℕ × ℕ)) (all found : Bool) → inside ≡ old → found ≡ all → LeavesFirst inside new put all → LeavesFirst old new put found
+pub left_by : (old inside new : Owed) (put : List (ℕ × ℕ)) (all found : Bool) → inside ≡ old → found ≡ all →
+    LeavesFirst inside new put all → LeavesFirst old new put found
 left_by old inside new put all found same is h =
     subst (λ (b : Bool). LeavesFirst old new put b) (sym is) (subst (λ (o : Owed). LeavesFirst o new put all) same h)
 
@@ -68,15 +74,21 @@ pub owed_from_start : (ps : List Put) → owed_of 0 ps ≡ map bytes_of ps
 owed_from_start [] = refl
 owed_from_start (p ∷ ps) = refl
 
-pub all_put : (p : Put) (offset at : ℕ) → at ≡ length p.bytes → to_descriptor p.descriptor (take (at - offset) (drop offset p.bytes)) ≡ to_descriptor p.descriptor (drop offset p.bytes)
-all_put p offset at e = ap (λ (n : ℕ). to_descriptor p.descriptor (take (n - offset) (drop offset p.bytes))) e ∙ ap (to_descriptor p.descriptor) (take_rest p.bytes offset)
+pub all_put : (p : Put) (offset at : ℕ) → at ≡ length p.bytes →
+    to_descriptor p.descriptor (take (at - offset) (drop offset p.bytes)) ≡ to_descriptor p.descriptor (drop offset p.bytes)
+all_put p offset at e =
+    ap (λ (n : ℕ). to_descriptor p.descriptor (take (n - offset) (drop offset p.bytes))) e
+    ∙ ap (to_descriptor p.descriptor) (take_rest p.bytes offset)
 
-pub some_put : (p : Put) (offset at : ℕ) → offset ≤ at → to_descriptor p.descriptor (take (at - offset) (drop offset p.bytes)) ++ to_descriptor p.descriptor (drop at p.bytes) ≡ to_descriptor p.descriptor (drop offset p.bytes)
+pub some_put : (p : Put) (offset at : ℕ) → offset ≤ at →
+    to_descriptor p.descriptor (take (at - offset) (drop offset p.bytes)) ++ to_descriptor p.descriptor (drop at p.bytes)
+    ≡ to_descriptor p.descriptor (drop offset p.bytes)
 some_put p offset at le =
     let d = p.descriptor in
     let e : offset + (at - offset) ≡ at = omega arith in
     ap (λ (n : ℕ). to_descriptor d (take (at - offset) (drop offset p.bytes)) ++ to_descriptor d (drop n p.bytes)) (sym e)
-    ∙ ap (λ (l : List ℕ). to_descriptor d (take (at - offset) (drop offset p.bytes)) ++ to_descriptor d l) (sym (drop-drop (at - offset) offset p.bytes))
+    ∙ ap (λ (l : List ℕ). to_descriptor d (take (at - offset) (drop offset p.bytes)) ++ to_descriptor d l)
+    (sym (drop-drop (at - offset) offset p.bytes))
     ∙ sym (map-append (λ (b : ℕ). (d, b)) (take (at - offset) (drop offset p.bytes)) (drop (at - offset) (drop offset p.bytes)))
     ∙ ap (to_descriptor d) (take-append-drop (at - offset) (drop offset p.bytes))
 
@@ -89,13 +101,22 @@ head_is [] p low e = absurd (omega arith)
 head_is (q ∷ qs) p low e = λ i. sym e i ∷ qs
 
 -- all that was left of the first record's output has left
-pub first_whole : (released offset at : ℕ) (ps now : List Put) (p : Put) (room room' : ℕ) → 1 ≤ length ps → p ≡ get_or ps 0 p → at ≡ length p.bytes → now ≡ drop 1 ps
-    → LeavesFirst (record { released = released; owed = owed_of offset ps; room = room }) (record { released = released + 1; owed = owed_of 0 now; room = room' }) (to_descriptor p.descriptor (take (at - offset) (drop offset p.bytes))) true
-first_whole released offset at ps now p room room' low e all rest =
-    (refl, ap (owed_of offset) (head_is ps p low e) ∙ (λ i. sym (all_put p offset at all) i ∷ map bytes_of (sym rest i)) ∙ ap (λ (l : List (List (ℕ × ℕ))). to_descriptor p.descriptor (take (at - offset) (drop offset p.bytes)) ∷ l) (sym (owed_from_start now)))
+pub first_whole : (released offset at : ℕ) (ps now : List Put) (p : Put) (room room' : ℕ) → 1 ≤ length ps → p ≡ get_or ps 0 p →
+    at ≡ length p.bytes → now ≡ drop 1 ps
+    → LeavesFirst (record { released = released; owed = owed_of offset ps; room = room })
+    (record { released = released + 1; owed = owed_of 0 now; room = room' })
+    (to_descriptor p.descriptor (take (at - offset) (drop offset p.bytes))) true
+first_whole released offset at ps now p room room' low e all rest = (
+  refl,
+  ap (owed_of offset) (head_is ps p low e) ∙ (λ i. sym (all_put p offset at all) i ∷ map bytes_of (sym rest i))
+      ∙ ap (λ (l : List (List (ℕ × ℕ))). to_descriptor p.descriptor (take (at - offset) (drop offset p.bytes)) ∷ l)
+      (sym (owed_from_start now)),
+)
 
 pub first_part : (released offset at : ℕ) (ps : List Put) (p : Put) (room room' : ℕ) → 1 ≤ length ps → p ≡ get_or ps 0 p → offset ≤ at
-    → LeavesFirst (record { released = released; owed = owed_of offset ps; room = room }) (record { released = released; owed = owed_of at ps; room = room' }) (to_descriptor p.descriptor (take (at - offset) (drop offset p.bytes))) false
+    → LeavesFirst (record { released = released; owed = owed_of offset ps; room = room })
+    (record { released = released; owed = owed_of at ps; room = room' })
+    (to_descriptor p.descriptor (take (at - offset) (drop offset p.bytes))) false
 first_part released offset at ps p room room' low e le = (
   refl,
   (
@@ -106,9 +127,11 @@ first_part released offset at ps p room room' low e le = (
   ),
 )
 
-pub owed_push : (offset : ℕ) (ps : List Put) (p : Put) → (ps ≡ [] → offset ≡ 0) → owed_of offset (ps ++ p ∷ []) ≡ owed_of offset ps ++ bytes_of p ∷ []
+pub owed_push : (offset : ℕ) (ps : List Put) (p : Put) → (ps ≡ [] → offset ≡ 0) →
+    owed_of offset (ps ++ p ∷ []) ≡ owed_of offset ps ++ bytes_of p ∷ []
 owed_push offset [] p start = ap (λ (n : ℕ). to_descriptor p.descriptor (drop n p.bytes) ∷ []) (start refl)
-owed_push offset (q ∷ ps) p start = ap (λ (l : List (List (ℕ × ℕ))). to_descriptor q.descriptor (drop offset q.bytes) ∷ l) (map_push bytes_of ps p)
+owed_push offset (q ∷ ps) p start =
+    ap (λ (l : List (List (ℕ × ℕ))). to_descriptor q.descriptor (drop offset q.bytes) ∷ l) (map_push bytes_of ps p)
 
 pub at_start : (offset : ℕ) (ps : List Put) → IsWithinFirst offset ps → ps ≡ [] → offset ≡ 0
 at_start offset [] h e = h

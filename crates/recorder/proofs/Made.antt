@@ -19,10 +19,12 @@ length_from place index [] = refl
 length_from place index (item ∷ items) = ap suc (length_from place (index + 1) items)
 
 pub made_count : (seat : RecorderValue) (items : List Item) → length (seat.sent ++ backlog_of seat items) ≡ length seat.sent + length items
-made_count seat items = length-append seat.sent (backlog_of seat items) ∙ ap (λ (n : ℕ). length seat.sent + n) (length_from seat.guest (length seat.sent) items)
+made_count seat items =
+    length-append seat.sent (backlog_of seat items) ∙ ap (λ (n : ℕ). length seat.sent + n) (length_from seat.guest (length seat.sent) items)
 
 -- more has left
-pub released_more : (old new : GuestRecorder) (put : List (ℕ × ℕ)) (seen : ℕ) → made new ≡ made old → new.seat.seen ≡ seen → old.seat.seen ≤ seen → old.owed.released ≤ old.seat.seen → Leaves seen old.owed new.owed put
+pub released_more : (old new : GuestRecorder) (put : List (ℕ × ℕ)) (seen : ℕ) → made new ≡ made old → new.seat.seen ≡ seen →
+    old.seat.seen ≤ seen → old.owed.released ≤ old.seat.seen → Leaves seen old.owed new.owed put
     → (out : List (ℕ × ℕ)) → HasPut old out → HasPut new (out ++ put)
 released_more old new put seen same seen_is rises low leaves out has = record {
   each = λ k le within.
@@ -59,7 +61,8 @@ keeps_sent a b h = record {
   checkpoints = h.checkpoints;
 }
 
-pub keeps_released : (a b : GuestRecorder) (word : ℕ) → b.seat ≡ after_look a.seat word → (b.backlog ≡ a.backlog) × (b.guest ≡ a.guest) → KeepsCheckpoints a b → KeepsMade a b
+pub keeps_released : (a b : GuestRecorder) (word : ℕ) → b.seat ≡ after_look a.seat word → (b.backlog ≡ a.backlog) × (b.guest ≡ a.guest) →
+    KeepsCheckpoints a b → KeepsMade a b
 keeps_released a b word looks same checkpoints = record {
   made_is = (λ i. (looks i).sent ++ same.0 i);
   guest = same.1;
@@ -77,8 +80,11 @@ put_stays a b h out p = record {
   each = λ k le within.
       let size : length (made b) ≡ length (made a) = ap length h.made_is in
       let seen : b.seat.seen ≡ a.seat.seen = ap (λ (q : RecorderValue). q.seen) h.seat in
-      let e = p.each k (omega arith) (omega arith) in
-      (e.0, subst (λ (l : List Record). ItemsPut (items_of (take k l)) e.0) (sym h.made_is) e.1, ap (λ (o : Owed). out ++ left_of o k) h.owed ∙ e.2);
+      let e = p.each k (omega arith) (omega arith) in (
+        e.0,
+        subst (λ (l : List Record). ItemsPut (items_of (take k l)) e.0) (sym h.made_is) e.1,
+        ap (λ (o : Owed). out ++ left_of o k) h.owed ∙ e.2,
+      );
 }
 
 module _ {S : Type 0} (tells : S → Type 0) (taken : S → List (ℕ × ℕ)) where

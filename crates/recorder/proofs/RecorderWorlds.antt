@@ -76,16 +76,19 @@ same_front : (a b x y : List Record) → a ≡ b → a ++ x ≡ b ++ y → x ≡
 same_front a b x y front both = append_cancel_left b x y (ap (λ (l : List Record). l ++ x) (sym front) ∙ both)
 
 -- output looks at the items alone
-output_of_items : (out out' : List (ℕ × ℕ)) (rs rs' : List Record) → out ≡ out' → items_of rs ≡ items_of rs' → IsOutput out rs → IsOutput out' rs'
+output_of_items : (out out' : List (ℕ × ℕ)) (rs rs' : List Record) → out ≡ out' → items_of rs ≡ items_of rs' → IsOutput out rs →
+    IsOutput out' rs'
 output_of_items out out' rs rs' same its h =
     (h.0, subst (λ (l : List Item). ItemsPut l h.0) its h.1, subst (λ (l : List (ℕ × ℕ)). IsBeginning l (spread h.0)) same h.2)
 
 -- ---- what the world's recorder made
 
-made_in_world : (r : GuestRecorder) (out : List (ℕ × ℕ)) (w : World) → StandsForGuest r out w → made_there (w.recorders r.seat.guest) ≡ renumbered w.first_guest (made r)
+made_in_world : (r : GuestRecorder) (out : List (ℕ × ℕ)) (w : World) → StandsForGuest r out w →
+    made_there (w.recorders r.seat.guest) ≡ renumbered w.first_guest (made r)
 made_in_world r out w h = (λ i. h.seat.sent i ++ h.backlog i) ∙ sym (map-append (numbered w.first_guest) r.seat.sent r.backlog)
 
-stands_by : (w : World) (r : RecorderValue) (one : Recorder) → r.guest < w.guests → w.recorders r.guest ≡ one → one.sent ≡ renumbered w.first_guest r.sent
+stands_by : (w : World) (r : RecorderValue) (one : Recorder) → r.guest < w.guests → w.recorders r.guest ≡ one →
+    one.sent ≡ renumbered w.first_guest r.sent
     → one.seen ≡ r.seen → one.knows_halt ≡ r.knows_halt → one.left ≡ r.has_left → StandsForRecorder r w
 stands_by w r one there at sent seen knows_halt left = record {
   there = there;
@@ -105,7 +108,8 @@ record Waits (seat : RecorderValue) (backlog : List Record) (s : State) (out : L
   states_are : (w.recorders seat.guest).states ≡ earlier ++ s ∷ []
   out_is : (w.recorders seat.guest).out ≡ out
 
-module _ (seat : RecorderValue) (backlog : List Record) (last : State) (out : List (ℕ × ℕ)) (w : World) (h : Waits seat backlog last out w) (room : w.first_guest + w.guests ≤ MAX_NUMBER + 1)
+module _ (seat : RecorderValue) (backlog : List Record) (last : State) (out : List (ℕ × ℕ)) (w : World) (h : Waits seat backlog last out w)
+    (room : w.first_guest + w.guests ≤ MAX_NUMBER + 1)
     (r : Record) (s : State) (all : IsRecorded seat.guest ((seat.sent ++ backlog) ++ r ∷ []) s) where
   abbrev g : ℕ
   g = seat.guest
@@ -121,7 +125,8 @@ module _ (seat : RecorderValue) (backlog : List Record) (last : State) (out : Li
 
   longer : made_there (w.recorders g) ++ entry ∷ [] ≡ renumbered b ((seat.sent ++ backlog) ++ r ∷ [])
   longer =
-      (λ i. (h.stands.sent i ++ h.backlog_is i) ++ entry ∷ []) ∙ ap (λ (l : List Record). l ++ entry ∷ []) (sym (map-append (numbered b) seat.sent backlog))
+      (λ i. (h.stands.sent i ++ h.backlog_is i) ++ entry ∷ [])
+      ∙ ap (λ (l : List Record). l ++ entry ∷ []) (sym (map-append (numbered b) seat.sent backlog))
       ∙ sym (map_push (numbered b) (seat.sent ++ backlog) r)
 
   can_slice : CanSlice w g entry s
@@ -144,14 +149,17 @@ module _ (seat : RecorderValue) (backlog : List Record) (last : State) (out : Li
       let at : w'.recorders g ≡ one = put_same w.recorders g one in
       record {
         stands = stands_by w' seat one h.stands.there at h.stands.sent h.stands.seen h.stands.knows_halt h.stands.left;
-        backlog_is = ap (λ (x : Recorder). x.backlog) at ∙ ap (λ (l : List Record). l ++ entry ∷ []) h.backlog_is ∙ sym (map_push (numbered b) backlog r);
+        backlog_is =
+            ap (λ (x : Recorder). x.backlog) at ∙ ap (λ (l : List Record). l ++ entry ∷ []) h.backlog_is
+            ∙ sym (map_push (numbered b) backlog r);
         earlier = (w.recorders g).states;
         states_are = ap (λ (x : Recorder). x.states) at;
         out_is = ap (λ (x : Recorder). x.out) at ∙ h.out_is;
       }
 
 -- slices that make parts, in a row
-rows : (parts : List Part) (index : ℕ) (seat : RecorderValue) (backlog : List Record) (s : State) (out : List (ℕ × ℕ)) (w : World) → Waits seat backlog s out w → w.first_guest + w.guests ≤ MAX_NUMBER + 1
+rows : (parts : List Part) (index : ℕ) (seat : RecorderValue) (backlog : List Record) (s : State) (out : List (ℕ × ℕ)) (w : World) →
+    Waits seat backlog s out w → w.first_guest + w.guests ≤ MAX_NUMBER + 1
     → IsRecorded seat.guest ((seat.sent ++ backlog) ++ records_from seat.guest index (map items.Part parts)) s
     → SlicesHappen w seat.guest (renumbered w.first_guest (records_from seat.guest index (map items.Part parts))) s
     (Waits seat (backlog ++ records_from seat.guest index (map items.Part parts)) s out)
@@ -160,26 +168,32 @@ rows (p ∷ parts) index seat backlog s out w h room all =
     let r : Record = record { guest = seat.guest; index = index; item = items.Part p } in
     let more = records_from seat.guest (index + 1) (map items.Part parts) in
     let made_here = seat.sent ++ backlog in
-    let both : IsRecorded seat.guest ((made_here ++ r ∷ []) ++ more) s = subst (λ (l : List Record). IsRecorded seat.guest l s) (sym (append_assoc made_here (r ∷ []) more)) all in
-    let first : IsRecorded seat.guest (made_here ++ r ∷ []) s = without_parts seat.guest (made_here ++ r ∷ []) seat.guest (index + 1) parts s (some_pushed made_here r) both in
+    let both : IsRecorded seat.guest ((made_here ++ r ∷ []) ++ more) s =
+    subst (λ (l : List Record). IsRecorded seat.guest l s) (sym (append_assoc made_here (r ∷ []) more)) all in
+    let first : IsRecorded seat.guest (made_here ++ r ∷ []) s =
+    without_parts seat.guest (made_here ++ r ∷ []) seat.guest (index + 1) parts s (some_pushed made_here r) both in
     let w' = after w (Slice seat.guest (numbered w.first_guest r) s) in
     let waits = waits_behind seat backlog s out w h room r s first in
     let again : IsRecorded seat.guest ((seat.sent ++ (backlog ++ r ∷ [])) ++ more) s =
     subst (λ (l : List Record). IsRecorded seat.guest (l ++ more) s) (append_assoc seat.sent backlog (r ∷ [])) both in
     let rest = rows parts (index + 1) seat (backlog ++ r ∷ []) s out w' waits room again in (
       can_slice seat backlog s out w h room r s first,
-      subst (λ (l : List Record). SlicesHappen w' seat.guest (renumbered w.first_guest more) s (Waits seat l s out)) (append_assoc backlog (r ∷ []) more) rest,
+      subst (λ (l : List Record). SlicesHappen w' seat.guest (renumbered w.first_guest more) s (Waits seat l s out))
+          (append_assoc backlog (r ∷ []) more) rest,
     )
 
 -- what holds behind them may be weakened
-slices_weaker : (records : List Record) (w : World) (g : ℕ) (s : State) (P Q : World → Type 0) → ((w : World) → P w → Q w) → SlicesHappen w g records s P → SlicesHappen w g records s Q
+slices_weaker : (records : List Record) (w : World) (g : ℕ) (s : State) (P Q : World → Type 0) → ((w : World) → P w → Q w) →
+    SlicesHappen w g records s P → SlicesHappen w g records s Q
 slices_weaker [] w g s P Q weaker h = weaker w h
 slices_weaker (r ∷ records) w g s P Q weaker h = (h.0, slices_weaker records (after w (Slice g r s)) g s P Q weaker h.1)
 
 -- ---- the laws
 
-module _ {O : Type 0} (gives : Gives O) (old new : GuestRecorder) (choice : Choice) (outcome : Parts) (before after' : O) (out : List (ℕ × ℕ)) (w : World)
-    (step : HasStepped gives old choice outcome new before after') (recorded : HasRecorded new) (room : w.first_guest + w.guests ≤ MAX_NUMBER + 1) (h : StandsForGuest old out w) where
+module _ {O : Type 0} (gives : Gives O) (old new : GuestRecorder) (choice : Choice) (outcome : Parts) (before after' : O)
+    (out : List (ℕ × ℕ)) (w : World)
+    (step : HasStepped gives old choice outcome new before after') (recorded : HasRecorded new)
+    (room : w.first_guest + w.guests ≤ MAX_NUMBER + 1) (h : StandsForGuest old out w) where
   abbrev at : ℕ
   at = old.seat.guest
 
@@ -207,10 +221,12 @@ module _ {O : Type 0} (gives : Gives O) (old new : GuestRecorder) (choice : Choi
   all_recorded : IsRecorded at ((made old ++ f ∷ []) ++ records_from at (length (made step.between)) (map items.Part step.keeps.parts)) end
   all_recorded =
       subst (λ (x : ℕ × List Record). IsRecorded x.0 x.1 end)
-      (λ i. ((ap (λ (q : RecorderValue). q.guest) seats) i, (made_all ∙ ap (λ (l : List Record). (made old ++ f ∷ []) ++ l) prs_are) i)) recorded
+      (λ i. ((ap (λ (q : RecorderValue). q.guest) seats) i, (made_all ∙ ap (λ (l : List Record). (made old ++ f ∷ []) ++ l) prs_are) i))
+      recorded
 
   frame_recorded : IsRecorded at (made old ++ f ∷ []) end
-  frame_recorded = without_parts at (made old ++ f ∷ []) at (length (made step.between)) step.keeps.parts end (some_pushed (made old) f) all_recorded
+  frame_recorded =
+      without_parts at (made old ++ f ∷ []) at (length (made step.between)) step.keeps.parts end (some_pushed (made old) f) all_recorded
 
   waits : Waits old.seat old.backlog (state_of old.guest) out w
   waits = record { stands = h.seat; backlog_is = h.backlog; earlier = h.earlier; states_are = h.states; out_is = h.out_is }
@@ -222,9 +238,12 @@ module _ {O : Type 0} (gives : Gives O) (old new : GuestRecorder) (choice : Choi
       let more = records_from at (length (made step.between)) (map items.Part step.keeps.parts) in
       same_front new.seat.sent old.seat.sent new.backlog ((old.backlog ++ f ∷ []) ++ more) sent
       (made_all ∙ ap (λ (l : List Record). (made old ++ f ∷ []) ++ l) prs_are
-      ∙ ap (λ (l : List Record). l ++ more) (append_assoc old.seat.sent old.backlog (f ∷ [])) ∙ append_assoc old.seat.sent (old.backlog ++ f ∷ []) more)
+      ∙ ap (λ (l : List Record). l ++ more) (append_assoc old.seat.sent old.backlog (f ∷ []))
+      ∙ append_assoc old.seat.sent (old.backlog ++ f ∷ []) more)
 
-  stands_then : (w' : World) → Waits old.seat ((old.backlog ++ f ∷ []) ++ records_from at (length (made step.between)) (map items.Part step.keeps.parts)) end out w' → StandsForGuest new out w'
+  stands_then : (w' : World) →
+      Waits old.seat ((old.backlog ++ f ∷ []) ++ records_from at (length (made step.between)) (map items.Part step.keeps.parts)) end out w'
+      → StandsForGuest new out w'
   stands_then w' k =
       let place : (w'.recorders new.seat.guest) ≡ (w'.recorders at) = ap (λ (q : RecorderValue). w'.recorders q.guest) seats in
       record {
@@ -244,13 +263,15 @@ module _ {O : Type 0} (gives : Gives O) (old new : GuestRecorder) (choice : Choi
       let again : IsRecorded at ((old.seat.sent ++ (old.backlog ++ f ∷ [])) ++ more) end =
       subst (λ (l : List Record). IsRecorded at (l ++ more) end) (append_assoc old.seat.sent old.backlog (f ∷ [])) all_recorded in
       let rest = rows step.keeps.parts (length (made step.between)) old.seat (old.backlog ++ f ∷ []) end out w' first room again in
-      let then = slices_weaker (renumbered w.first_guest more) w' at end (Waits old.seat ((old.backlog ++ f ∷ []) ++ more) end out) (StandsForGuest new out) stands_then rest in (
+      let then = slices_weaker (renumbered w.first_guest more) w' at end (Waits old.seat ((old.backlog ++ f ∷ []) ++ more) end out)
+      (StandsForGuest new out) stands_then rest in (
         can_slice old.seat old.backlog (state_of old.guest) out w waits room f end frame_recorded,
         subst (λ (l : List Record). SlicesHappen w' at (renumbered w.first_guest l) end (StandsForGuest new out)) (sym prs_are) then,
       )
 
 pub steps_are_events : {O : Type 0} (gives : Gives O) → StepsAreEvents gives
-steps_are_events gives old new choice outcome before after' out w step recorded room h = step_happens gives old new choice outcome before after' out w step recorded room h
+steps_are_events gives old new choice outcome before after' out w step recorded room h =
+    step_happens gives old new choice outcome before after' out w step recorded room h
 
 pub releases_are_events : {S : Type 0} (tells : S → Type 0) (taken : S → List (ℕ × ℕ)) → ReleasesAreEvents tells taken
 releases_are_events tells taken old new sink sink' result out w puts looks same h =
@@ -261,13 +282,15 @@ releases_are_events tells taken old new sink sink' result out w puts looks same 
     let at : seen.recorders g ≡ looked_there = put_same w.recorders g looked_there in
     let more = puts.put in
     let has = puts.has_put out h.has_put in
-    let sent_count : length (w.recorders g).sent ≡ length old.seat.sent = ap length h.seat.sent ∙ length-map old.seat.sent (numbered w.first_guest) in
+    let sent_count : length (w.recorders g).sent ≡ length old.seat.sent =
+    ap length h.seat.sent ∙ length-map old.seat.sent (numbered w.first_guest) in
     let seen_is : (seen.recorders g).seen ≡ new.seat.seen =
     ap (λ (x : Recorder). x.seen) at ∙ ap (λ n. min word n) sent_count ∙ sym (ap (λ (q : RecorderValue). q.seen) looks) in
     let sent_is : new.seat.sent ≡ old.seat.sent = ap (λ (q : RecorderValue). q.sent) looks in
     let made_is : made new ≡ made old = λ i. sent_is i ++ same.0 i in
     let low : new.seat.seen ≤ length new.seat.sent =
-    (let e : new.seat.seen ≡ min word (length old.seat.sent) = ap (λ (q : RecorderValue). q.seen) looks in let n : length new.seat.sent ≡ length old.seat.sent = ap length sent_is in omega arith) in
+    (let e : new.seat.seen ≡ min word (length old.seat.sent) = ap (λ (q : RecorderValue). q.seen) looks in
+    let n : length new.seat.sent ≡ length old.seat.sent = ap length sent_is in omega arith) in
     let made_here : made_there (seen.recorders g) ≡ renumbered w.first_guest (made new) =
     ap made_there at ∙ made_in_world old out w h ∙ ap (renumbered w.first_guest) (sym made_is) in
     let out_here : (seen.recorders g).out ≡ out = ap (λ (x : Recorder). x.out) at ∙ h.out_is in
@@ -281,19 +304,23 @@ releases_are_events tells taken old new sink sink' result out w puts looks same 
     let here : w'.recorders new.seat.guest ≡ last = ap (λ (n : ℕ). w'.recorders n) place ∙ at' in
     let seat_old : StandsForRecorder (after_look old.seat word) w' =
     stands_by w' (after_look old.seat word) last h.seat.there at' (ap (λ (x : Recorder). x.sent) at ∙ h.seat.sent)
-    (ap (λ (x : Recorder). x.seen) at ∙ ap (λ n. min word n) sent_count) (ap (λ (x : Recorder). x.knows_halt) at ∙ h.seat.knows_halt) (ap (λ (x : Recorder). x.left) at ∙ h.seat.left) in (
+    (ap (λ (x : Recorder). x.seen) at ∙ ap (λ n. min word n) sent_count) (ap (λ (x : Recorder). x.knows_halt) at ∙ h.seat.knows_halt)
+    (ap (λ (x : Recorder). x.left) at ∙ h.seat.left) in (
       h.seat.there,
       (
         (
           h.seat.there,
-          output_of_items (out ++ more) ((seen.recorders g).out ++ more) (take new.seat.seen (made new)) (take (seen.recorders g).seen (made_there (seen.recorders g)))
+          output_of_items (out ++ more) ((seen.recorders g).out ++ more) (take new.seat.seen (made new))
+              (take (seen.recorders g).seen (made_there (seen.recorders g)))
               (ap (λ (l : List (ℕ × ℕ)). l ++ more) (sym out_here)) (sym items_here) durable,
         ),
         record {
           seat = subst (λ (q : RecorderValue). StandsForRecorder q w') (sym looks) seat_old;
-          backlog = ap (λ (x : Recorder). x.backlog) here ∙ ap (λ (x : Recorder). x.backlog) at ∙ h.backlog ∙ ap (renumbered w.first_guest) (sym same.0);
+          backlog = ap (λ (x : Recorder). x.backlog) here ∙ ap (λ (x : Recorder). x.backlog) at ∙ h.backlog
+              ∙ ap (renumbered w.first_guest) (sym same.0);
           earlier = h.earlier;
-          states = ap (λ (x : Recorder). x.states) here ∙ ap (λ (x : Recorder). x.states) at ∙ h.states ∙ ap (λ (v : GuestValue). h.earlier ++ state_of v ∷ []) (sym same.1);
+          states = ap (λ (x : Recorder). x.states) here ∙ ap (λ (x : Recorder). x.states) at ∙ h.states
+              ∙ ap (λ (v : GuestValue). h.earlier ++ state_of v ∷ []) (sym same.1);
           out_is = ap (λ (x : Recorder). x.out) here ∙ ap (λ (l : List (ℕ × ℕ)). l ++ more) out_here;
           has_put = has;
         },

@@ -18,20 +18,29 @@ use Rattle.replayer.proofs.Sourced.{counted_next, ends_next, first_more, last_ne
 use Rattle.replayer.proofs.Walked.{recording_of, refused_at, stands_next}
 
 -- behind one record more
-pub behind_next : (read : List Record) (r : Record) (old new : FollowingValue) → IsBehind old read → new.number ≡ old.number → new.len ≡ old.len + 1 →
+pub behind_next : (read : List Record) (r : Record) (old new : FollowingValue) → IsBehind old read → new.number ≡ old.number →
+    new.len ≡ old.len + 1 →
     new.total ≡ old.total + instructions_in r.item → new.last ≡ thread_behind r.item old.last →
-    LeadsOn old.number old.len r (state_of old.base) old.row (state_of old.guest) (state_of new.base) new.row (state_of new.guest) → IsBehind new (read ++ r ∷ [])
+    LeadsOn old.number old.len r (state_of old.base) old.row (state_of old.guest) (state_of new.base) new.row (state_of new.guest) →
+    IsBehind new (read ++ r ∷ [])
 behind_next read r old new h number_is len_is counted last leads =
-    let on : LeadsOn old.number (length read) r (state_of old.base) old.row (state_of old.guest) (state_of new.base) new.row (state_of new.guest) =
-    subst (λ n. LeadsOn old.number n r (state_of old.base) old.row (state_of old.guest) (state_of new.base) new.row (state_of new.guest)) h.len leads in
-    let stands = stands_next old.number read r (state_of old.base) old.row (state_of old.guest) (state_of new.base) new.row (state_of new.guest) h.stands on in
+    let on : LeadsOn old.number (length read) r (state_of old.base) old.row (state_of old.guest) (state_of new.base) new.row
+    (state_of new.guest) =
+    subst (λ n. LeadsOn old.number n r (state_of old.base) old.row (state_of old.guest) (state_of new.base) new.row (state_of new.guest))
+    h.len leads in
+    let stands =
+    stands_next old.number read r (state_of old.base) old.row (state_of old.guest) (state_of new.base) new.row (state_of new.guest)
+    h.stands on in
     let same = sym (items-append read r) in
     record {
       recording = recording_of old.number (read ++ r ∷ []) (state_of new.base) new.row (state_of new.guest) stands;
       ends = subst (λ (its : List Item). EndsIn its (state_of new.guest)) same
-          (ends_next (items_of read) r.item (state_of old.base) old.row (state_of old.guest) (state_of new.base) new.row (state_of new.guest) h.ends leads.leads);
-      total = counted ∙ ap (λ n. n + instructions_in r.item) h.total ∙ sym (counted_next (items_of read) r.item) ∙ ap (λ (its : List Item). total (frames_of its)) same;
-      last = last ∙ ap (λ n. thread_behind r.item n) h.last ∙ sym (last_next (items_of read) r.item) ∙ ap (λ (its : List Item). last_tid (frames_of its)) same;
+          (ends_next (items_of read) r.item (state_of old.base) old.row (state_of old.guest) (state_of new.base) new.row
+          (state_of new.guest) h.ends leads.leads);
+      total = counted ∙ ap (λ n. n + instructions_in r.item) h.total ∙ sym (counted_next (items_of read) r.item)
+          ∙ ap (λ (its : List Item). total (frames_of its)) same;
+      last = last ∙ ap (λ n. thread_behind r.item n) h.last ∙ sym (last_next (items_of read) r.item)
+          ∙ ap (λ (its : List Item). last_tid (frames_of its)) same;
       len = omega (arith, len_is, h.len, length-append read (r ∷ []));
       takes = first_more TakesMemory read (r ∷ []) h.takes;
       stands = subst (λ n. Stands n (read ++ r ∷ []) (state_of new.base) new.row (state_of new.guest)) (sym number_is) stands;
@@ -46,7 +55,9 @@ last_there (y ∷ xs) x = last_there xs x
 pub behind_refused : (e : VerifyFault) (read : List Record) (r : Record) (old : FollowingValue) → IsBehind old read →
     RefusesNext e old.number old.len r (state_of old.base) old.row (state_of old.guest) → RefusesVerify e (read ++ r ∷ [])
 behind_refused e read r old h refuses =
-    refused_at e old.number (read ++ r ∷ []) (length read) r (state_of old.base) old.row (state_of old.guest) (omega (arith, length-append read (r ∷ []))) (last_there read r)
-    (subst (λ (rs : List Record). Stands old.number rs (state_of old.base) old.row (state_of old.guest)) (sym (take-append_seam read (r ∷ []))) h.stands)
+    refused_at e old.number (read ++ r ∷ []) (length read) r (state_of old.base) old.row (state_of old.guest)
+    (omega (arith, length-append read (r ∷ []))) (last_there read r)
+    (subst (λ (rs : List Record). Stands old.number rs (state_of old.base) old.row (state_of old.guest))
+    (sym (take-append_seam read (r ∷ []))) h.stands)
     (first_more TakesMemory read (r ∷ []) h.takes)
     (subst (λ n. RefusesNext e old.number n r (state_of old.base) old.row (state_of old.guest)) h.len refuses)

@@ -27,7 +27,8 @@ pub one_described : (base s s' : State) (parts : List Part) → Describes base p
 one_described base s s' parts h k = without_limit base s s' parts h.describes k.describes
 
 -- parts that are refused, but not for want of memory, describe no state
-pub none_described : (base s : State) (parts : List Part) (e : ApplyFault) → e ≢ faults.Memory → RefusesApply base parts e → Describes base parts s → ⊥
+pub none_described : (base s : State) (parts : List Part) (e : ApplyFault) → e ≢ faults.Memory → RefusesApply base parts e →
+    Describes base parts s → ⊥
 none_described base s parts faults.BadPart other refuses h = refuses s h.describes
 none_described base s parts faults.TooManyPages other refuses h =
     let same : refuses.0 ≡ s = without_limit base refuses.0 s parts refuses.1 h.describes in

@@ -60,7 +60,8 @@ marks_rise : (its : List Item) (row : List Part) (n steps : ℕ) → Rise steps 
 marks_rise [] row n steps = tt
 marks_rise (items.Opening o ∷ its) row n steps = marks_rise its row n steps
 marks_rise (items.Frame f ∷ its) row n steps =
-    rise_lower steps (steps + f.count) (marks_of [] (n + 1) (steps + f.count) its) (omega arith) (marks_rise its [] (n + 1) (steps + f.count))
+    rise_lower steps (steps + f.count) (marks_of [] (n + 1) (steps + f.count) its) (omega arith)
+    (marks_rise its [] (n + 1) (steps + f.count))
 marks_rise (items.Part p ∷ its) row n steps =
     rise_new p.rest (record { frames = n; at = steps; parts = row ++ p ∷ [] }) (marks_of (row_after p.rest (row ++ p ∷ [])) n steps its)
     (marks_rise its (row_after p.rest (row ++ p ∷ [])) n steps)
@@ -79,33 +80,38 @@ low_last (m ∷ marks) least t h =
 
 rise_any : (marks : List Mark) (least place : ℕ) → Rise least marks → Contains (places_of marks) place → least ≤ place
 rise_any [] least place h any = absurd (contains_none place any)
-rise_any (m ∷ marks) least place h any = by (contains_cases m.at (places_of marks) place any) (λ behind. rise_any marks m.at place h.1 behind) where
-  by : (m.at ≡ place) ⊎ Contains (places_of marks) place → (Contains (places_of marks) place → m.at ≤ place) → least ≤ place
-  by (inl same) more = omega (arith, same, h.0)
-  by (inr behind) more = let above = more behind in omega (arith, above, h.0)
+rise_any (m ∷ marks) least place h any =
+    by (contains_cases m.at (places_of marks) place any) (λ behind. rise_any marks m.at place h.1 behind) where
+      by : (m.at ≡ place) ⊎ Contains (places_of marks) place → (Contains (places_of marks) place → m.at ≤ place) → least ≤ place
+      by (inl same) more = omega (arith, same, h.0)
+      by (inr behind) more = let above = more behind in omega (arith, above, h.0)
 
-greatest : (marks : List Mark) (least t place : ℕ) → Rise least marks → Contains (places_of marks) place → place ≤ t → place ≤ last_place least marks t
+greatest : (marks : List Mark) (least t place : ℕ) → Rise least marks → Contains (places_of marks) place → place ≤ t →
+    place ≤ last_place least marks t
 greatest [] least t place h any low = absurd (contains_none place any)
-greatest (m ∷ marks) least t place h any low = by (contains_cases m.at (places_of marks) place any) (λ behind. greatest marks m.at t place h.1 behind low) where
-  by : (m.at ≡ place) ⊎ Contains (places_of marks) place → (Contains (places_of marks) place → place ≤ last_place m.at marks t) →
-      place ≤ last_place least (m ∷ marks) t
-  by (inl same) more =
-      let on = last_on least m marks t (omega (arith, same, low)) in
-      let last = low_last marks m.at t h.1 in
-      omega (arith, on, last, same)
-  by (inr behind) more =
-      let above = rise_any marks m.at place h.1 behind in
-      let on = last_on least m marks t (omega (arith, above, low)) in
-      let last = more behind in
-      omega (arith, on, last)
+greatest (m ∷ marks) least t place h any low =
+    by (contains_cases m.at (places_of marks) place any) (λ behind. greatest marks m.at t place h.1 behind low) where
+      by : (m.at ≡ place) ⊎ Contains (places_of marks) place → (Contains (places_of marks) place → place ≤ last_place m.at marks t) →
+          place ≤ last_place least (m ∷ marks) t
+      by (inl same) more =
+          let on = last_on least m marks t (omega (arith, same, low)) in
+          let last = low_last marks m.at t h.1 in
+          omega (arith, on, last, same)
+      by (inr behind) more =
+          let above = rise_any marks m.at place h.1 behind in
+          let on = last_on least m marks t (omega (arith, above, low)) in
+          let last = more behind in
+          omega (arith, on, last)
 
-either_way : (marks : List Mark) (m : Mark) (place : ℕ) → Contains (places_of marks) place ⊎ (place ≡ m.at) → Contains (places_of (m ∷ marks)) place
+either_way : (marks : List Mark) (m : Mark) (place : ℕ) → Contains (places_of marks) place ⊎ (place ≡ m.at) →
+    Contains (places_of (m ∷ marks)) place
 either_way marks m place (inl any) = contains_behind m.at (places_of marks) place any
 either_way marks m place (inr same) = subst (λ i. Contains (places_of (m ∷ marks)) i) (sym same) (contains_first m.at (places_of marks))
 
 chosen : (m : Mark) (marks : List Mark) (least t : ℕ) (b : Bool) → nat_le m.at t ≡ b → least ≤ t →
     (m.at ≤ t → (Contains (places_of marks) (last_place m.at marks t) ⊎ (last_place m.at marks t ≡ m.at)) × (last_place m.at marks t ≤ t)) →
-    (Contains (places_of (m ∷ marks)) (if b then last_place m.at marks t else least) ⊎ ((if b then last_place m.at marks t else least) ≡ least))
+    (Contains (places_of (m ∷ marks)) (if b then last_place m.at marks t else least) ⊎
+    ((if b then last_place m.at marks t else least) ≡ least))
     × ((if b then last_place m.at marks t else least) ≤ t)
 chosen m marks least t true test low more =
     let behind = more (grind (arith, nat_tests, test)) in
@@ -125,7 +131,8 @@ marks_kept (items.Opening q ∷ its) o frames marks k = subst (Rise 0) (sym k.2)
 marks_kept (items.Frame f ∷ its) o frames marks k = absurd k
 marks_kept (items.Part q ∷ its) o frames marks k = absurd k
 
-pub ran_from_last : (track : Track) (len t ran : ℕ) → IsTrack track len → ran + last_place 0 track.marks t ≤ t → RanFromLast (verified_of track len) t ran
+pub ran_from_last : (track : Track) (len t ran : ℕ) → IsTrack track len → ran + last_place 0 track.marks t ≤ t →
+    RanFromLast (verified_of track len) t ran
 ran_from_last track len t ran is h =
     let rise = marks_kept (items_of is.0) track.opening track.frames track.marks is.1.kept in
     record {
@@ -133,7 +140,8 @@ ran_from_last track len t ran is h =
       from_last = λ place there low. let last = greatest track.marks 0 t place rise there low in omega (arith, h, last);
     }
 
-pub is_last_checkpoint : (track : Track) (len t : ℕ) → IsTrack track len → IsLastCheckpoint (verified_of track len) t (last_place 0 track.marks t)
+pub is_last_checkpoint : (track : Track) (len t : ℕ) → IsTrack track len →
+    IsLastCheckpoint (verified_of track len) t (last_place 0 track.marks t)
 is_last_checkpoint track len t is =
     let rise = marks_kept (items_of is.0) track.opening track.frames track.marks is.1.kept in
     let last = last_is track.marks 0 t (omega arith) in
@@ -165,7 +173,8 @@ its_kept (items.Opening q ∷ its) o frames marks k =
 its_kept (items.Frame f ∷ its) o frames marks k = absurd k
 its_kept (items.Part q ∷ its) o frames marks k = absurd k
 
-pub keeps_of : (records : List Record) (o : Opening) (frames : List Frame) (marks : List Mark) → IsRecording records → IsKeptOf (items_of records) o frames marks →
+pub keeps_of : (records : List Record) (o : Opening) (frames : List Frame) (marks : List Mark) → IsRecording records →
+    IsKeptOf (items_of records) o frames marks →
     Keeps (record { opening = o; frames = frames; checkpoints = places_of marks; len = length records }) records
 keeps_of records o frames marks recording kept =
     let its = its_kept (items_of records) o frames marks kept in
@@ -173,16 +182,21 @@ keeps_of records o frames marks recording kept =
 
 pub is_verified : (track : Track) (len : ℕ) → IsTrack track len → IsVerified (verified_of track len)
 is_verified track len is =
-    let of = is.1 in
-    (is.0, subst (λ n. Keeps (verified_of track n) is.0) (sym of.len_is) (keeps_of is.0 track.opening track.frames track.marks of.recording of.kept))
+    let of = is.1 in (
+      is.0,
+      subst (λ n. Keeps (verified_of track n) is.0) (sym of.len_is)
+          (keeps_of is.0 track.opening track.frames track.marks of.recording of.kept),
+    )
 
 -- ---- the places are those of last parts
 
-contains_completed : (flag : Option CheckpointRest) (rest : CheckpointRest) (place : ℕ) (more : List ℕ) → flag ≡ Some rest → Contains (completed flag place ++ more) place
+contains_completed : (flag : Option CheckpointRest) (rest : CheckpointRest) (place : ℕ) (more : List ℕ) → flag ≡ Some rest →
+    Contains (completed flag place ++ more) place
 contains_completed None rest place more h = cc
 contains_completed (Some r) rest place more h = contains_first place more
 
-completed_behind : (flag : Option CheckpointRest) (at place : ℕ) (more : List ℕ) → Contains more place → Contains (completed flag at ++ more) place
+completed_behind : (flag : Option CheckpointRest) (at place : ℕ) (more : List ℕ) → Contains more place →
+    Contains (completed flag at ++ more) place
 completed_behind None at place more h = h
 completed_behind (Some r) at place more h = contains_behind at more place h
 
@@ -190,13 +204,17 @@ any_of : (before : List Item) (p : Part) (after : List Item) (rest : CheckpointR
     Contains (checkpoints_of steps (before ++ items.Part p ∷ after)) (steps + total (frames_of before))
 any_of [] p after rest steps h =
     let none : steps ≡ steps + total [] = omega arith in
-    subst (λ i. Contains (checkpoints_of steps (items.Part p ∷ after)) i) none (contains_completed p.rest rest steps (checkpoints_of steps after) h)
+    subst (λ i. Contains (checkpoints_of steps (items.Part p ∷ after)) i) none
+    (contains_completed p.rest rest steps (checkpoints_of steps after) h)
 any_of (items.Opening o ∷ before) p after rest steps h = any_of before p after rest steps h
 any_of (items.Frame f ∷ before) p after rest steps h =
-    let sum : steps + f.count + total (frames_of before) ≡ steps + total (f ∷ frames_of before) = omega (arith, sum_by-cons (λ (g : Frame). g.count) f (frames_of before)) in
-    subst (λ i. Contains (checkpoints_of (steps + f.count) (before ++ items.Part p ∷ after)) i) sum (any_of before p after rest (steps + f.count) h)
+    let sum : steps + f.count + total (frames_of before) ≡ steps + total (f ∷ frames_of before) =
+    omega (arith, sum_by-cons (λ (g : Frame). g.count) f (frames_of before)) in
+    subst (λ i. Contains (checkpoints_of (steps + f.count) (before ++ items.Part p ∷ after)) i) sum
+    (any_of before p after rest (steps + f.count) h)
 any_of (items.Part q ∷ before) p after rest steps h =
-    completed_behind q.rest steps (steps + total (frames_of before)) (checkpoints_of steps (before ++ items.Part p ∷ after)) (any_of before p after rest steps h)
+    completed_behind q.rest steps (steps + total (frames_of before)) (checkpoints_of steps (before ++ items.Part p ∷ after))
+    (any_of before p after rest steps h)
 
 -- where a checkpoint is at a place, the items have a last part there
 record Split (its : List Item) (steps place : ℕ) : Type 0 where
@@ -208,7 +226,8 @@ record Split (its : List Item) (steps place : ℕ) : Type 0 where
   is_last : part.rest ≡ Some rest
   place_is : place ≡ steps + total (frames_of before)
 
-split_behind : (x : Item) (its : List Item) (steps more place : ℕ) → ((before : List Item) → more + total (frames_of before) ≡ steps + total (frames_of (x ∷ before))) →
+split_behind : (x : Item) (its : List Item) (steps more place : ℕ) →
+    ((before : List Item) → more + total (frames_of before) ≡ steps + total (frames_of (x ∷ before))) →
     Split its more place → Split (x ∷ its) steps place
 split_behind x its steps more place sums h = record {
   before = x ∷ h.before;
@@ -220,20 +239,24 @@ split_behind x its steps more place sums h = record {
   place_is = h.place_is ∙ sums h.before;
 }
 
-part_back : (p : Part) (its : List Item) (flag : Option CheckpointRest) (at place : ℕ) (more : List ℕ) → p.rest ≡ flag → (Contains more place → Split its at place) →
+part_back : (p : Part) (its : List Item) (flag : Option CheckpointRest) (at place : ℕ) (more : List ℕ) → p.rest ≡ flag →
+    (Contains more place → Split its at place) →
     Contains (completed flag at ++ more) place → Split (items.Part p ∷ its) at place
 part_back p its None at place more flag behind any = split_behind (items.Part p) its at at place (λ before. refl) (behind any)
 part_back p its (Some rest) at place more flag behind any = by (contains_cases at more place any) where
   by : (at ≡ place) ⊎ Contains more place → Split (items.Part p ∷ its) at place
-  by (inl same) = record { before = []; part = p; after = its; its_are = refl; rest = rest; is_last = flag; place_is = sym same ∙ omega arith }
+  by (inl same) =
+      record { before = []; part = p; after = its; its_are = refl; rest = rest; is_last = flag; place_is = sym same ∙ omega arith }
   by (inr left) = split_behind (items.Part p) its at at place (λ before. refl) (behind left)
 
 any_back : (its : List Item) (steps place : ℕ) → Contains (checkpoints_of steps its) place → Split its steps place
 any_back [] steps place any = absurd (contains_none place any)
-any_back (items.Opening o ∷ its) steps place any = split_behind (items.Opening o) its steps steps place (λ before. refl) (any_back its steps place any)
+any_back (items.Opening o ∷ its) steps place any =
+    split_behind (items.Opening o) its steps steps place (λ before. refl) (any_back its steps place any)
 any_back (items.Frame f ∷ its) steps place any =
     split_behind (items.Frame f) its steps (steps + f.count) place
-    (λ before. let sum = sum_by-cons (λ (g : Frame). g.count) f (frames_of before) in omega (arith, sum)) (any_back its (steps + f.count) place any)
+    (λ before. let sum = sum_by-cons (λ (g : Frame). g.count) f (frames_of before) in omega (arith, sum))
+    (any_back its (steps + f.count) place any)
 any_back (items.Part p ∷ its) steps place any =
     part_back p its p.rest steps place (checkpoints_of steps its) refl (λ behind. any_back its steps place behind) any
 
@@ -242,13 +265,22 @@ checkpoints_are_last_parts its place = (there, back) where
   there : Contains (checkpoints_of 0 its) place → HasCheckpointAt its place
   there any =
       let all = any_back its 0 place any in
-      record { before = all.before; part = all.part; after = all.after; its_are = all.its_are; rest = all.rest; is_last = all.is_last; place_is = all.place_is ∙ omega arith }
+      record {
+        before = all.before;
+        part = all.part;
+        after = all.after;
+        its_are = all.its_are;
+        rest = all.rest;
+        is_last = all.is_last;
+        place_is = all.place_is ∙ omega arith;
+      }
 
   back : HasCheckpointAt its place → Contains (checkpoints_of 0 its) place
   back h =
       let at : 0 + total (frames_of h.before) ≡ place = sym (h.place_is ∙ omega arith) in
       subst (λ (is : List Item). Contains (checkpoints_of 0 is) place) (sym h.its_are)
-      (subst (λ i. Contains (checkpoints_of 0 (h.before ++ items.Part h.part ∷ h.after)) i) at (any_of h.before h.part h.after h.rest 0 h.is_last))
+      (subst (λ i. Contains (checkpoints_of 0 (h.before ++ items.Part h.part ∷ h.after)) i) at
+      (any_of h.before h.part h.after h.rest 0 h.is_last))
 
 -- ---- the state at the total
 
@@ -267,7 +299,8 @@ frame_opening f o h = cc
 part_opening : (p : Part) (o : Opening) → items.Part p ≡ items.Opening o → ⊥
 part_opening p o h = cc
 
-ends_of : (its : List Item) (o : Opening) (frames : List Frame) (s : State) → take 1 its ≡ items.Opening o ∷ [] → frames ≡ frames_of its → StateAt o frames (total frames) s → EndsIn its s
+ends_of : (its : List Item) (o : Opening) (frames : List Frame) (s : State) → take 1 its ≡ items.Opening o ∷ [] → frames ≡ frames_of its →
+    StateAt o frames (total frames) s → EndsIn its s
 ends_of [] o frames s first are at = absurd (none_first (items.Opening o) first)
 ends_of (items.Opening p ∷ its) o frames s first are at =
     let same : o ≡ p = opening_is p o (one_first (items.Opening p) (items.Opening o) first) in

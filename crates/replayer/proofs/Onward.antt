@@ -61,31 +61,59 @@ frame_split (ends.Call r) s new tid count n below h =
     let sum : count - 1 ≡ n + (count - n - 1) = omega arith in
     let both = steps_split n (count - n - 1) tid s h.before (subst (λ i. Steps i tid s h.before) sum h.steps) in
     let by : EndsInCall both.0 tid (count - n) r new =
-    record { some = omega arith; before = h.before; steps = both.2; called = h.called; calls = h.calls; answer = h.answer; after = h.after; answered = h.answered; new_is = h.new_is } in
+    record {
+      some = omega arith;
+      before = h.before;
+      steps = both.2;
+      called = h.called;
+      calls = h.calls;
+      answer = h.answer;
+      after = h.after;
+      answered = h.answered;
+      new_is = h.new_is;
+    } in
     (both.0, both.1, by)
 frame_split (ends.Fault kind) s new tid count n below h =
     let sum : count - 1 ≡ n + (count - n - 1) = omega arith in
     let both = steps_split n (count - n - 1) tid s h.before (subst (λ i. Steps i tid s h.before) sum h.steps) in
-    let by : EndsInFault both.0 tid (count - n) kind new = record { some = omega arith; before = h.before; steps = both.2; faults = h.faults; new_is = h.new_is } in
+    let by : EndsInFault both.0 tid (count - n) kind new =
+    record { some = omega arith; before = h.before; steps = both.2; faults = h.faults; new_is = h.new_is } in
     (both.0, both.1, by)
 frame_split ends.Stuck s new tid count n below h = absurd (omega (arith, h.no_step))
 
-frame_join : (end : End) (s mid new : State) (tid count n : ℕ) → n < count → Steps n tid s mid → FrameStepBy end mid tid (count - n) new → FrameStepBy end s tid count new
+frame_join : (end : End) (s mid new : State) (tid count n : ℕ) → n < count → Steps n tid s mid → FrameStepBy end mid tid (count - n) new →
+    FrameStepBy end s tid count new
 frame_join ends.Preempt s mid new tid count n below some h =
     let sum : n + (count - n) ≡ count = omega arith in
     let by : Preempts s tid count new =
-    record { some = omega arith; last = h.last; steps = subst (λ i. Steps i tid s h.last) sum (steps_join n (count - n) tid s mid h.last some h.steps); new_is = h.new_is } in
+    record {
+      some = omega arith;
+      last = h.last;
+      steps = subst (λ i. Steps i tid s h.last) sum (steps_join n (count - n) tid s mid h.last some h.steps);
+      new_is = h.new_is;
+    } in
     by
 frame_join (ends.Call r) s mid new tid count n below some h =
     let sum : n + (count - n - 1) ≡ count - 1 = omega arith in
     let all = subst (λ i. Steps i tid s h.before) sum (steps_join n (count - n - 1) tid s mid h.before some h.steps) in
     let by : EndsInCall s tid count r new =
-    record { some = omega arith; before = h.before; steps = all; called = h.called; calls = h.calls; answer = h.answer; after = h.after; answered = h.answered; new_is = h.new_is } in
+    record {
+      some = omega arith;
+      before = h.before;
+      steps = all;
+      called = h.called;
+      calls = h.calls;
+      answer = h.answer;
+      after = h.after;
+      answered = h.answered;
+      new_is = h.new_is;
+    } in
     by
 frame_join (ends.Fault kind) s mid new tid count n below some h =
     let sum : n + (count - n - 1) ≡ count - 1 = omega arith in
     let all = subst (λ i. Steps i tid s h.before) sum (steps_join n (count - n - 1) tid s mid h.before some h.steps) in
-    let by : EndsInFault s tid count kind new = record { some = omega arith; before = h.before; steps = all; faults = h.faults; new_is = h.new_is } in
+    let by : EndsInFault s tid count kind new =
+    record { some = omega arith; before = h.before; steps = all; faults = h.faults; new_is = h.new_is } in
     by
 frame_join ends.Stuck s mid new tid count n below some h = absurd (omega (arith, h.no_step))
 
@@ -98,13 +126,15 @@ total_cons : (f : Frame) (rest : List Frame) → total (f ∷ rest) ≡ f.count 
 total_cons f rest = sum_by-cons (λ (g : Frame). g.count) f rest
 
 -- the next frame leads on
-pub frame_ahead : (o : Opening) (frames : List Frame) (t : ℕ) (s : State) (f : Frame) (rest : List Frame) → GoesOn o frames t s (f ∷ rest) → (new : State) × FrameStep s f new
+pub frame_ahead : (o : Opening) (frames : List Frame) (t : ℕ) (s : State) (f : Frame) (rest : List Frame) → GoesOn o frames t s (f ∷ rest) →
+    (new : State) × FrameStep s f new
 frame_ahead o frames t s f rest on =
     let ahead = at_total_first s f rest on.last on.ends in
     (ahead.0, ahead.1)
 
 -- behind it
-pub on_step : (o : Opening) (frames : List Frame) (t : ℕ) (s new : State) (f : Frame) (rest : List Frame) → GoesOn o frames t s (f ∷ rest) → FrameStep s f new →
+pub on_step : (o : Opening) (frames : List Frame) (t : ℕ) (s new : State) (f : Frame) (rest : List Frame) → GoesOn o frames t s (f ∷ rest) →
+    FrameStep s f new →
     GoesOn o frames (t + f.count) new rest
 on_step o frames t s new f rest on step =
     let ahead = at_total_first s f rest on.last on.ends in
@@ -114,25 +144,30 @@ on_step o frames t s new f rest on step =
           let less : n ≡ f.count + n - f.count = omega arith in
           let sum : t + (f.count + n) ≡ t + f.count + n = omega arith in
           subst (λ i. StateAt o frames i at) sum
-          (on.goes (f.count + n) at (frame_first s f new at rest (f.count + n) (omega arith) step (subst (λ i. StateAtFrom new rest i at) less h)));
+          (on.goes (f.count + n) at
+          (frame_first s f new at rest (f.count + n) (omega arith) step (subst (λ i. StateAtFrom new rest i at) less h)));
       last = on.last;
       ends = subst (λ (m : State). StateAtFrom m rest (total rest) on.last) same ahead.2;
       sum = omega (arith, on.sum, total_cons f rest);
     }
 
 -- its steps
-pub steps_ahead : (o : Opening) (frames : List Frame) (t : ℕ) (s : State) (f : Frame) (rest : List Frame) (n : ℕ) → GoesOn o frames t s (f ∷ rest) → n < f.count →
+pub steps_ahead : (o : Opening) (frames : List Frame) (t : ℕ) (s : State) (f : Frame) (rest : List Frame) (n : ℕ) →
+    GoesOn o frames t s (f ∷ rest) → n < f.count →
     (new : State) × Steps n f.tid s new
 steps_ahead o frames t s f rest n on below =
     let ahead = frame_ahead o frames t s f rest on in
     let both = frame_split f.end s ahead.0 f.tid f.count n below ahead.1.goes in
     (both.0, both.1)
 
-some_by : (b : Bool) (s mid at : State) (f : Frame) (rest : List Frame) (n m : ℕ) → nat_le (f.count - n) m ≡ b → s.ended ≡ None → f.count ≤ MAX_QUANTUM → n < f.count → Steps n f.tid s mid →
-    MatchBool b ((new : State) × FrameStep mid (rest_of n f) new × StateAtFrom new rest (m - (f.count - n)) at) (Steps m f.tid mid at) → StateAtFrom s (f ∷ rest) (n + m) at
+some_by : (b : Bool) (s mid at : State) (f : Frame) (rest : List Frame) (n m : ℕ) → nat_le (f.count - n) m ≡ b → s.ended ≡ None →
+    f.count ≤ MAX_QUANTUM → n < f.count → Steps n f.tid s mid →
+    MatchBool b ((new : State) × FrameStep mid (rest_of n f) new × StateAtFrom new rest (m - (f.count - n)) at) (Steps m f.tid mid at) →
+    StateAtFrom s (f ∷ rest) (n + m) at
 some_by true s mid at f rest n m test runs limit below some h =
     let within : f.count - n ≤ m = grind (arith, nat_tests, test) in
-    let step : FrameStep s f h.0 = record { runs = runs; limit = limit; goes = frame_join f.end s mid h.0 f.tid f.count n below some h.1.goes } in
+    let step : FrameStep s f h.0 =
+    record { runs = runs; limit = limit; goes = frame_join f.end s mid h.0 f.tid f.count n below some h.1.goes } in
     let less : m - (f.count - n) ≡ n + m - f.count = omega arith in
     frame_first s f h.0 at rest (n + m) (omega arith) step (subst (λ i. StateAtFrom h.0 rest i at) less h.2)
 some_by false s mid at f rest n m test runs limit below some h =
@@ -140,7 +175,8 @@ some_by false s mid at f rest n m test runs limit below some h =
     frame_part s f at rest (n + m) (omega arith) (steps_join n m f.tid s mid at some h)
 
 -- behind some of them
-pub on_some : (o : Opening) (frames : List Frame) (t : ℕ) (s mid : State) (f : Frame) (rest : List Frame) (n : ℕ) → GoesOn o frames t s (f ∷ rest) → n < f.count →
+pub on_some : (o : Opening) (frames : List Frame) (t : ℕ) (s mid : State) (f : Frame) (rest : List Frame) (n : ℕ) →
+    GoesOn o frames t s (f ∷ rest) → n < f.count →
     Steps n f.tid s mid → GoesOn o frames (t + n) mid (rest_of n f ∷ rest)
 on_some o frames t s mid f rest n on below some =
     let ahead = at_total_first s f rest on.last on.ends in
@@ -155,14 +191,16 @@ on_some o frames t s mid f rest n on below some =
     record {
       goes = λ m at h.
           let sum : t + (n + m) ≡ t + n + m = omega arith in
-          subst (λ i. StateAt o frames i at) sum (on.goes (n + m) at (some_by (nat_le (f.count - n) m) s mid at f rest n m refl ahead.1.runs limit below some h));
+          subst (λ i. StateAt o frames i at) sum
+          (on.goes (n + m) at (some_by (nat_le (f.count - n) m) s mid at f rest n m refl ahead.1.runs limit below some h));
       last = on.last;
       ends = at_total_of_first mid (rest_of n f) rest ahead.0 on.last step ahead.2;
       sum = omega (arith, on.sum, total_cons f rest, total_cons (rest_of n f) rest, below);
     }
 
 -- the place itself
-pub at_place : (o : Opening) (frames : List Frame) (t : ℕ) (s : State) (left : List Frame) → GoesOn o frames t s left → Begins left → StateAt o frames t s
+pub at_place : (o : Opening) (frames : List Frame) (t : ℕ) (s : State) (left : List Frame) → GoesOn o frames t s left → Begins left →
+    StateAt o frames t s
 at_place o frames t s [] on begins =
     let none : t + 0 ≡ t = omega arith in
     subst (λ i. StateAt o frames i s) none (on.goes 0 s (refl, refl))
@@ -185,7 +223,8 @@ split_at xs zero = refl
 split_at [] (suc n) = refl
 split_at (x ∷ xs) (suc n) = ap (λ ys. x ∷ ys) (split_at xs n)
 
-run_behind : (s mid last : State) (done rest : List Frame) → StateAtFrom s done (total done) mid → StateAtFrom s (done ++ rest) (total (done ++ rest)) last →
+run_behind : (s mid last : State) (done rest : List Frame) → StateAtFrom s done (total done) mid →
+    StateAtFrom s (done ++ rest) (total (done ++ rest)) last →
     StateAtFrom mid rest (total rest) last
 run_behind s mid last [] rest h k = subst (λ (m : State). StateAtFrom m rest (total rest) last) (sym h.1) k
 run_behind s mid last (f ∷ done) rest h k =
@@ -194,16 +233,19 @@ run_behind s mid last (f ∷ done) rest h k =
     let same : two.0 ≡ one.0 = one_state_after_frame s f two.0 one.0 two.1 one.1 in
     run_behind one.0 mid last done rest one.2 (subst (λ (m : State). StateAtFrom m (done ++ rest) (total (done ++ rest)) last) same two.2)
 
-pub on_from : (o : Opening) (frames : List Frame) (marks : List Mark) (done steps : ℕ) (s : State) → AreKept o frames marks → IsPlace o frames done steps s → GoesOn o frames steps s (drop done frames)
+pub on_from : (o : Opening) (frames : List Frame) (marks : List Mark) (done steps : ℕ) (s : State) → AreKept o frames marks →
+    IsPlace o frames done steps s → GoesOn o frames steps s (drop done frames)
 on_from o frames marks done steps s kept place =
-    let reached : StateAtFrom place.first (take done frames) (total (take done frames)) s = subst (λ n. StateAtFrom place.first (take done frames) n s) place.steps_are place.reached in
+    let reached : StateAtFrom place.first (take done frames) (total (take done frames)) s =
+    subst (λ n. StateAtFrom place.first (take done frames) n s) place.steps_are place.reached in
     let same : kept.first ≡ place.first = kept.opens.state_is ∙ sym place.opens.state_is in
     let all : take done frames ++ drop done frames ≡ frames = split_at frames done in
     let ends = subst (λ (m : State). StateAtFrom m frames (total frames) kept.last) same kept.ends in
     record {
       goes = λ n at h.
           let less : n ≡ steps + n - total (take done frames) = omega (arith, place.steps_are) in
-          let later = at_later place.first s at (take done frames) (drop done frames) (steps + n) reached (omega (arith, place.steps_are)) (subst (λ i. StateAtFrom s (drop done frames) i at) less h) in
+          let later = at_later place.first s at (take done frames) (drop done frames) (steps + n) reached (omega (arith, place.steps_are))
+          (subst (λ i. StateAtFrom s (drop done frames) i at) less h) in
           (place.first, place.opens, subst (λ (fs : List Frame). StateAtFrom place.first fs (steps + n) at) all later);
       last = kept.last;
       ends = run_behind place.first s kept.last (take done frames) (drop done frames) reached
@@ -228,14 +270,18 @@ drop_at (y ∷ xs) (suc i) x below there =
     let one : suc i + 1 ≡ suc (i + 1) = omega arith in
     drop_at xs i x (omega arith) there ∙ ap (λ n. x ∷ drop n (y ∷ xs)) (sym one)
 
-pub stands_in : (v : Track) (p : Position) (t n : ℕ) (s : State) (f : Frame) (rest : List Frame) → GoesOn v.opening v.frames t s (f ∷ rest) → drop p.frames v.frames ≡ f ∷ rest →
-    p.frames ≤ length v.frames → n < f.count → Steps n f.tid s (state_of p.guest) → p.steps ≡ n → p.at ≡ t + n → StandsAt v.opening v.frames p
+pub stands_in : (v : Track) (p : Position) (t n : ℕ) (s : State) (f : Frame) (rest : List Frame) →
+    GoesOn v.opening v.frames t s (f ∷ rest) → drop p.frames v.frames ≡ f ∷ rest →
+    p.frames ≤ length v.frames → n < f.count → Steps n f.tid s (state_of p.guest) → p.steps ≡ n → p.at ≡ t + n →
+    StandsAt v.opening v.frames p
 stands_in v p t n s f rest on there inside below some steps_is at_is =
     let here = on_some v.opening v.frames t s (state_of p.guest) f rest n on below some in
-    let same : rest_of n f ∷ rest ≡ begun p.steps (drop p.frames v.frames) = ap (λ i. begun i (f ∷ rest)) (sym steps_is) ∙ ap (begun p.steps) (sym there) in
+    let same : rest_of n f ∷ rest ≡ begun p.steps (drop p.frames v.frames) =
+    ap (λ i. begun i (f ∷ rest)) (sym steps_is) ∙ ap (begun p.steps) (sym there) in
     let begins : Begins (rest_of n f ∷ rest) = omega (arith, below) in
     record {
-      state = subst (λ i. StateAt v.opening v.frames i (state_of p.guest)) (sym at_is) (at_place v.opening v.frames (t + n) (state_of p.guest) (rest_of n f ∷ rest) here begins);
+      state = subst (λ i. StateAt v.opening v.frames i (state_of p.guest)) (sym at_is)
+          (at_place v.opening v.frames (t + n) (state_of p.guest) (rest_of n f ∷ rest) here begins);
       inside = inside;
       on = subst (λ i. GoesOn v.opening v.frames i (state_of p.guest) (begun p.steps (drop p.frames v.frames))) (sym at_is)
           (subst (λ (fs : List Frame). GoesOn v.opening v.frames (t + n) (state_of p.guest) fs) same here);
@@ -246,10 +292,12 @@ begun_none : (left : List Frame) → left ≡ begun 0 left
 begun_none [] = refl
 begun_none (f ∷ left) = let none : f.count ≡ f.count - 0 = omega arith in ap (λ n. record f { count = n } ∷ left) none
 
-pub stands_between : (v : Track) (p : Position) (left : List Frame) → GoesOn v.opening v.frames p.at (state_of p.guest) left → drop p.frames v.frames ≡ left →
+pub stands_between : (v : Track) (p : Position) (left : List Frame) → GoesOn v.opening v.frames p.at (state_of p.guest) left →
+    drop p.frames v.frames ≡ left →
     p.frames ≤ length v.frames → p.steps ≡ 0 → Begins left → StandsAt v.opening v.frames p
 stands_between v p left on there inside none begins =
-    let same : left ≡ begun p.steps (drop p.frames v.frames) = begun_none left ∙ ap (λ i. begun i left) (sym none) ∙ ap (begun p.steps) (sym there) in
+    let same : left ≡ begun p.steps (drop p.frames v.frames) =
+    begun_none left ∙ ap (λ i. begun i left) (sym none) ∙ ap (begun p.steps) (sym there) in
     record {
       state = at_place v.opening v.frames p.at (state_of p.guest) left on begins;
       inside = inside;
@@ -258,7 +306,8 @@ stands_between v p left on there inside none begins =
     }
 
 -- inside a frame, what is left of it is next
-pub on_inside : (v : Track) (p : Position) (f : Frame) → StandsAt v.opening v.frames p → p.frames < length v.frames → f ≡ get_or v.frames p.frames f →
+pub on_inside : (v : Track) (p : Position) (f : Frame) → StandsAt v.opening v.frames p → p.frames < length v.frames →
+    f ≡ get_or v.frames p.frames f →
     GoesOn v.opening v.frames p.at (state_of p.guest) (rest_of p.steps f ∷ drop (p.frames + 1) v.frames) × (1 ≤ f.count - p.steps)
 on_inside v p f stands below there =
     let next : drop p.frames v.frames ≡ f ∷ drop (p.frames + 1) v.frames = drop_at v.frames p.frames f below there in
@@ -270,7 +319,8 @@ pub frame_left : (v : Track) (p : Position) → StandsAt v.opening v.frames p �
 frame_left v p stands below = left_by (drop p.frames v.frames) refl where
   left_by : (left : List Frame) → drop p.frames v.frames ≡ left → p.frames < length v.frames
   left_by [] there =
-      let none : p.at + 0 ≡ total v.frames = subst (λ (fs : List Frame). p.at + total (begun p.steps fs) ≡ total v.frames) there stands.on.sum in
+      let none : p.at + 0 ≡ total v.frames =
+      subst (λ (fs : List Frame). p.at + total (begun p.steps fs) ≡ total v.frames) there stands.on.sum in
       absurd (omega (arith, none, below))
   left_by (f ∷ left) there =
       let some : length (drop p.frames v.frames) ≡ length (f ∷ left) = ap length there in
@@ -278,7 +328,8 @@ frame_left v p stands below = left_by (drop p.frames v.frames) refl where
       omega (arith, some, long)
 
 -- behind the next frame
-pub drop_next : (frames : List Frame) (n : ℕ) (f : Frame) (rest : List Frame) → drop n frames ≡ f ∷ rest → (drop (n + 1) frames ≡ rest) × (n + 1 ≤ length frames)
+pub drop_next : (frames : List Frame) (n : ℕ) (f : Frame) (rest : List Frame) → drop n frames ≡ f ∷ rest → (drop (n + 1) frames ≡ rest) ×
+    (n + 1 ≤ length frames)
 drop_next [] zero f rest h = absurd (cons_nil f rest (sym h))
 drop_next [] (suc n) f rest h = absurd (cons_nil f rest (sym h))
 drop_next (g ∷ frames) zero f rest h = (tails g f frames rest h, omega arith)
@@ -288,8 +339,10 @@ drop_next (g ∷ frames) (suc n) f rest h =
     (subst (λ i. drop i (g ∷ frames) ≡ rest) (sym one) more.0, omega (arith, more.1))
 
 -- some steps further inside a frame
-pub stands_further : (v : Track) (p q : Position) (f : Frame) (n : ℕ) → StandsAt v.opening v.frames p → p.frames < length v.frames → f ≡ get_or v.frames p.frames f → p.steps + n < f.count →
-    Steps n f.tid (state_of p.guest) (state_of q.guest) → q.frames ≡ p.frames → q.steps ≡ p.steps + n → q.at ≡ p.at + n → StandsAt v.opening v.frames q
+pub stands_further : (v : Track) (p q : Position) (f : Frame) (n : ℕ) → StandsAt v.opening v.frames p → p.frames < length v.frames →
+    f ≡ get_or v.frames p.frames f → p.steps + n < f.count →
+    Steps n f.tid (state_of p.guest) (state_of q.guest) → q.frames ≡ p.frames → q.steps ≡ p.steps + n → q.at ≡ p.at + n →
+    StandsAt v.opening v.frames q
 stands_further v p q f n stands below there more some frames_is steps_is at_is =
     let inside = on_inside v p f stands below there in
     let g = rest_of p.steps f in
@@ -301,7 +354,8 @@ stands_further v p q f n stands below there more some frames_is steps_is at_is =
     ∙ ap (begun q.steps) (sym (drop_at v.frames p.frames f below there)) ∙ ap (λ i. begun q.steps (drop i v.frames)) (sym frames_is) in
     let begins : Begins (rest_of n g ∷ rest) = omega (arith, more) in
     record {
-      state = subst (λ i. StateAt v.opening v.frames i (state_of q.guest)) (sym at_is) (at_place v.opening v.frames (p.at + n) (state_of q.guest) (rest_of n g ∷ rest) here begins);
+      state = subst (λ i. StateAt v.opening v.frames i (state_of q.guest)) (sym at_is)
+          (at_place v.opening v.frames (p.at + n) (state_of q.guest) (rest_of n g ∷ rest) here begins);
       inside = omega (arith, frames_is, below);
       on = subst (λ i. GoesOn v.opening v.frames i (state_of q.guest) (begun q.steps (drop q.frames v.frames))) (sym at_is)
           (subst (λ (fs : List Frame). GoesOn v.opening v.frames (p.at + n) (state_of q.guest) fs) left here);
@@ -309,19 +363,23 @@ stands_further v p q f n stands below there more some frames_is steps_is at_is =
     }
 
 -- between two frames
-pub on_between : (v : Track) (p : Position) → StandsAt v.opening v.frames p → p.steps ≡ 0 → GoesOn v.opening v.frames p.at (state_of p.guest) (drop p.frames v.frames)
+pub on_between : (v : Track) (p : Position) → StandsAt v.opening v.frames p → p.steps ≡ 0 →
+    GoesOn v.opening v.frames p.at (state_of p.guest) (drop p.frames v.frames)
 on_between v p stands none =
     let left = drop p.frames v.frames in
-    subst (λ (fs : List Frame). GoesOn v.opening v.frames p.at (state_of p.guest) fs) (sym (begun_none left ∙ ap (λ i. begun i left) (sym none))) stands.on
+    subst (λ (fs : List Frame). GoesOn v.opening v.frames p.at (state_of p.guest) fs)
+    (sym (begun_none left ∙ ap (λ i. begun i left) (sym none))) stands.on
 
 -- so does another guest in the same state
-pub stands_same : (o : Opening) (frames : List Frame) (p q : Position) → state_of q.guest ≡ state_of p.guest → q.frames ≡ p.frames → q.steps ≡ p.steps → q.at ≡ p.at → StandsAt o frames p →
+pub stands_same : (o : Opening) (frames : List Frame) (p q : Position) → state_of q.guest ≡ state_of p.guest → q.frames ≡ p.frames →
+    q.steps ≡ p.steps → q.at ≡ p.at → StandsAt o frames p →
     StandsAt o frames q
 stands_same o frames p q state_is frames_is steps_is at_is stands =
     let left : begun p.steps (drop p.frames frames) ≡ begun q.steps (drop q.frames frames) =
     ap (λ i. begun i (drop p.frames frames)) (sym steps_is) ∙ ap (λ i. begun q.steps (drop i frames)) (sym frames_is) in
     record {
-      state = subst (λ i. StateAt o frames i (state_of q.guest)) (sym at_is) (subst (λ (s : State). StateAt o frames p.at s) (sym state_is) stands.state);
+      state = subst (λ i. StateAt o frames i (state_of q.guest)) (sym at_is)
+          (subst (λ (s : State). StateAt o frames p.at s) (sym state_is) stands.state);
       inside = omega (arith, frames_is, stands.inside);
       on = subst (λ i. GoesOn o frames i (state_of q.guest) (begun q.steps (drop q.frames frames))) (sym at_is)
           (subst (λ (s : State). GoesOn o frames p.at s (begun q.steps (drop q.frames frames))) (sym state_is)

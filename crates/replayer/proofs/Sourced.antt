@@ -44,8 +44,10 @@ pub first_more : (P : Record → Type 0) (xs ys : List Record) → IsSomeAnd (sl
 first_more P [] ys h = absurd h
 first_more P (x ∷ xs) ys h = h
 
-keeps_given : (read : List Record) (r : Record) (row row' : List Part) (frames frames' : List Frame) (marks marks' : List Mark) (steps steps' : ℕ) → 1 ≤ length read → KeepsAll (drop 1 (items_of read)) row frames marks steps →
-    KeepsOn r.item row frames marks steps frames' marks' steps' → RowIs r.item row row' → KeepsAll (drop 1 (items_of (read ++ r ∷ []))) row' frames' marks' steps'
+keeps_given : (read : List Record) (r : Record) (row row' : List Part) (frames frames' : List Frame) (marks marks' : List Mark)
+    (steps steps' : ℕ) → 1 ≤ length read → KeepsAll (drop 1 (items_of read)) row frames marks steps →
+    KeepsOn r.item row frames marks steps frames' marks' steps' → RowIs r.item row row' →
+    KeepsAll (drop 1 (items_of (read ++ r ∷ []))) row' frames' marks' steps'
 keeps_given read r row row' frames frames' marks marks' steps steps' some h k is =
     subst (λ (its : List Item). KeepsAll its row' frames' marks' steps') (sym (drop_first read (r ∷ []) some))
     (keeps_on (drop 1 (items_of read)) r.item row row' frames frames' marks marks' steps steps' h k is)
@@ -75,11 +77,16 @@ last_next its (items.Opening o) = ap (λ fs. last_tid fs) (no_frame its (items.O
 last_next its (items.Frame f) = ap (λ fs. last_tid fs) (frames-append its f) ∙ last_append (frames_of its) 0 f
 last_next its (items.Part p) = ap (λ fs. last_tid fs) (no_frame its (items.Part p) refl)
 
-pub ends_next : (its : List Item) (it : Item) (base : State) (row : List Part) (s base' : State) (row' : List Part) (s' : State) → EndsIn its s → Leads it base row s base' row' s' → EndsIn (its ++ it ∷ []) s'
+pub ends_next : (its : List Item) (it : Item) (base : State) (row : List Part) (s base' : State) (row' : List Part) (s' : State) →
+    EndsIn its s → Leads it base row s base' row' s' → EndsIn (its ++ it ∷ []) s'
 ends_next [] it base row s base' row' s' h leads = absurd h
 ends_next (items.Opening o ∷ rest) (items.Opening p) base row s base' row' s' h leads = absurd leads
-ends_next (items.Opening o ∷ rest) (items.Frame f) base row s base' row' s' h leads =
-    (h.0, h.1, subst (λ (fs : List Frame). StateAtFrom h.0 fs (total fs) s') (sym (frames-append rest f)) (at_total_append (frames_of rest) h.0 s s' f h.2 leads.0))
+ends_next (items.Opening o ∷ rest) (items.Frame f) base row s base' row' s' h leads = (
+  h.0,
+  h.1,
+  subst (λ (fs : List Frame). StateAtFrom h.0 fs (total fs) s') (sym (frames-append rest f))
+      (at_total_append (frames_of rest) h.0 s s' f h.2 leads.0),
+)
 ends_next (items.Opening o ∷ rest) (items.Part p) base row s base' row' s' h leads =
     let there = subst (λ (q : State). StateAtFrom h.0 (frames_of rest) (total (frames_of rest)) q) (sym leads.3) h.2 in
     (h.0, h.1, subst (λ (fs : List Frame). StateAtFrom h.0 fs (total fs) s') (sym (no_frame rest (items.Part p) refl)) there)
@@ -97,8 +104,10 @@ none_counted (items.Frame f) s h = absurd h
 none_counted (items.Part p) s h = absurd h
 
 -- the first record alone
-pub followed_first : (first : Record) (walk : Walk) → Stands first.guest (first ∷ []) (state_of walk.base) walk.row.items (state_of walk.guest) →
-    walk.row.items ≡ [] → walk.frames.items ≡ [] → walk.marks.items ≡ [] → walk.total ≡ 0 → walk.last ≡ 0 → EndsIn (first.item ∷ []) (state_of walk.guest) → Followed first (first ∷ []) walk
+pub followed_first : (first : Record) (walk : Walk) →
+    Stands first.guest (first ∷ []) (state_of walk.base) walk.row.items (state_of walk.guest) →
+    walk.row.items ≡ [] → walk.frames.items ≡ [] → walk.marks.items ≡ [] → walk.total ≡ 0 → walk.last ≡ 0 →
+    EndsIn (first.item ∷ []) (state_of walk.guest) → Followed first (first ∷ []) walk
 followed_first first walk stands row frames marks total_is last_is ends = record {
   first_is = refl;
   stands = stands;
@@ -108,23 +117,30 @@ followed_first first walk stands row frames marks total_is last_is ends = record
   last = last_is ∙ sym (none_ran first.item (state_of walk.guest) ends);
 }
 
-pub first_of_list : (records : List Record) (first : Record) (rest : List Record) (walk : Walk) → records ≡ first ∷ rest → Followed first (first ∷ []) walk → Followed first (take 1 records) walk
+pub first_of_list : (records : List Record) (first : Record) (rest : List Record) (walk : Walk) → records ≡ first ∷ rest →
+    Followed first (first ∷ []) walk → Followed first (take 1 records) walk
 first_of_list records first rest walk is h = subst (λ (rs : List Record). Followed first (take 1 rs) walk) (sym is) h
 
 -- one record more, behind those that were followed
 pub followed_next : (first : Record) (read : List Record) (r : Record) (old new : Walk) → 1 ≤ length read → Followed first read old →
-    (old.keeps ≡ true → KeepsOn r.item old.row.items old.frames.items old.marks.items old.total new.frames.items new.marks.items new.total) →
-    RowIs r.item old.row.items new.row.items → new.keeps ≡ old.keeps → new.total ≡ old.total + instructions_in r.item → new.last ≡ thread_behind r.item old.last →
-    LeadsOn first.guest (length read) r (state_of old.base) old.row.items (state_of old.guest) (state_of new.base) new.row.items (state_of new.guest) →
+    (old.keeps ≡ true → KeepsOn r.item old.row.items old.frames.items old.marks.items old.total new.frames.items new.marks.items new.total)
+    →
+    RowIs r.item old.row.items new.row.items → new.keeps ≡ old.keeps → new.total ≡ old.total + instructions_in r.item →
+    new.last ≡ thread_behind r.item old.last →
+    LeadsOn first.guest (length read) r (state_of old.base) old.row.items (state_of old.guest) (state_of new.base) new.row.items
+    (state_of new.guest) →
     Followed first (read ++ r ∷ []) new
 followed_next first read r old new some h keeps row goes_on counted last leads = record {
   first_is = first_more (λ q. q ≡ first) read (r ∷ []) h.first_is;
-  stands = stands_next first.guest read r (state_of old.base) old.row.items (state_of old.guest) (state_of new.base) new.row.items (state_of new.guest) h.stands leads;
+  stands = stands_next first.guest read r (state_of old.base) old.row.items (state_of old.guest) (state_of new.base) new.row.items
+      (state_of new.guest) h.stands leads;
   keeps = λ on.
       let kept : old.keeps ≡ true = sym goes_on ∙ on in
-      keeps_given read r old.row.items new.row.items old.frames.items new.frames.items old.marks.items new.marks.items old.total new.total some (h.keeps kept) (keeps kept) row;
+      keeps_given read r old.row.items new.row.items old.frames.items new.frames.items old.marks.items new.marks.items old.total new.total
+      some (h.keeps kept) (keeps kept) row;
   ends = subst (λ (its : List Item). EndsIn its (state_of new.guest)) (sym (items-append read r))
-      (ends_next (items_of read) r.item (state_of old.base) old.row.items (state_of old.guest) (state_of new.base) new.row.items (state_of new.guest) h.ends leads.leads);
+      (ends_next (items_of read) r.item (state_of old.base) old.row.items (state_of old.guest) (state_of new.base) new.row.items
+      (state_of new.guest) h.ends leads.leads);
   counted = counted ∙ ap (λ n. n + instructions_in r.item) h.counted ∙ sym (counted_next (items_of read) r.item)
       ∙ ap (λ (its : List Item). total (frames_of its)) (sym (items-append read r));
   last = last ∙ ap (λ n. thread_behind r.item n) h.last ∙ sym (last_next (items_of read) r.item)
@@ -132,11 +148,15 @@ followed_next first read r old new some h keeps row goes_on counted last leads =
 }
 
 -- the next record of a list
-pub followed_at : (first : Record) (records : List Record) (index : ℕ) (r : Record) (old new : Walk) → index < length records → 1 ≤ index → r ≡ get_or records index r →
+pub followed_at : (first : Record) (records : List Record) (index : ℕ) (r : Record) (old new : Walk) → index < length records → 1 ≤ index →
+    r ≡ get_or records index r →
     Followed first (take index records) old →
-    (old.keeps ≡ true → KeepsOn r.item old.row.items old.frames.items old.marks.items old.total new.frames.items new.marks.items new.total) →
-    RowIs r.item old.row.items new.row.items → new.keeps ≡ old.keeps → new.total ≡ old.total + instructions_in r.item → new.last ≡ thread_behind r.item old.last →
-    LeadsOn first.guest index r (state_of old.base) old.row.items (state_of old.guest) (state_of new.base) new.row.items (state_of new.guest) →
+    (old.keeps ≡ true → KeepsOn r.item old.row.items old.frames.items old.marks.items old.total new.frames.items new.marks.items new.total)
+    →
+    RowIs r.item old.row.items new.row.items → new.keeps ≡ old.keeps → new.total ≡ old.total + instructions_in r.item →
+    new.last ≡ thread_behind r.item old.last →
+    LeadsOn first.guest index r (state_of old.base) old.row.items (state_of old.guest) (state_of new.base) new.row.items
+    (state_of new.guest) →
     Followed first (take (index + 1) records) new
 followed_at first records index r old new below some there h keeps row goes_on counted last leads =
     let len : length (take index records) ≡ index = length-take-le index records (omega arith) in
@@ -145,29 +165,37 @@ followed_at first records index r old new below some there h keeps row goes_on c
     ap (λ n. take n records) one_more ∙ take-suc records index r below ∙ ap (λ q. take index records ++ q ∷ []) (sym there) in
     subst (λ (rs : List Record). Followed first rs new) (sym longer)
     (followed_next first (take index records) r old new (omega (arith, len)) h keeps row goes_on counted last
-    (subst (λ n. LeadsOn first.guest n r (state_of old.base) old.row.items (state_of old.guest) (state_of new.base) new.row.items (state_of new.guest)) (sym len) leads))
+    (subst (λ n. LeadsOn first.guest n r (state_of old.base) old.row.items (state_of old.guest) (state_of new.base) new.row.items
+    (state_of new.guest)) (sym len) leads))
 
 -- all that was read is kept
-pub read_kept : (first : Record) (read : List Record) (walk : Walk) (o : Opening) → Followed first read walk → walk.keeps ≡ true → first.item ≡ items.Opening o →
+pub read_kept : (first : Record) (read : List Record) (walk : Walk) (o : Opening) → Followed first read walk → walk.keeps ≡ true →
+    first.item ≡ items.Opening o →
     IsRecording read × IsKeptOf (items_of read) o walk.frames.items walk.marks.items
 read_kept first read walk o h keeps item_is =
     let long : length read ≤ length read = omega arith in
     let all : take (length read) read ≡ read = take_all (length read) read long in
-    all_kept first.guest read first (length read) o (state_of walk.base) walk.row.items (state_of walk.guest) walk.frames.items walk.marks.items walk.total long
-    (subst (λ (rs : List Record). Stands first.guest rs (state_of walk.base) walk.row.items (state_of walk.guest)) (sym all) h.stands) h.first_is item_is
-    (subst (λ (rs : List Record). KeepsAll (drop 1 (items_of rs)) walk.row.items walk.frames.items walk.marks.items walk.total) (sym all) (h.keeps keeps))
+    all_kept first.guest read first (length read) o (state_of walk.base) walk.row.items (state_of walk.guest) walk.frames.items
+    walk.marks.items walk.total long
+    (subst (λ (rs : List Record). Stands first.guest rs (state_of walk.base) walk.row.items (state_of walk.guest)) (sym all) h.stands)
+    h.first_is item_is
+    (subst (λ (rs : List Record). KeepsAll (drop 1 (items_of rs)) walk.row.items walk.frames.items walk.marks.items walk.total) (sym all)
+    (h.keeps keeps))
 
-pub kept_records : (records : List Record) (o : Opening) (frames : List Frame) (marks : List Mark) (len : ℕ) → length records ≡ len → IsRecording records → IsKeptOf (items_of records) o frames marks →
+pub kept_records : (records : List Record) (o : Opening) (frames : List Frame) (marks : List Mark) (len : ℕ) → length records ≡ len →
+    IsRecording records → IsKeptOf (items_of records) o frames marks →
     Keeps (record { opening = o; frames = frames; checkpoints = map (λ m. m.at) marks; len = len }) records
 kept_records records o frames marks len is recording kept =
-    subst (λ n. Keeps (record { opening = o; frames = frames; checkpoints = map (λ m. m.at) marks; len = n }) records) is (keeps_of records o frames marks recording kept)
+    subst (λ n. Keeps (record { opening = o; frames = frames; checkpoints = map (λ m. m.at) marks; len = n }) records) is
+    (keeps_of records o frames marks recording kept)
 
 -- what was read to the end is what the source stands for
 pub all_read : (read records : List Record) (index : ℕ) → read ≡ take index records → length records ≤ index → read ≡ records
 all_read read records index is long = is ∙ take_all index records long
 
 -- the end of what was followed
-pub end_of : (first : Record) (read records : List Record) (walk : Walk) (end : VerifiedEnd) → Followed first read walk → read ≡ records → end.guest ≡ walk.guest → end.total ≡ walk.total → end.len ≡ length read → end.last ≡ walk.last →
+pub end_of : (first : Record) (read records : List Record) (walk : Walk) (end : VerifiedEnd) → Followed first read walk → read ≡ records →
+    end.guest ≡ walk.guest → end.total ≡ walk.total → end.len ≡ length read → end.last ≡ walk.last →
     IsEndOf end records
 end_of first read records walk end h are guest_is total_is len_is last_is = subst (λ (rs : List Record). IsEndOf end rs) are (record {
   recording = recording_of first.guest read (state_of walk.base) walk.row.items (state_of walk.guest) h.stands;
@@ -183,24 +211,31 @@ some_there : (records : List Record) (first : Record) → slice_get records 0 �
 some_there [] first e = cc
 some_there (r ∷ records) first e = omega arith
 
-pub first_refused : (e : VerifyFault) (records : List Record) (first : Record) → slice_get records 0 ≡ Some first → RefusesFirst e first → RefusesSource e records
-first_refused faults.BadOpening records first there refuses = let split = first_and_rest records first there in refused_first faults.BadOpening records first split.0 split.1 refuses
+pub first_refused : (e : VerifyFault) (records : List Record) (first : Record) → slice_get records 0 ≡ Some first → RefusesFirst e first →
+    RefusesSource e records
+first_refused faults.BadOpening records first there refuses = let split =
+    first_and_rest records first there in refused_first faults.BadOpening records first split.0 split.1 refuses
 first_refused (faults.Mismatch index) records first there refuses = absurd refuses
 first_refused (faults.BadCheckpoint index) records first there refuses = absurd refuses
 first_refused faults.Memory records first there refuses = some_there records first there
 first_refused (faults.Unreadable index) records first there refuses = absurd refuses
 
-taken_there : (records : List Record) (first : Record) → slice_get records 0 ≡ Some first → TakesMemory first → IsSomeAnd (slice_get records 0) TakesMemory
+taken_there : (records : List Record) (first : Record) → slice_get records 0 ≡ Some first → TakesMemory first →
+    IsSomeAnd (slice_get records 0) TakesMemory
 taken_there records first there takes = subst (λ o. IsSomeAnd o TakesMemory) (sym there) takes
 
-pub given_refused : (e : VerifyFault) (guest : ℕ) (records : List Record) (index : ℕ) (first : Record) (read : List Record) (base : State) (row : List Part) (s : State) → index < length records →
-    slice_get records 0 ≡ Some first → TakesMemory first → read ≡ take index records → Stands guest read base row s → RefusesGiven e guest index records base row s → RefusesSource e records
+pub given_refused : (e : VerifyFault) (guest : ℕ) (records : List Record) (index : ℕ) (first : Record) (read : List Record) (base : State)
+    (row : List Part) (s : State) → index < length records →
+    slice_get records 0 ≡ Some first → TakesMemory first → read ≡ take index records → Stands guest read base row s →
+    RefusesGiven e guest index records base row s → RefusesSource e records
 given_refused faults.BadOpening guest records index first read base row s below there takes is stands refuses = absurd refuses
 given_refused (faults.Mismatch place) guest records index first read base row s below there takes is stands refuses =
-    refused_at (faults.Mismatch place) guest records index refuses.0 base row s below (get_from records index refuses.0 refuses.1) (subst (λ (rs : List Record). Stands guest rs base row s) is stands)
+    refused_at (faults.Mismatch place) guest records index refuses.0 base row s below (get_from records index refuses.0 refuses.1)
+    (subst (λ (rs : List Record). Stands guest rs base row s) is stands)
     (taken_there records first there takes) refuses.2
 given_refused (faults.BadCheckpoint place) guest records index first read base row s below there takes is stands refuses =
-    refused_at (faults.BadCheckpoint place) guest records index refuses.0 base row s below (get_from records index refuses.0 refuses.1) (subst (λ (rs : List Record). Stands guest rs base row s) is stands)
+    refused_at (faults.BadCheckpoint place) guest records index refuses.0 base row s below (get_from records index refuses.0 refuses.1)
+    (subst (λ (rs : List Record). Stands guest rs base row s) is stands)
     (taken_there records first there takes) refuses.2
 given_refused faults.Memory guest records index first read base row s below there takes is stands refuses = some_there records first there
 given_refused (faults.Unreadable place) guest records index first read base row s below there takes is stands refuses =
@@ -216,7 +251,8 @@ first_given (faults.BadCheckpoint index) first refuses = refl
 first_given faults.Memory first refuses = refl
 first_given (faults.Unreadable index) first refuses = absurd refuses
 
-pub next_given : (e : VerifyFault) (guest index : ℕ) (r : Record) (base : State) (row : List Part) (s : State) → RefusesNext e guest index r base row s → is_unreadable e ≡ false
+pub next_given : (e : VerifyFault) (guest index : ℕ) (r : Record) (base : State) (row : List Part) (s : State) →
+    RefusesNext e guest index r base row s → is_unreadable e ≡ false
 next_given faults.BadOpening guest index r base row s refuses = refl
 next_given (faults.Mismatch place) guest index r base row s refuses = refl
 next_given (faults.BadCheckpoint place) guest index r base row s refuses = refl

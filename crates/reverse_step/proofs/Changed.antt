@@ -19,7 +19,8 @@ none_yet o frames a start = λ t low high change. omega (arith, low, high)
 here_or : (u t : ℕ) → u < t + 1 → (u < t) ⊎ (u ≡ t)
 here_or u t h = grind (arith, h)
 
-none_more : (o : Opening) (frames : List Frame) (a start t : ℕ) (s s' : State) → NoneIn o frames a start t → StateAt o frames t s → StateAt o frames (t + 1) s' →
+none_more : (o : Opening) (frames : List Frame) (a start t : ℕ) (s s' : State) → NoneIn o frames a start t → StateAt o frames t s →
+    StateAt o frames (t + 1) s' →
     byte_at s a ≡ byte_at s' a → NoneIn o frames a start (t + 1)
 none_more o frames a start t s s' none at next same u low high change = by (here_or u t high) where
   by : (u < t) ⊎ (u ≡ t) → ⊥
@@ -32,29 +33,37 @@ none_more o frames a start t s s' none at next same u low high change = by (here
       change.differs (ap (λ (m : State). byte_at m a) one ∙ same ∙ ap (λ (m : State). byte_at m a) (sym two))
 
 -- an instruction that doesn't change it
-pub same_more : (o : Opening) (frames : List Frame) (a start t : ℕ) (found : Option ℕ) (s s' : State) → IsLastIn o frames a start t found → StateAt o frames t s →
+pub same_more : (o : Opening) (frames : List Frame) (a start t : ℕ) (found : Option ℕ) (s s' : State) → IsLastIn o frames a start t found →
+    StateAt o frames t s →
     StateAt o frames (t + 1) s' → byte_at s a ≡ byte_at s' a → IsLastIn o frames a start (t + 1) found
 same_more o frames a start t None s s' last at next same = none_more o frames a start t s s' last at next same
 same_more o frames a start t (Some u) s s' last at next same =
     (last.0, omega (arith, last.1), last.2, none_more o frames a (u + 1) t s s' last.3 at next same)
 
 -- one that does
-pub change_more : (o : Opening) (frames : List Frame) (a start t : ℕ) (s s' : State) → start ≤ t → StateAt o frames t s → StateAt o frames (t + 1) s' →
+pub change_more : (o : Opening) (frames : List Frame) (a start t : ℕ) (s s' : State) → start ≤ t → StateAt o frames t s →
+    StateAt o frames (t + 1) s' →
     byte_at s a ≢ byte_at s' a → IsLastIn o frames a start (t + 1) (Some t)
-change_more o frames a start t s s' low at next differs =
-    (low, omega arith, record { at = s; next = s'; is_at = at; is_next = next; differs = differs }, λ u above below change. omega (arith, above, below))
+change_more o frames a start t s s' low at next differs = (
+  low,
+  omega arith,
+  record { at = s; next = s'; is_at = at; is_next = next; differs = differs },
+  λ u above below change. omega (arith, above, below),
+)
 
 below_or : (u t : ℕ) → (u < t) ⊎ (t ≤ u)
 below_or u t = grind arith
 
 -- none before, and none behind
-pub none_join : (o : Opening) (frames : List Frame) (a start end place : ℕ) → NoneIn o frames a start end → NoneIn o frames a end place → NoneIn o frames a start place
+pub none_join : (o : Opening) (frames : List Frame) (a start end place : ℕ) → NoneIn o frames a start end → NoneIn o frames a end place →
+    NoneIn o frames a start place
 none_join o frames a start end place before behind u low high change = by (below_or u end) where
   by : (u < end) ⊎ (end ≤ u) → ⊥
   by (inl below) = before u low below change
   by (inr above) = behind u above high change
 
-pub some_join : (o : Opening) (frames : List Frame) (a start end place t : ℕ) → IsLastIn o frames a start end (Some t) → end ≤ place → NoneIn o frames a end place →
+pub some_join : (o : Opening) (frames : List Frame) (a start end place t : ℕ) → IsLastIn o frames a start end (Some t) → end ≤ place →
+    NoneIn o frames a end place →
     IsLastIn o frames a 0 place (Some t)
 some_join o frames a start end place t last low behind =
     (omega arith, omega (arith, last.1, low), last.2, none_join o frames a (t + 1) end place last.3 behind)

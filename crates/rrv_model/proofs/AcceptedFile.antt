@@ -21,7 +21,8 @@ is_high h test some = grind (arith, nat_tests)
 is_low : (h : Header) → leaves_range h ≡ false → 0 < h.memory_len → load_end h ≤ 0x70000000
 is_low h test some = grind (arith, nat_tests)
 
-are_loads : (file : List ℕ) (hs : List Header) → list_any (passes_file file) hs ≡ false → list_any crosses_sizes hs ≡ false → list_any leaves_range hs ≡ false → AreLoads file hs
+are_loads : (file : List ℕ) (hs : List Header) → list_any (passes_file file) hs ≡ false → list_any crosses_sizes hs ≡ false →
+    list_any leaves_range hs ≡ false → AreLoads file hs
 are_loads file [] passes crosses leaves = tt
 are_loads file (h ∷ hs) passes crosses leaves =
     let passes_here = (or_parts (passes_file file h) (list_any (passes_file file) hs) passes).0 in
@@ -52,9 +53,11 @@ one_of {ℓ} : {A : Type ℓ} (a b : Bool) → (a || b) ≡ true → (a ≡ true
 one_of true b e f g = f refl
 one_of false b e f g = g e
 
-pub touched_within : (file : List ℕ) (hs : List Header) (p : ℕ) → AreLoads file hs → list_any (touches p) hs ≡ true → (1 ≤ p) × (p < 0x70000)
+pub touched_within : (file : List ℕ) (hs : List Header) (p : ℕ) → AreLoads file hs → list_any (touches p) hs ≡ true → (1 ≤ p) ×
+    (p < 0x70000)
 touched_within file [] p good t = cc
-touched_within file (h ∷ hs) p good t = one_of (touches p h) (list_any (touches p) hs) t (touched_low file h p good.0) (touched_within file hs p good.1)
+touched_within file (h ∷ hs) p good t =
+    one_of (touches p h) (list_any (touches p) hs) t (touched_low file h p good.0) (touched_within file hs p good.1)
 
 untouched_of : (b : Bool) → (b ≡ true → ⊥) → b ≡ false
 untouched_of true h = absurd (h refl)
@@ -121,8 +124,10 @@ is_accepted file none =
     let limits = from10.1.1.1.1.0 in
     record {
       long = at_least 52 (length file) all.0;
-      short = at_most 2_097_152 (length file) ((or_parts (nat_lt 2_097_152 (length file)) (nat_lt 16_128 (touched_below 0x70000 (loads file))) limits).0);
+      short = at_most 2_097_152 (length file)
+          ((or_parts (nat_lt 2_097_152 (length file)) (nat_lt 16_128 (touched_below 0x70000 (loads file))) limits).0);
       good = are_loads file (loads file) from10.0 from10.1.0 from10.1.1.0;
-      pages = at_most 16_128 (touched_below 0x70000 (loads file)) ((or_parts (nat_lt 2_097_152 (length file)) (nat_lt 16_128 (touched_below 0x70000 (loads file))) limits).1);
+      pages = at_most 16_128 (touched_below 0x70000 (loads file))
+          ((or_parts (nat_lt 2_097_152 (length file)) (nat_lt 16_128 (touched_below 0x70000 (loads file))) limits).1);
       fills = is_true (list_any (λ h. not (is_empty_load h)) (loads file)) from10.1.1.1.1.1.0;
     }

@@ -38,14 +38,18 @@ in_range a (b ∷ bytes) small = (small, tt)
 
 time_bytes : (seconds nanoseconds : ℕ) → All (λ b. b < 256) (to_le_bytes w64 seconds ++ to_le_bytes w64 nanoseconds)
 time_bytes seconds nanoseconds =
-    All-append (λ b. b < 256) (to_le_bytes w64 seconds) (to_le_bytes w64 nanoseconds) (all-low_first 8 0 seconds) (all-low_first 8 0 nanoseconds)
+    All-append (λ b. b < 256) (to_le_bytes w64 seconds) (to_le_bytes w64 nanoseconds) (all-low_first 8 0 seconds)
+    (all-low_first 8 0 nanoseconds)
 
 -- a result and what was written
-answered : (tid : ℕ) (r q : CallRecord) (s : State) → r ≡ q → q.result < 2 ^ 32 → AreWritten q.written → IsState s → IsState (results tid r.result (writes r.written s))
+answered : (tid : ℕ) (r q : CallRecord) (s : State) → r ≡ q → q.result < 2 ^ 32 → AreWritten q.written → IsState s →
+    IsState (results tid r.result (writes r.written s))
 answered tid r q s e low small h =
-    subst (λ (r : CallRecord). IsState (results tid r.result (writes r.written s))) (sym e) (keeps-results tid q.result (writes q.written s) low (keeps-writes q.written s small h))
+    subst (λ (r : CallRecord). IsState (results tid r.result (writes r.written s))) (sym e)
+    (keeps-results tid q.result (writes q.written s) low (keeps-writes q.written s small h))
 
-after_keeps : (row : Row) (tid : ℕ) (answer : Answer) (r : CallRecord) (s : State) → HasRecord row answer r → RowKeeps row s → IsState s → IsState (after_call row tid r s)
+after_keeps : (row : Row) (tid : ℕ) (answer : Answer) (r : CallRecord) (s : State) → HasRecord row answer r → RowKeeps row s → IsState s →
+    IsState (after_call row tid r s)
 after_keeps (Returns result written change) tid answer r s has keeps h =
     answered tid r (record { result = result; written = written }) (change s) has keeps.0 keeps.1 keeps.2
 after_keeps (NoResult written change) tid answer r s has keeps h =
@@ -57,7 +61,8 @@ after_keeps (AsksRandom a count) tid (Bytes bytes) r s has keeps h =
     answered tid r (record { result = count; written = range a bytes }) s has.2 keeps (in_range a bytes has.1) h
 after_keeps (AsksTime a) tid (Time seconds nanoseconds) r s has keeps h =
     let bytes : List ℕ = to_le_bytes w64 seconds ++ to_le_bytes w64 nanoseconds in
-    answered tid r (record { result = 0; written = range a bytes }) s has.2 (omega arith) (in_range a bytes (time_bytes seconds nanoseconds)) h
+    answered tid r (record { result = 0; written = range a bytes }) s has.2 (omega arith)
+    (in_range a bytes (time_bytes seconds nanoseconds)) h
 after_keeps (AsksInput a count) tid Silence r s has keeps h = absurd has
 after_keeps (AsksInput a count) tid (Time seconds nanoseconds) r s has keeps h = absurd has
 after_keeps (AsksRandom a count) tid Silence r s has keeps h = absurd has
@@ -96,7 +101,8 @@ write_keeps : (s : State) (t : Thread) → IsState s → RowKeeps (write_row s t
 write_keeps s t h =
     let count = transfer (argument t 2) in
     if_row (not (is_output (argument t 0))) _ _ s (λ e. failing 9 s (omega arith) h) (λ e.
-    if_row (not (readable s.memory (argument t 1) count)) _ _ s (λ e. failing 14 s (omega arith) h) (λ e. answering count s (small-transfer (argument t 2)) h))
+    if_row (not (readable s.memory (argument t 1) count)) _ _ s (λ e. failing 14 s (omega arith) h)
+    (λ e. answering count s (small-transfer (argument t 2)) h))
 
 writev_keeps : (s : State) (t : Thread) → IsState s → RowKeeps (writev_row s t) s
 writev_keeps s t h =
@@ -117,14 +123,19 @@ zeros = all-low_first 4 0 0
 exit_keeps : (tid : ℕ) (s : State) (t : Thread) → IsRunning (thread_at s tid) → IsState s → RowKeeps (exit_row tid s t) s
 exit_keeps tid s t runs h =
     if_row (clears s t) _ _ s
-    (λ e. ((zeros, tt), keeps-leaves tid (argument t 0) (wakes t.clear 1 s) (wakes_running t.clear 1 tid s runs) (keeps-wakes t.clear 1 s h)))
+    (λ e. (
+      (zeros, tt),
+      keeps-leaves tid (argument t 0) (wakes t.clear 1 s) (wakes_running t.clear 1 tid s runs) (keeps-wakes t.clear 1 s h),
+    ))
     (λ e. (tt, keeps-leaves tid (argument t 0) s runs h))
 
 exit_group_keeps : (s : State) (t : Thread) → IsState s → RowKeeps (exit_group_row t) s
 exit_group_keeps s t h = (tt, keeps-ends (argument t 0) s h)
 
-low_tid : (o : Option Thread) (t : Thread) (tid next : ℕ) → o ≡ Some t → next ≤ 2 ^ 31 → IfSome o (λ _. (1 ≤ tid) × (tid < next)) → tid < 2 ^ 32
-low_tid o t tid next e most h = let low : (1 ≤ tid) × (tid < next) = subst (λ (o : Option Thread). IfSome o (λ _. (1 ≤ tid) × (tid < next))) e h in omega (arith, low.1)
+low_tid : (o : Option Thread) (t : Thread) (tid next : ℕ) → o ≡ Some t → next ≤ 2 ^ 31 → IfSome o (λ _. (1 ≤ tid) × (tid < next)) →
+    tid < 2 ^ 32
+low_tid o t tid next e most h = let low : (1 ≤ tid) × (tid < next) =
+    subst (λ (o : Option Thread). IfSome o (λ _. (1 ≤ tid) × (tid < next))) e h in omega (arith, low.1)
 
 small-tid : (s : State) (tid : ℕ) (t : Thread) → thread_at s tid ≡ Some t → IsState s → tid < 2 ^ 32
 small-tid s tid t there h = low_tid (thread_at s tid) t tid s.next_tid there h.rules.threads.next_tid (h.rules.threads.tids tid)
@@ -136,7 +147,8 @@ set_tid_address_keeps tid s t there h =
 few_waiters : (s : State) (a count : ℕ) → count < 2 ^ 32 → length (waiters s a count) < 2 ^ 32
 few_waiters s a count low = let few = length-take count (filter (waits_at s a) s.waiting) in omega (arith, few)
 
-futex_keeps : (tid : ℕ) (s : State) (t : Thread) → thread_at s tid ≡ Some t → IsRunning (thread_at s tid) → IsState s → RowKeeps (futex_row tid s t) s
+futex_keeps : (tid : ℕ) (s : State) (t : Thread) → thread_at s tid ≡ Some t → IsRunning (thread_at s tid) → IsState s →
+    RowKeeps (futex_row tid s t) s
 futex_keeps tid s t there runs h =
     let is : IsThread t = thread_of_state s tid t there h in
     let a = argument t 0 in
@@ -168,10 +180,16 @@ child_is t is =
     let zeroed : Thread = set_register 10 0 t in
     let is_zeroed : IsThread zeroed = with_value 10 0 t (omega arith) is in
     let stacked : Thread = if argument t 1 == 0 then zeroed else set_register 2 (argument t 1) zeroed in
-    let is_stacked : IsThread stacked = if_thread (argument t 1 == 0) zeroed _ is_zeroed (with_value 2 (argument t 1) zeroed (small-argument t 1 is) is_zeroed) in
+    let is_stacked : IsThread stacked =
+    if_thread (argument t 1 == 0) zeroed _ is_zeroed (with_value 2 (argument t 1) zeroed (small-argument t 1 is) is_zeroed) in
     let pointed : Thread = if has_flag flags 0x80000 then set_register 4 (argument t 3) stacked else stacked in
-    let is_pointed : IsThread pointed = if_thread (has_flag flags 0x80000) _ stacked (with_value 4 (argument t 3) stacked (small-argument t 3 is) is_stacked) is_stacked in
-    record { regs = is_pointed.regs; waits = is_pointed.waits; clear = small_if (has_flag flags 0x200000) (argument t 4) (small-argument t 4 is) }
+    let is_pointed : IsThread pointed =
+    if_thread (has_flag flags 0x80000) _ stacked (with_value 4 (argument t 3) stacked (small-argument t 3 is) is_stacked) is_stacked in
+    record {
+      regs = is_pointed.regs;
+      waits = is_pointed.waits;
+      clear = small_if (has_flag flags 0x200000) (argument t 4) (small-argument t 4 is);
+    }
 
 same_waits : (b : Bool) (x y : Thread) → x.waits_at ≡ None → y.waits_at ≡ None → (if b then x else y).waits_at ≡ None
 same_waits true x y h g = h
@@ -199,7 +217,8 @@ clone_keeps tid s t there runs h =
       omega (arith, left.1),
       words_written (tid_places t) next,
       keeps-threads (insert s.threads next (child_of t)) s.waiting (next + 1) s
-          (keeps_spawned s.threads s.waiting next (child_of t) h.rules.threads left.0 left.1 (child_is t (thread_of_state s tid t there h)) (child_runs t runs)) h,
+          (keeps_spawned s.threads s.waiting next (child_of t) h.rules.threads left.0 left.1 (child_is t (thread_of_state s tid t there h))
+          (child_runs t runs)) h,
     ))))
 
 -- ---- memory
@@ -220,7 +239,8 @@ or_right false b h = h
 readable_too : (prot : ℕ) → IsTrue (permissions_of prot).write → IsTrue (permissions_of prot).read
 readable_too prot w = or_right (has_flag prot 1) (has_flag prot 2) w
 
-with_break : (m : Memory) (a : ℕ) (s : State) → IsMemory m → s.opening_break ≤ a → a ≤ 0x70000000 → IsState s → IsState (record s { memory = m; program_break = a })
+with_break : (m : Memory) (a : ℕ) (s : State) → IsMemory m → s.opening_break ≤ a → a ≤ 0x70000000 → IsState s →
+    IsState (record s { memory = m; program_break = a })
 with_break m a s is low high h = keeps-break a (record s { memory = m }) low high (keeps-memory m s is h)
 
 brk_keeps : (s : State) (t : Thread) → IsState s → RowKeeps (brk_row s t) s
@@ -234,26 +254,37 @@ brk_keeps s t h =
     if_row (nat_lt a s.opening_break || nat_lt 0x70000000 a) _ _ s (λ e. kept) (λ e.
     let low : s.opening_break ≤ a = grind (arith, nat_tests) in
     let high : a ≤ 0x70000000 = grind (arith, nat_tests) in
-    if_row (nat_le to from) _ _ s (λ e. (omega (arith, high), tt, with_break _ a s (memory-unmapped to (from - to) s.memory m) low high h)) (λ e.
+    if_row (nat_le to from) _ _ s (λ e. (omega (arith, high), tt, with_break _ a s (memory-unmapped to (from - to) s.memory m) low high h))
+    (λ e.
     if_row (not (all_free s.memory from (to - from)) || nat_lt page_limit (page_count grown)) _ _ s (λ e. kept) (λ few.
     let most : page_count grown ≤ 16_384 = grind (arith, nat_tests) in
     let first : 1 ≤ from = omega (arith, h.rules.opening, h.rules.breaks.0) in
-    let last : from + (to - from) ≤ 0x80000 = omega (arith, high, h.rules.breaks.1) in
-    (omega (arith, high), tt, with_break grown a s (memory-mapped from (to - from) (permissions_of 3) s.memory (readable_too 3) first last most m) low high h))))
+    let last : from + (to - from) ≤ 0x80000 = omega (arith, high, h.rules.breaks.1) in (
+      omega (arith, high),
+      tt,
+      with_break grown a s (memory-mapped from (to - from) (permissions_of 3) s.memory (readable_too 3) first last most m) low high h,
+    ))))
 
 munmap_keeps : (s : State) (t : Thread) → IsState s → RowKeeps (munmap_row s t) s
 munmap_keeps s t h =
     let a = argument t 0 in
     let pages = pages_for (argument t 1) in
-    if_row (not (a % page_bytes == 0) || (argument t 1 == 0 || nat_lt 0x80000000 (a + pages * page_bytes))) _ _ s (λ e. failing 22 s (omega arith) h) (λ e.
-    let whole : a / page_bytes * page_bytes ≡ a = grind (arith, nat_tests) in
-    (omega arith, tt, keeps-memory _ s (subst (λ a. IsMemory (unmapped a (pages * page_bytes) s.memory)) whole (memory-unmapped (a / page_bytes) pages s.memory (memory_of_state s h))) h))
+    if_row (not (a % page_bytes == 0) || (argument t 1 == 0 || nat_lt 0x80000000 (a + pages * page_bytes))) _ _ s
+    (λ e. failing 22 s (omega arith) h) (λ e.
+    let whole : a / page_bytes * page_bytes ≡ a = grind (arith, nat_tests) in (
+      omega arith,
+      tt,
+      keeps-memory _ s
+          (subst (λ a. IsMemory (unmapped a (pages * page_bytes) s.memory)) whole
+          (memory-unmapped (a / page_bytes) pages s.memory (memory_of_state s h))) h,
+    ))
 
 -- the pages of a mapping lie from 0x1000 up to 0x7FFFFFFF
 abbrev IsPlace : ℕ → Option ℕ → Type 0
 IsPlace pages o = IfSome o (λ page. (1 ≤ page) × (page + pages ≤ 0x80000))
 
-if_place : (b : Bool) (x y : Option ℕ) (pages : ℕ) → (b ≡ true → IsPlace pages x) → (b ≡ false → IsPlace pages y) → IsPlace pages (if b then x else y)
+if_place : (b : Bool) (x y : Option ℕ) (pages : ℕ) → (b ≡ true → IsPlace pages x) → (b ≡ false → IsPlace pages y) →
+    IsPlace pages (if b then x else y)
 if_place true x y pages f g = f refl
 if_place false x y pages f g = g refl
 
@@ -281,7 +312,9 @@ maps_keeps s t (Some page) place h =
     let most : page_count new ≤ 16_384 = grind (arith, nat_tests) in (
       omega (arith, place.1),
       tt,
-      keeps-memory new s (memory-mapped page pages (permissions_of (argument t 2)) s.memory (readable_too (argument t 2)) place.0 place.1 most (memory_of_state s h)) h,
+      keeps-memory new s
+          (memory-mapped page pages (permissions_of (argument t 2)) s.memory (readable_too (argument t 2)) place.0 place.1 most
+          (memory_of_state s h)) h,
     ))
 
 mmap_keeps : (s : State) (t : Thread) → IsState s → RowKeeps (mmap_row s t) s
@@ -302,7 +335,8 @@ mprotect_keeps s t h =
       omega arith,
       tt,
       keeps-memory _ s
-          (subst (λ a. IsMemory (protected a (pages * page_bytes) p s.memory)) whole (memory-protected (a / page_bytes) pages p s.memory (readable_too (argument t 2)) (memory_of_state s h))) h,
+          (subst (λ a. IsMemory (protected a (pages * page_bytes) p s.memory)) whole
+          (memory-protected (a / page_bytes) pages p s.memory (readable_too (argument t 2)) (memory_of_state s h))) h,
     )))
 
 -- ---- random bytes and the time
@@ -321,7 +355,8 @@ clock_gettime_keeps s t h =
 
 -- ---- all rows
 
-row_keeps : (call : Syscall) (tid : ℕ) (s : State) (t : Thread) → thread_at s tid ≡ Some t → t.waits_at ≡ None → IsRunning (thread_at s tid) → IsState s → RowKeeps (row_of call tid s t) s
+row_keeps : (call : Syscall) (tid : ℕ) (s : State) (t : Thread) → thread_at s tid ≡ Some t → t.waits_at ≡ None →
+    IsRunning (thread_at s tid) → IsState s → RowKeeps (row_of call tid s t) s
 unfolding row_of
 row_keeps calls.Read tid s t there waits runs h = read_keeps s t h
 row_keeps calls.Write tid s t there waits runs h = write_keeps s t h
@@ -343,8 +378,10 @@ row_keeps calls.ClockGettime tid s t there waits runs h = clock_gettime_keeps s 
 row_keeps calls.Other tid s t there waits runs h = failing 38 s (omega arith) h
 
 -- a call keeps the rules, whatever the outside answered
-pub call_keeps_state : (s : State) (tid : ℕ) (answer : Answer) (r : CallRecord) (after : State) → Calls s tid answer r after → IsState s → IsState after
+pub call_keeps_state : (s : State) (tid : ℕ) (answer : Answer) (r : CallRecord) (after : State) → Calls s tid answer r after → IsState s →
+    IsState after
 call_keeps_state s tid answer r after p h =
     let runs : IsRunning (thread_at s tid) = subst (λ (o : Option Thread). IsRunning o) (sym p.there) p.running in
     subst IsState (sym p.leaves)
-    (after_keeps (call_row s tid p.thread) tid answer r s p.records (row_keeps (syscall_of (register p.thread.regs 17)) tid s p.thread p.there p.running runs h) h)
+    (after_keeps (call_row s tid p.thread) tid answer r s p.records
+    (row_keeps (syscall_of (register p.thread.regs 17)) tid s p.thread p.there p.running runs h) h)

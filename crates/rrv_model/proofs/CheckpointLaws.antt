@@ -50,7 +50,8 @@ numbers_rise : (m : Memory) (count first : ℕ) → Rises (map (λ p. p.number) 
 unfolding Rises entries_from
 numbers_rise m zero first = tt
 numbers_rise m (suc zero) first = tt
-numbers_rise m (suc (suc count)) first = (omega (arith, number_of_entry m first, number_of_entry m (suc first)), numbers_rise m (suc count) (suc first))
+numbers_rise m (suc (suc count)) first =
+    (omega (arith, number_of_entry m first, number_of_entry m (suc first)), numbers_rise m (suc count) (suc first))
 
 texts : (m : Memory) (count first : ℕ) → first + count ≤ 0x80000 → Fits m → AllByRecursion HasPageText (entries_from m first count)
 unfolding entries_from
@@ -100,7 +101,8 @@ tids_rise (x ∷ y ∷ es) h =
 -- the entries of a map are those that it answers
 threads_again : (m : FinMap nat_cmp Thread) → from_entries (map (λ p. (p.tid, p.thread)) (parts_of (entries m))) ≡ m
 threads_again m = same_map nat_cmp_total nat_cmp-IsAntisymmetric _ _ (λ q.
-    ap (λ (es : List (ℕ × Thread)). get (from_entries {R = nat_cmp} es) q) (pairs_of (entries m)) ∙ get-from_entries nat_cmp_total (entries m) q ∙ sym (get-entries m q))
+    ap (λ (es : List (ℕ × Thread)). get (from_entries {R = nat_cmp} es) q) (pairs_of (entries m))
+    ∙ get-from_entries nat_cmp_total (entries m) q ∙ sym (get-entries m q))
 
 none_below : (x : ℕ) (es : List (ℕ × Thread)) → T (below_all nat_cmp x es) → find nat_cmp x es ≡ None
 none_below x [] h = refl
@@ -109,7 +111,8 @@ none_below x (e ∷ es) h =
     let below : x < e.0 = less_than x e.0 (holds _ parts.0) in
     ap (λ b. cond b (Some e.1) (find nat_cmp x es)) (by_cmp x e.0 (unequal x e.0 (λ same. omega (arith, same)))) ∙ none_below x es parts.1
 
-each_thread : (P : ℕ → Thread → Type 0) (es : List (ℕ × Thread)) → T (is_sorted nat_cmp es) → ((q : ℕ) → IfSome (find nat_cmp q es) (P q)) → AllByRecursion (λ p. P p.tid p.thread) (parts_of es)
+each_thread : (P : ℕ → Thread → Type 0) (es : List (ℕ × Thread)) → T (is_sorted nat_cmp es) → ((q : ℕ) → IfSome (find nat_cmp q es) (P q)) →
+    AllByRecursion (λ p. P p.tid p.thread) (parts_of es)
 unfolding parts_of
 each_thread P [] sorted h = tt
 each_thread P (e ∷ es) sorted h = (
@@ -117,7 +120,9 @@ each_thread P (e ∷ es) sorted h = (
   each_thread P es (both_hold _ _ sorted).1 (λ q. by q (eq_by_cmp nat_cmp q e.0) refl),
 ) where
   by : (q : ℕ) (b : Bool) → eq_by_cmp nat_cmp q e.0 ≡ b → IfSome (find nat_cmp q es) (P q)
-  by q true f = subst (λ (o : Option Thread). IfSome o (P q)) (sym (ap (λ k. find nat_cmp k es) (same_tid q e.0 f) ∙ none_below e.0 es (both_hold _ _ sorted).0)) tt
+  by q true f =
+      subst (λ (o : Option Thread). IfSome o (P q))
+      (sym (ap (λ k. find nat_cmp k es) (same_tid q e.0 f) ∙ none_below e.0 es (both_hold _ _ sorted).0)) tt
   by q false f = subst (λ b. IfSome (cond b (Some e.1) (find nat_cmp q es)) (P q)) f (h q)
 
 -- ---- the waiting order
@@ -127,7 +132,9 @@ found_is [] q = refl
 found_is (e ∷ es) q = ap (cond (eq_by_cmp nat_cmp q e.0) (Some e.1)) (found_is es q)
 
 distinct : (xs : List ℕ) → AllPairs (λ a b. a ≢ b) xs → IsDistinct (eq_by_cmp nat_cmp) xs
-distinct xs h = IsDistinct-from_apart (eq_by_cmp nat_cmp) xs (λ i j d below inside. by_cmp (get_or xs i d) (get_or xs j d) (unequal (get_or xs i d) (get_or xs j d) (h i j d below inside)))
+distinct xs h =
+    IsDistinct-from_apart (eq_by_cmp nat_cmp) xs
+    (λ i j d below inside. by_cmp (get_or xs i d) (get_or xs j d) (unequal (get_or xs i d) (get_or xs j d) (h i j d below inside)))
 
 waits_is_there : (o : Option Thread) → IsWaiting o → IsSome o
 waits_is_there None w = absurd w
@@ -137,7 +144,8 @@ few_wait : (m : FinMap nat_cmp Thread) (order : List ℕ) (next : ℕ) → AreTh
 few_wait m order next h =
     let among : length order ≤ length (entries m) =
     length-le_from_keys (eq_by_cmp_equiv nat_cmp_total) order (entries m) (distinct order h.waiting_once) (λ q any.
-    subst (λ (o : Option Thread). IsSome o) (get-entries m q ∙ found_is (entries m) q) (waits_is_there (get m q) ((h.waiting q).0 (Contains-from_any same_tid q order any)))) in
+    subst (λ (o : Option Thread). IsSome o) (get-entries m q ∙ found_is (entries m) q)
+    (waits_is_there (get m q) ((h.waiting q).0 (Contains-from_any same_tid q order any)))) in
     omega (arith, among, len-entries m, h.live)
 
 -- ---- the rest
@@ -145,7 +153,8 @@ few_wait m order next h =
 abbrev rest_of : State → CheckpointRest
 rest_of s = record { program_break = s.program_break; next_tid = s.next_tid; threads = parts_of (entries s.threads); waiting = s.waiting }
 
-low_thread : (tid next : ℕ) (t : Thread) → next ≤ 2 ^ 31 → (1 ≤ tid) × (tid < next) → IsThread t → HasThreadText (record { tid = tid; thread = t })
+low_thread : (tid next : ℕ) (t : Thread) → next ≤ 2 ^ 31 → (1 ≤ tid) × (tid < next) → IsThread t →
+    HasThreadText (record { tid = tid; thread = t })
 low_thread tid next t most low is = record {
   tid = omega (arith, low.1);
   pc = is.regs.pc;
@@ -188,18 +197,21 @@ has_rest_text s h =
 -- parts of size pages each, of which the last has the rest
 parts_from : Memory → CheckpointRest → (size first more : ℕ) → List Part
 parts_from m rest size first zero = record { pages = entries_from m first size; rest = Some rest } ∷ []
-parts_from m rest size first (suc more) = record { pages = entries_from m first size; rest = None } ∷ parts_from m rest size (first + size) more
+parts_from m rest size first (suc more) =
+    record { pages = entries_from m first size; rest = None } ∷ parts_from m rest size (first + size) more
 
 -- how many pages they name
 named : (size more : ℕ) → ℕ
 named size zero = size
 named size (suc more) = size + named size more
 
-all_pages_are : (m : Memory) (rest : CheckpointRest) (size more first : ℕ) → all_pages (parts_from m rest size first more) ≡ entries_from m first (named size more)
+all_pages_are : (m : Memory) (rest : CheckpointRest) (size more first : ℕ) →
+    all_pages (parts_from m rest size first more) ≡ entries_from m first (named size more)
 unfolding parts_from named
 all_pages_are m rest size zero first = append-nil (entries_from m first size)
 all_pages_are m rest size (suc more) first =
-    ap (λ (ps : List PagePart). entries_from m first size ++ ps) (all_pages_are m rest size more (first + size)) ∙ sym (entries_append m size (named size more) first)
+    ap (λ (ps : List PagePart). entries_from m first size ++ ps) (all_pages_are m rest size more (first + size))
+    ∙ sym (entries_append m size (named size more) first)
 
 ends_with_rest : (m : Memory) (rest : CheckpointRest) (size more first : ℕ) → EndsWithRest (parts_from m rest size first more) rest
 unfolding parts_from
@@ -207,12 +219,15 @@ ends_with_rest m rest size zero first = refl
 ends_with_rest m rest size (suc zero) first = (refl, ends_with_rest m rest size zero (first + size))
 ends_with_rest m rest size (suc (suc more)) first = (refl, ends_with_rest m rest size (suc more) (first + size))
 
-few_pages : (m : Memory) (rest : CheckpointRest) (size more first : ℕ) → size ≤ 1_024 → AllByRecursion (λ p. length p.pages ≤ 1_024) (parts_from m rest size first more)
+few_pages : (m : Memory) (rest : CheckpointRest) (size more first : ℕ) → size ≤ 1_024 →
+    AllByRecursion (λ p. length p.pages ≤ 1_024) (parts_from m rest size first more)
 unfolding parts_from
 few_pages m rest size zero first few = (omega (arith, length-entries_from m size first), tt)
-few_pages m rest size (suc more) first few = (omega (arith, length-entries_from m size first), few_pages m rest size more (first + size) few)
+few_pages m rest size (suc more) first few =
+    (omega (arith, length-entries_from m size first), few_pages m rest size more (first + size) few)
 
-part_text_of : (m : Memory) (o : Option CheckpointRest) (size first : ℕ) → size ≤ 1_024 → first + size ≤ 0x80000 → Fits m → IfSome o HasRestText → HasPartText (record { pages = entries_from m first size; rest = o })
+part_text_of : (m : Memory) (o : Option CheckpointRest) (size first : ℕ) → size ≤ 1_024 → first + size ≤ 0x80000 → Fits m →
+    IfSome o HasRestText → HasPartText (record { pages = entries_from m first size; rest = o })
 part_text_of m o size first few high fits has = record {
   most = omega (arith, length-entries_from m size first);
   rising = increasing (map (λ q. q.number) (entries_from m first size)) (numbers_rise m size first);
@@ -220,7 +235,8 @@ part_text_of m o size first few high fits has = record {
   rest = has;
 }
 
-part_texts : (m : Memory) (rest : CheckpointRest) (size more first : ℕ) → size ≤ 1_024 → first + named size more ≤ 0x80000 → Fits m → HasRestText rest → AllByRecursion HasPartText (parts_from m rest size first more)
+part_texts : (m : Memory) (rest : CheckpointRest) (size more first : ℕ) → size ≤ 1_024 → first + named size more ≤ 0x80000 → Fits m →
+    HasRestText rest → AllByRecursion HasPartText (parts_from m rest size first more)
 unfolding parts_from named
 part_texts m rest size zero first few high fits has = (part_text_of m (Some rest) size first few high fits has, tt)
 part_texts m rest size (suc more) first few high fits has =
@@ -236,12 +252,14 @@ all_named = refl
 none_past : (m : Memory) → IsPaged m → (a : ℕ) → 0x80000 ≤ a / page_bytes → m a ≡ None
 none_past m h a past = h.high a (omega arith)
 
-described : (base s : State) (pages : List PagePart) → pages ≡ entries_from s.memory 0 0x80000 → IsState base → IsState s → base.opening_break ≡ s.opening_break →
+described : (base s : State) (pages : List PagePart) → pages ≡ entries_from s.memory 0 0x80000 → IsState base → IsState s →
+    base.opening_break ≡ s.opening_break →
     s.reservation ≡ None → s.ended ≡ None → s ≡ described_state base pages (rest_of s)
 described base s pages are b h same free runs =
     let memory : s.memory ≡ patched pages base.memory =
     sym (ap (λ (ps : List PagePart). patched ps base.memory) are
-    ∙ patched_whole s.memory base.memory 0x80000 h.rules.memory (none_past s.memory h.rules.memory) (none_past base.memory b.rules.memory)) in
+    ∙ patched_whole s.memory base.memory 0x80000 h.rules.memory (none_past s.memory h.rules.memory)
+    (none_past base.memory b.rules.memory)) in
     let threads : s.threads ≡ from_entries (map (λ p. (p.tid, p.thread)) (parts_of (entries s.threads))) = sym (threads_again s.threads) in
     λ i. record {
       memory = memory i;
@@ -269,8 +287,10 @@ checkpoints_exist base s b h same free runs =
           rest = rest;
           flagged = ends_with_rest m rest 1_024 511 0;
           few = All-from_recursion (λ p. length p.pages ≤ 1_024) parts (few_pages m rest 1_024 511 0 (omega arith));
-          rising = subst (λ (ps : List PagePart). IsStrictlyIncreasing (map (λ p. p.number) ps)) (sym are) (increasing _ (numbers_rise m 0x80000 0));
-          pages = All-from_recursion IsPagePart (all_pages parts) (subst (λ (ps : List PagePart). AllByRecursion IsPagePart ps) (sym are) (are_page_parts m 0x80000 0));
+          rising = subst (λ (ps : List PagePart). IsStrictlyIncreasing (map (λ p. p.number) ps)) (sym are)
+              (increasing _ (numbers_rise m 0x80000 0));
+          pages = All-from_recursion IsPagePart (all_pages parts)
+              (subst (λ (ps : List PagePart). AllByRecursion IsPagePart ps) (sym are) (are_page_parts m 0x80000 0));
           tids_rising = (has_rest_text s h).rising;
           is_state = h.rules;
           state_is = described base s (all_pages parts) are b h same free runs;

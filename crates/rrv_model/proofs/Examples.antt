@@ -25,10 +25,12 @@ _div = record { code_is = refl; f3_is = refl; f7_is = refl; rd_is = refl; rs1_is
 
 -- sc.w a2, a3, (a1) and lr.w a0, (a1)
 _sc : Stands 0x18D5A62F (Sc orderings.Relaxed 12 11 13)
-_sc = record { code_is = refl; f3_is = refl; f5_is = refl; acquire_is = refl; release_is = refl; rd_is = refl; rs1_is = refl; rs2_is = refl }
+_sc = record
+    { code_is = refl; f3_is = refl; f5_is = refl; acquire_is = refl; release_is = refl; rd_is = refl; rs1_is = refl; rs2_is = refl }
 
 _lr : Stands 0x1005A52F (Lr orderings.Relaxed 10 11)
-_lr = record { code_is = refl; f3_is = refl; f5_is = refl; acquire_is = refl; release_is = refl; rd_is = refl; rs1_is = refl; rs2_is = refl }
+_lr = record
+    { code_is = refl; f3_is = refl; f5_is = refl; acquire_is = refl; release_is = refl; rd_is = refl; rs1_is = refl; rs2_is = refl }
 
 -- bne a0, a1, -4; sw a0, -8(sp); jal x0, -4
 _bne : Stands 0xFEB51EE3 (Branch Bne 10 11 0xFFFFFFFC)
@@ -88,7 +90,8 @@ _sp = refl
 -- the ELF file of 96 bytes
 abbrev pub elf_e : List ℕ
 elf_e =
-    0x7F ∷ 0x45 ∷ 0x4C ∷ 0x46 ∷ 1 ∷ 1 ∷ 1 ∷ 0 ∷ 0 ∷ 0 ∷ 0 ∷ 0 ∷ 0 ∷ 0 ∷ 0 ∷ 0 ∷ 2 ∷ 0 ∷ 0xF3 ∷ 0 ∷ 1 ∷ 0 ∷ 0 ∷ 0 ∷ 0x54 ∷ 0 ∷ 1 ∷ 0 ∷ 52 ∷ 0 ∷ 0 ∷ 0 ∷ 0 ∷ 0 ∷ 0 ∷ 0 ∷ 0 ∷ 0 ∷ 0 ∷ 0 ∷ 52 ∷ 0 ∷ 32 ∷ 0 ∷ 1 ∷ 0 ∷ 0 ∷ 0 ∷ 0 ∷ 0 ∷ 0 ∷ 0
+    0x7F ∷ 0x45 ∷ 0x4C ∷ 0x46 ∷ 1 ∷ 1 ∷ 1 ∷ 0 ∷ 0 ∷ 0 ∷ 0 ∷ 0 ∷ 0 ∷ 0 ∷ 0 ∷ 0 ∷ 2 ∷ 0 ∷ 0xF3 ∷ 0 ∷ 1 ∷ 0 ∷ 0 ∷ 0 ∷ 0x54 ∷ 0 ∷ 1 ∷ 0 ∷ 52 ∷ 0
+    ∷ 0 ∷ 0 ∷ 0 ∷ 0 ∷ 0 ∷ 0 ∷ 0 ∷ 0 ∷ 0 ∷ 0 ∷ 52 ∷ 0 ∷ 32 ∷ 0 ∷ 1 ∷ 0 ∷ 0 ∷ 0 ∷ 0 ∷ 0 ∷ 0 ∷ 0
     ∷ 1 ∷ 0 ∷ 0 ∷ 0 ∷ 0 ∷ 0 ∷ 0 ∷ 0 ∷ 0 ∷ 0 ∷ 1 ∷ 0 ∷ 0 ∷ 0 ∷ 1 ∷ 0 ∷ 96 ∷ 0 ∷ 0 ∷ 0 ∷ 96 ∷ 0 ∷ 0 ∷ 0 ∷ 5 ∷ 0 ∷ 0 ∷ 0 ∷ 0 ∷ 0x10 ∷ 0 ∷ 0
     ∷ 0x13 ∷ 0x05 ∷ 0x50 ∷ 0 ∷ 0x93 ∷ 0x08 ∷ 0xD0 ∷ 0x05 ∷ 0x73 ∷ 0 ∷ 0 ∷ 0 ∷ []
 

@@ -68,18 +68,21 @@ one_called s s' tid t t' e p q = one_call_from s tid t' t (subst (λ (m : State)
 one_preempt : (old : State) (tid count : ℕ) (new new' : State) → Preempts old tid count new → Preempts old tid count new' → new ≡ new'
 one_preempt old tid count new new' p q = p.new_is ∙ ap closed (one_end count tid old p.last q.last p.steps q.steps) ∙ sym q.new_is
 
-one_call : (old : State) (tid count : ℕ) (r : CallRecord) (new new' : State) → EndsInCall old tid count r new → EndsInCall old tid count r new' → new ≡ new'
+one_call : (old : State) (tid count : ℕ) (r : CallRecord) (new new' : State) → EndsInCall old tid count r new →
+    EndsInCall old tid count r new' → new ≡ new'
 one_call old tid count r new new' p q =
     let before : q.before ≡ p.before = one_end (count - 1) tid old q.before p.before q.steps p.steps in
     let called : q.called ≡ p.called = one_called p.before q.before tid p.called q.called before p.calls q.calls in
     let answered : Calls p.called tid q.answer r q.after = subst (λ (m : State). Calls m tid q.answer r q.after) called q.answered in
     p.new_is ∙ ap closed (one_state_after_call p.called tid r p.answer q.answer p.after q.after p.answered answered) ∙ sym q.new_is
 
-one_fault : (old : State) (tid count : ℕ) (kind : FaultKind) (new new' : State) → EndsInFault old tid count kind new → EndsInFault old tid count kind new' → new ≡ new'
+one_fault : (old : State) (tid count : ℕ) (kind : FaultKind) (new new' : State) → EndsInFault old tid count kind new →
+    EndsInFault old tid count kind new' → new ≡ new'
 one_fault old tid count kind new new' p q =
     p.new_is ∙ ap (closed_at_end (guest_ends.Faulted kind)) (one_end (count - 1) tid old p.before q.before p.steps q.steps) ∙ sym q.new_is
 
-one_by : (end : End) (old : State) (tid count : ℕ) (new new' : State) → FrameStepBy end old tid count new → FrameStepBy end old tid count new' → new ≡ new'
+one_by : (end : End) (old : State) (tid count : ℕ) (new new' : State) → FrameStepBy end old tid count new →
+    FrameStepBy end old tid count new' → new ≡ new'
 one_by Preempt old tid count new new' p q = one_preempt old tid count new new' p q
 one_by (Call r) old tid count new new' p q = one_call old tid count r new new' p q
 one_by (Fault kind) old tid count new new' p q = one_fault old tid count kind new new' p q

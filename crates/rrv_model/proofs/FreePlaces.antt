@@ -9,13 +9,15 @@ Tells n m count None = (q : ℕ) → 1 ≤ q → q ≤ n → all_free m q count 
 Tells n m count (Some p) = (1 ≤ p) × (p ≤ n) × (all_free m p count ≡ true) × ((q : ℕ) → p < q → q ≤ n → all_free m q count ≡ false)
 
 -- one place more, which isn't free
-one_more : (n : ℕ) (m : Memory) (count q : ℕ) → all_free m (suc n) count ≡ false → q ≤ suc n → (q ≤ n → all_free m q count ≡ false) → all_free m q count ≡ false
+one_more : (n : ℕ) (m : Memory) (count q : ℕ) → all_free m (suc n) count ≡ false → q ≤ suc n → (q ≤ n → all_free m q count ≡ false) →
+    all_free m q count ≡ false
 one_more n m count q taken high h = elim (cases_lt n q) [
   | inl w ↦ let e : suc n ≡ q = omega arith in subst (λ k. all_free m k count ≡ false) e taken
   | inr w ↦ h w
 ]
 
-tells_more : (n : ℕ) (m : Memory) (count : ℕ) (o : Option ℕ) → all_free m (suc n) count ≡ false → Tells n m count o → Tells (suc n) m count o
+tells_more : (n : ℕ) (m : Memory) (count : ℕ) (o : Option ℕ) → all_free m (suc n) count ≡ false → Tells n m count o →
+    Tells (suc n) m count o
 tells_more n m count None taken h = λ q low high. one_more n m count q taken high (h q low)
 tells_more n m count (Some p) taken h = (h.0, omega (arith, h.1), h.2, λ q low high. one_more n m count q taken high (h.3 q low))
 

@@ -18,7 +18,8 @@ is_some-with_permissions : (p : Permissions) (c : Option Cell) → is_some (with
 is_some-with_permissions p None = refl
 is_some-with_permissions p (Some c) = refl
 
-is_mapped-protected : (a count : ℕ) (permissions : Permissions) (m : Memory) (p : ℕ) → is_mapped (protected a count permissions m) p ≡ is_mapped m p
+is_mapped-protected : (a count : ℕ) (permissions : Permissions) (m : Memory) (p : ℕ) →
+    is_mapped (protected a count permissions m) p ≡ is_mapped m p
 is_mapped-protected a count permissions m p =
     let x = p * page_bytes in
     is_some-if (is_within a count x) (with_permissions permissions (m x)) (m x) (is_some-with_permissions permissions (m x))
@@ -31,10 +32,12 @@ page_count-stored : (a : ℕ) (bytes : List ℕ) (m : Memory) → page_count (st
 page_count-stored a bytes m = pages_same (2 ^ 20) (stored a bytes m) m (λ p below. is_mapped-stored a bytes m p)
 
 page_count-protected : (a count : ℕ) (permissions : Permissions) (m : Memory) → page_count (protected a count permissions m) ≡ page_count m
-page_count-protected a count permissions m = pages_same (2 ^ 20) (protected a count permissions m) m (λ p below. is_mapped-protected a count permissions m p)
+page_count-protected a count permissions m =
+    pages_same (2 ^ 20) (protected a count permissions m) m (λ p below. is_mapped-protected a count permissions m p)
 
 page_count-unmapped : (a count : ℕ) (m : Memory) → page_count (unmapped a count m) ≤ page_count m
-page_count-unmapped a count m = pages_fewer (2 ^ 20) (unmapped a count m) m (λ p below h. some_left (is_within a count (p * page_bytes)) (m (p * page_bytes)) h)
+page_count-unmapped a count m =
+    pages_fewer (2 ^ 20) (unmapped a count m) m (λ p below h. some_left (is_within a count (p * page_bytes)) (m (p * page_bytes)) h)
 
 -- ---- bytes
 
@@ -57,7 +60,8 @@ byte_at-small (suc i) n = omega arith
 
 pub all-low_first : (count i n : ℕ) → All (λ b. b < 256) (bytes_low_first i count n)
 all-low_first zero i n = All-nil (λ b. b < 256)
-all-low_first (suc count) i n = All-cons (λ b. b < 256) (byte_at i n) (bytes_low_first (suc i) count n) (byte_at-small i n) (all-low_first count (suc i) n)
+all-low_first (suc count) i n =
+    All-cons (λ b. b < 256) (byte_at i n) (bytes_low_first (suc i) count n) (byte_at-small i n) (all-low_first count (suc i) n)
 
 -- ---- cells
 
@@ -67,7 +71,8 @@ Paged m = (a b : ℕ) → a / page_bytes ≡ b / page_bytes → AlikeCells (m a)
 abbrev pub Fits : Memory → Type 0
 Fits m = (x : ℕ) → FitsCell (m x)
 
-alike_stores : (t u : Bool) (b e : ℕ) (c d : Option Cell) → AlikeCells c d → AlikeCells (if t then with_byte b c else c) (if u then with_byte e d else d)
+alike_stores : (t u : Bool) (b e : ℕ) (c d : Option Cell) → AlikeCells c d →
+    AlikeCells (if t then with_byte b c else c) (if u then with_byte e d else d)
 alike_stores true true b e None None h = tt
 alike_stores true true b e (Some c) (Some d) h = h
 alike_stores true false b e None None h = tt
@@ -80,7 +85,8 @@ alike_stores t u b e (Some c) None h = absurd h
 
 pub paged-stored : (a : ℕ) (bytes : List ℕ) (m : Memory) → Paged m → Paged (stored a bytes m)
 paged-stored a bytes m h x y same =
-    alike_stores (is_within a (length bytes) x) (is_within a (length bytes) y) (slice_index bytes (x - a)) (slice_index bytes (y - a)) (m x) (m y) (h x y same)
+    alike_stores (is_within a (length bytes) x) (is_within a (length bytes) y) (slice_index bytes (x - a)) (slice_index bytes (y - a)) (m x)
+    (m y) (h x y same)
 
 none_store : (t : Bool) (b : ℕ) (c : Option Cell) → c ≡ None → (if t then with_byte b c else c) ≡ None
 none_store true b c e = ap (with_byte b) e
@@ -110,10 +116,12 @@ paged_keeps-stored a bytes m small h = record {
 abbrev on_pages : (Option Cell → Option Cell) → ℕ → ℕ → Memory → Memory
 on_pages change first count m x = if is_within (first * page_bytes) (count * page_bytes) x then change (m x) else m x
 
-same_side : (first count x y : ℕ) → x / page_bytes ≡ y / page_bytes → is_within (first * page_bytes) (count * page_bytes) x ≡ is_within (first * page_bytes) (count * page_bytes) y
+same_side : (first count x y : ℕ) → x / page_bytes ≡ y / page_bytes →
+    is_within (first * page_bytes) (count * page_bytes) x ≡ is_within (first * page_bytes) (count * page_bytes) y
 same_side first count x y same = grind (arith, nat_tests)
 
-alike_if : (t u : Bool) (change : Option Cell → Option Cell) (c d : Option Cell) → t ≡ u → (AlikeCells c d → AlikeCells (change c) (change d)) →
+alike_if : (t u : Bool) (change : Option Cell → Option Cell) (c d : Option Cell) → t ≡ u →
+    (AlikeCells c d → AlikeCells (change c) (change d)) →
     AlikeCells c d → AlikeCells (if t then change c else c) (if u then change d else d)
 alike_if true true change c d e f h = f h
 alike_if false false change c d e f h = h
@@ -138,13 +146,18 @@ pub record KeepsCells (change : Option Cell → Option Cell) : Type 0 where
   pub fits : (c : Option Cell) → FitsCell c → FitsCell (change c)
 
 -- a change that adds no byte
-keeps_none : (change : Option Cell → Option Cell) (first count : ℕ) (m : Memory) → KeepsCells change → change None ≡ None → IsPaged m → IsPaged (on_pages change first count m)
+keeps_none : (change : Option Cell → Option Cell) (first count : ℕ) (m : Memory) → KeepsCells change → change None ≡ None → IsPaged m →
+    IsPaged (on_pages change first count m)
 keeps_none change first count m keeps none h = record {
-  paged = λ x y same. alike_if (is_within (first * page_bytes) (count * page_bytes) x) (is_within (first * page_bytes) (count * page_bytes) y) change (m x) (m y)
+  paged = λ x y same. alike_if (is_within (first * page_bytes) (count * page_bytes) x)
+      (is_within (first * page_bytes) (count * page_bytes) y) change (m x) (m y)
       (same_side first count x y same) (keeps.alike (m x) (m y)) (h.paged x y same);
-  low = λ x l. none_both (is_within (first * page_bytes) (count * page_bytes) x) (change (m x)) (m x) (ap change (h.low x l) ∙ none) (h.low x l);
-  high = λ x l. none_both (is_within (first * page_bytes) (count * page_bytes) x) (change (m x)) (m x) (ap change (h.high x l) ∙ none) (h.high x l);
-  cells = λ x. fits_if (is_within (first * page_bytes) (count * page_bytes) x) (change (m x)) (m x) (keeps.fits (m x) (h.cells x)) (h.cells x);
+  low = λ x l. none_both (is_within (first * page_bytes) (count * page_bytes) x) (change (m x)) (m x) (ap change (h.low x l) ∙ none)
+      (h.low x l);
+  high = λ x l. none_both (is_within (first * page_bytes) (count * page_bytes) x) (change (m x)) (m x) (ap change (h.high x l) ∙ none)
+      (h.high x l);
+  cells = λ x. fits_if (is_within (first * page_bytes) (count * page_bytes) x) (change (m x)) (m x) (keeps.fits (m x) (h.cells x))
+      (h.cells x);
 }
 
 below_pages : (first count x : ℕ) → 1 ≤ first → x < 0x1000 → is_within (first * page_bytes) (count * page_bytes) x ≡ false
@@ -154,13 +167,18 @@ above_pages : (first count x : ℕ) → first + count ≤ 0x80000 → 0x80000000
 above_pages first count x most high = grind (arith, nat_tests)
 
 -- a change of pages from 0x1000 up to 0x7FFFFFFF
-keeps_within : (change : Option Cell → Option Cell) (first count : ℕ) (m : Memory) → KeepsCells change → 1 ≤ first → first + count ≤ 0x80000 → IsPaged m → IsPaged (on_pages change first count m)
+keeps_within : (change : Option Cell → Option Cell) (first count : ℕ) (m : Memory) → KeepsCells change → 1 ≤ first →
+    first + count ≤ 0x80000 → IsPaged m → IsPaged (on_pages change first count m)
 keeps_within change first count m keeps some most h = record {
-  paged = λ x y same. alike_if (is_within (first * page_bytes) (count * page_bytes) x) (is_within (first * page_bytes) (count * page_bytes) y) change (m x) (m y)
+  paged = λ x y same. alike_if (is_within (first * page_bytes) (count * page_bytes) x)
+      (is_within (first * page_bytes) (count * page_bytes) y) change (m x) (m y)
       (same_side first count x y same) (keeps.alike (m x) (m y)) (h.paged x y same);
-  low = λ x l. none_if (is_within (first * page_bytes) (count * page_bytes) x) (change (m x)) (m x) (below_pages first count x some l) (h.low x l);
-  high = λ x l. none_if (is_within (first * page_bytes) (count * page_bytes) x) (change (m x)) (m x) (above_pages first count x most l) (h.high x l);
-  cells = λ x. fits_if (is_within (first * page_bytes) (count * page_bytes) x) (change (m x)) (m x) (keeps.fits (m x) (h.cells x)) (h.cells x);
+  low = λ x l. none_if (is_within (first * page_bytes) (count * page_bytes) x) (change (m x)) (m x) (below_pages first count x some l)
+      (h.low x l);
+  high = λ x l. none_if (is_within (first * page_bytes) (count * page_bytes) x) (change (m x)) (m x) (above_pages first count x most l)
+      (h.high x l);
+  cells = λ x. fits_if (is_within (first * page_bytes) (count * page_bytes) x) (change (m x)) (m x) (keeps.fits (m x) (h.cells x))
+      (h.cells x);
 }
 
 clear_keeps : (p : Permissions) → (IsTrue p.write → IsTrue p.read) → KeepsCells (λ c. Some (record { byte = 0; permissions = p }))
@@ -187,8 +205,10 @@ memory-stored a bytes m small h = record {
   limit = omega (arith, page_count-stored a bytes m, h.limit);
 }
 
-pub memory-mapped : (first count : ℕ) (p : Permissions) (m : Memory) → (IsTrue p.write → IsTrue p.read) → 1 ≤ first → first + count ≤ 0x80000 →
-    page_count (mapped (first * page_bytes) (count * page_bytes) p m) ≤ 16_384 → IsMemory m → IsMemory (mapped (first * page_bytes) (count * page_bytes) p m)
+pub memory-mapped : (first count : ℕ) (p : Permissions) (m : Memory) → (IsTrue p.write → IsTrue p.read) → 1 ≤ first →
+    first + count ≤ 0x80000 →
+    page_count (mapped (first * page_bytes) (count * page_bytes) p m) ≤ 16_384 → IsMemory m →
+    IsMemory (mapped (first * page_bytes) (count * page_bytes) p m)
 memory-mapped first count p m readable some most few h = record {
   pages = keeps_within (λ c. Some (record { byte = 0; permissions = p })) first count m (clear_keeps p readable) some most h.pages;
   limit = few;
@@ -200,9 +220,11 @@ memory-unmapped first count m h = record {
   limit = omega (arith, page_count-unmapped (first * page_bytes) (count * page_bytes) m, h.limit);
 }
 
-pub memory-protected : (first count : ℕ) (p : Permissions) (m : Memory) → (IsTrue p.write → IsTrue p.read) → IsMemory m → IsMemory (protected (first * page_bytes) (count * page_bytes) p m)
+pub memory-protected : (first count : ℕ) (p : Permissions) (m : Memory) → (IsTrue p.write → IsTrue p.read) → IsMemory m →
+    IsMemory (protected (first * page_bytes) (count * page_bytes) p m)
 memory-protected first count p m readable h = record {
-  pages = keeps_none (with_permissions p) first count m (record { alike = alike_permissions p; fits = fits_permissions p readable }) refl h.pages;
+  pages = keeps_none (with_permissions p) first count m (record { alike = alike_permissions p; fits = fits_permissions p readable }) refl
+      h.pages;
   limit = omega (arith, page_count-protected (first * page_bytes) (count * page_bytes) p m, h.limit);
 }
 
@@ -213,7 +235,8 @@ AreWritten written = AllByRecursion (λ w. All (λ b. b < 256) w.bytes) written
 pub memory-write_all : (written : List Written) (m : Memory) → AreWritten written → IsMemory m → IsMemory (write_all written m)
 unfolding write_all
 memory-write_all [] m small h = h
-memory-write_all (w ∷ written) m small h = memory-write_all written (stored w.address w.bytes m) small.1 (memory-stored w.address w.bytes m (are_bytes w.bytes small.0) h)
+memory-write_all (w ∷ written) m small h =
+    memory-write_all written (stored w.address w.bytes m) small.1 (memory-stored w.address w.bytes m (are_bytes w.bytes small.0) h)
 
 -- ---- what is read
 
@@ -238,7 +261,8 @@ get_bytes_at m a (suc count) (suc k) l =
 pub all-bytes_at : (m : Memory) (count a : ℕ) → Fits m → All (λ b. b < 256) (bytes_at m a count)
 unfolding bytes_at
 all-bytes_at m zero a h = All-nil (λ b. b < 256)
-all-bytes_at m (suc count) a h = All-cons (λ b. b < 256) (byte_or_zero (m a)) (bytes_at m (a + 1) count) (small_cell (m a) (h a)) (all-bytes_at m count (a + 1) h)
+all-bytes_at m (suc count) a h =
+    All-cons (λ b. b < 256) (byte_or_zero (m a)) (bytes_at m (a + 1) count) (small_cell (m a) (h a)) (all-bytes_at m count (a + 1) h)
 
 pub one_byte : (bytes : List ℕ) → AreBytes bytes → from_le_bytes w8 bytes < 2 ^ 8
 one_byte bytes small = let a = small 0 in omega arith
@@ -253,4 +277,6 @@ four_bytes : (a b c d : ℕ) → a < 256 → b < 256 → c < 256 → d < 256 →
 four_bytes a b c d h g f e = omega arith
 
 pub word-small : (bytes : List ℕ) → AreBytes bytes → from_le_bytes w32 bytes < 2 ^ 32
-word-small bytes small = four_bytes (slice_index bytes 0) (slice_index bytes 1) (slice_index bytes 2) (slice_index bytes 3) (small 0) (small 1) (small 2) (small 3)
+word-small bytes small =
+    four_bytes (slice_index bytes 0) (slice_index bytes 1) (slice_index bytes 2) (slice_index bytes 3) (small 0) (small 1) (small 2)
+    (small 3)

@@ -33,7 +33,8 @@ small-stack_pointer : (name : List ℕ) → stack_pointer name < 2 ^ 32
 small-stack_pointer name = omega arith
 
 opening_registers : (sp : ℕ) → sp < 2 ^ 32 → All (λ value. value < 2 ^ 32) (slice_set (replicate 32 0) 2 sp)
-opening_registers sp small = All-set (λ value. value < 2 ^ 32) (replicate 32 0) 2 sp small (All-replicate (λ value. value < 2 ^ 32) 32 0 (omega arith))
+opening_registers sp small =
+    All-set (λ value. value < 2 ^ 32) (replicate 32 0) 2 sp small (All-replicate (λ value. value < 2 ^ 32) 32 0 (omega arith))
 
 first_regs : (pc sp : ℕ) → pc < 2 ^ 32 → sp < 2 ^ 32 → AreRegs (record { pc = pc; registers = slice_set (replicate 32 0) 2 sp })
 first_regs pc sp small_pc small_sp = record {
@@ -58,13 +59,16 @@ same_choice t b false rest e none = rw e none
 
 -- the only thread is thread 1
 pub thread_one : (t : Thread) (tid : ℕ) → get (insert (empty {X = Thread} {R = nat_cmp}) 1 t) tid ≡ (if tid == 1 then Some t else None)
-thread_one t tid = get-insert nat_cmp_total empty 1 t tid ∙ same_choice t (eq_by_cmp nat_cmp tid 1) (tid == 1) _ (unsigned_tied tid 1) (get-empty nat_cmp tid)
+thread_one t tid =
+    get-insert nat_cmp_total empty 1 t tid
+    ∙ same_choice t (eq_by_cmp nat_cmp tid 1) (tid == 1) _ (unsigned_tied tid 1) (get-empty nat_cmp tid)
 
 some_if : (t : Thread) (tid : ℕ) (P : ℕ → Thread → Type 0) (b : Bool) → (tid == 1) ≡ b → P 1 t → IfSome (if b then Some t else None) (P tid)
 some_if t tid P true e h = let one : 1 ≡ tid = grind (arith, nat_tests) in subst (λ (k : ℕ). P k t) one h
 some_if t tid P false e h = tt
 
-of_thread_one : (t : Thread) (tid : ℕ) (P : ℕ → Thread → Type 0) → P 1 t → IfSome (get (insert (empty {X = Thread} {R = nat_cmp}) 1 t) tid) (P tid)
+of_thread_one : (t : Thread) (tid : ℕ) (P : ℕ → Thread → Type 0) → P 1 t →
+    IfSome (get (insert (empty {X = Thread} {R = nat_cmp}) 1 t) tid) (P tid)
 of_thread_one t tid P h = subst (λ (o : Option Thread). IfSome o (P tid)) (sym (thread_one t tid)) (some_if t tid P (tid == 1) refl h)
 
 none_some : IsSome {T = ℕ} None → ⊥
@@ -79,12 +83,15 @@ none_waits t tid e h = not_waiting_if t (tid == 1) e (subst IsWaiting (thread_on
 
 -- ---- the break
 
-break_step : (file : List ℕ) (h : Header) (end : ℕ) → IsLoad file h → end ≤ 0x70000000 → (if h.memory_len == 0 then end else max end (load_end h)) ≤ 0x70000000
+break_step : (file : List ℕ) (h : Header) (end : ℕ) → IsLoad file h → end ≤ 0x70000000 →
+    (if h.memory_len == 0 then end else max end (load_end h)) ≤ 0x70000000
 break_step file h end good low = let high = good.high in grind (arith, nat_tests)
 
-low_break : (file : List ℕ) (hs : List Header) (end : ℕ) → AreLoads file hs → end ≤ 0x70000000 → fold (λ end h. if h.memory_len == 0 then end else max end (load_end h)) end hs ≤ 0x70000000
+low_break : (file : List ℕ) (hs : List Header) (end : ℕ) → AreLoads file hs → end ≤ 0x70000000 →
+    fold (λ end h. if h.memory_len == 0 then end else max end (load_end h)) end hs ≤ 0x70000000
 low_break file [] end good low = low
-low_break file (h ∷ hs) end good low = low_break file hs (if h.memory_len == 0 then end else max end (load_end h)) good.1 (break_step file h end good.0 low)
+low_break file (h ∷ hs) end good low =
+    low_break file hs (if h.memory_len == 0 then end else max end (load_end h)) good.1 (break_step file h end good.0 low)
 
 break_grows : (hs : List Header) (end : ℕ) → end ≤ fold (λ end h. if h.memory_len == 0 then end else max end (load_end h)) end hs
 break_grows [] end = omega arith
@@ -93,7 +100,8 @@ break_grows (h ∷ hs) end =
     let here : end ≤ (if h.memory_len == 0 then end else max end (load_end h)) = grind (arith, nat_tests) in
     omega (arith, rest, here)
 
-filled_break : (file : List ℕ) (h : Header) (end : ℕ) → IsLoad file h → not (is_empty_load h) ≡ true → 0x1000 ≤ (if h.memory_len == 0 then end else max end (load_end h))
+filled_break : (file : List ℕ) (h : Header) (end : ℕ) → IsLoad file h → not (is_empty_load h) ≡ true →
+    0x1000 ≤ (if h.memory_len == 0 then end else max end (load_end h))
 filled_break file h end good fills =
     let some : 0 < h.memory_len = grind (arith, nat_tests) in
     let low = good.low some in
@@ -104,11 +112,14 @@ high_break : (file : List ℕ) (hs : List Header) (end : ℕ) → AreLoads file 
     0x1000 ≤ fold (λ end h. if h.memory_len == 0 then end else max end (load_end h)) end hs
 high_break file [] end good fills = cc
 high_break file (h ∷ hs) end good fills =
-    by_first (not (is_empty_load h)) refl fills (λ some. high_break file hs (if h.memory_len == 0 then end else max end (load_end h)) good.1 some) where
+    by_first (not (is_empty_load h)) refl fills
+    (λ some. high_break file hs (if h.memory_len == 0 then end else max end (load_end h)) good.1 some) where
       by_first : (b : Bool) → not (is_empty_load h) ≡ b → (b || list_any (λ h. not (is_empty_load h)) hs) ≡ true →
           (list_any (λ h. not (is_empty_load h)) hs ≡ true →
-          0x1000 ≤ fold (λ end h. if h.memory_len == 0 then end else max end (load_end h)) (if h.memory_len == 0 then end else max end (load_end h)) hs) →
-          0x1000 ≤ fold (λ end h. if h.memory_len == 0 then end else max end (load_end h)) (if h.memory_len == 0 then end else max end (load_end h)) hs
+          0x1000 ≤ fold (λ end h. if h.memory_len == 0 then end else max end (load_end h))
+          (if h.memory_len == 0 then end else max end (load_end h)) hs) →
+          0x1000 ≤ fold (λ end h. if h.memory_len == 0 then end else max end (load_end h))
+          (if h.memory_len == 0 then end else max end (load_end h)) hs
       by_first true e some behind =
           let here = filled_break file h end good.0 e in
           let rest = break_grows hs (if h.memory_len == 0 then end else max end (load_end h)) in
@@ -136,13 +147,16 @@ len_if false e f = omega arith
 live-one : (t : Thread) → len (insert (empty {X = Thread} {R = nat_cmp}) 1 t) ≤ 16
 live-one t = len_if _ (len-empty nat_cmp Thread) (len-insert nat_cmp_total empty 1 t)
 
-pub is_opening_state : (file name random : List ℕ) → refusal file ≡ None → All (λ b. b < 256) file → IsName name → All (λ b. b < 256) random →
+pub is_opening_state : (file name random : List ℕ) → refusal file ≡ None → All (λ b. b < 256) file → IsName name →
+    All (λ b. b < 256) random →
     IsState (opening_state file name random)
 is_opening_state file name random none small is_name random_small =
     let t = opening_thread file name in
     let memory = is_opening_memory file name random none small is_name random_small in
     let threads : AreThreads (opening_state file name random).threads [] 2 = record {
-      threads = λ tid. of_thread_one t tid (λ _. IsThread) (is_first_thread (elf_entry file) (stack_pointer name) (word-small (drop 24 file) (small-drop 24 file (are_bytes file small))) (small-stack_pointer name));
+      threads = λ tid. of_thread_one t tid (λ _. IsThread)
+          (is_first_thread (elf_entry file) (stack_pointer name) (word-small (drop 24 file) (small-drop 24 file (are_bytes file small)))
+          (small-stack_pointer name));
       live = live-one t;
       tids = λ tid. of_thread_one t tid (λ k _. (1 ≤ k) × (k < 2)) (omega arith, omega arith);
       first = omega arith;

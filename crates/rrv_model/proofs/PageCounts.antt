@@ -18,7 +18,8 @@ one_at_most true false h = let e = h refl in absurd cc
 one_at_most false c h = omega arith
 
 -- a memory that has every page of another has as many
-pub pages_fewer : (n : ℕ) (m k : Memory) → ((p : ℕ) → p < n → is_mapped m p ≡ true → is_mapped k p ≡ true) → pages_below n m ≤ pages_below n k
+pub pages_fewer : (n : ℕ) (m k : Memory) → ((p : ℕ) → p < n → is_mapped m p ≡ true → is_mapped k p ≡ true) →
+    pages_below n m ≤ pages_below n k
 unfolding pages_below
 pages_fewer zero m k h = omega arith
 pages_fewer (suc n) m k h =
@@ -69,7 +70,8 @@ is_some-if false c d e = refl
 -- storing keeps which bytes are there
 pub is_some-stored : (a : ℕ) (bytes : List ℕ) (m : Memory) (x : ℕ) → is_some (stored a bytes m x) ≡ is_some (m x)
 is_some-stored a bytes m x =
-    is_some-if (is_within a (length bytes) x) (with_byte (slice_index bytes (x - a)) (m x)) (m x) (is_some-with_byte (slice_index bytes (x - a)) (m x))
+    is_some-if (is_within a (length bytes) x) (with_byte (slice_index bytes (x - a)) (m x)) (m x)
+    (is_some-with_byte (slice_index bytes (x - a)) (m x))
 
 -- and which pages are mapped
 pub is_mapped-stored : (a : ℕ) (bytes : List ℕ) (m : Memory) (p : ℕ) → is_mapped (stored a bytes m) p ≡ is_mapped m p

@@ -35,7 +35,8 @@ unfolding lines_at
 each_line m a zero fits = tt
 each_line m a (suc count) fits = ((length_bytes_at m a 64, all-bytes_at m 64 a fits), each_line m (a + 64) count fits)
 
-line_at_place : (m : Memory) (count a i : ℕ) → i < count → slice_get (lines_at m a count) i ≡ Some (record { bytes = bytes_at m (a + 64 * i) 64 })
+line_at_place : (m : Memory) (count a i : ℕ) → i < count →
+    slice_get (lines_at m a count) i ≡ Some (record { bytes = bytes_at m (a + 64 * i) 64 })
 unfolding lines_at
 line_at_place m zero a i below = absurd (omega arith)
 line_at_place m (suc count) a zero below =
@@ -51,7 +52,8 @@ ones_below k i below =
     let whole : (k - i) + i ≡ k = omega arith in
     let some : 0 < 2 ^ i = pow_pos i in
     let low : 2 ^ i - 1 < 2 ^ i = omega (arith, some) in
-    ap (λ n. (2 ^ n - 1) % 2 ^ i) (sym whole) ∙ ap (λ n. n % 2 ^ i) (ones_split (k - i) i) ∙ mod-mul-add (2 ^ (k - i) - 1) (2 ^ i) (2 ^ i - 1) low
+    ap (λ n. (2 ^ n - 1) % 2 ^ i) (sym whole) ∙ ap (λ n. n % 2 ^ i) (ones_split (k - i) i)
+    ∙ mod-mul-add (2 ^ (k - i) - 1) (2 ^ i) (2 ^ i - 1) low
 
 lines_before : (i : ℕ) → i < 64 → count_ones ((2 ^ 64 - 1) % 2 ^ i) ≡ i
 lines_before i below = ap count_ones (ones_below 64 i (omega arith)) ∙ ones-ones i
@@ -105,7 +107,13 @@ pub has_page_text : (m : Memory) (n : ℕ) → n < 0x80000 → Fits m → HasPag
 unfolding entry entry_by
 has_page_text m n low fits =
     let o = m (n * page_bytes) in
-    record { number = low; mask = mask_fits o; unmapped = no_mask o; lines = as_many o m (n * page_bytes); each = lines_have o m (n * page_bytes) fits }
+    record {
+      number = low;
+      mask = mask_fits o;
+      unmapped = no_mask o;
+      lines = as_many o m (n * page_bytes);
+      each = lines_have o m (n * page_bytes) fits;
+    }
 
 pub is_page_part : (m : Memory) (n : ℕ) → IsPagePart (entry m n)
 unfolding entry entry_by
@@ -120,14 +128,16 @@ none_alike (Some c) h = absurd h
 all_set : (i : ℕ) → i < 64 → (bit_at (2 ^ 64 - 1) i == 1) ≡ true
 all_set i below = let e = bit_at_ones 64 i below in rw e refl
 
-line_byte_of : (c : Cell) (m : Memory) (n i k : ℕ) → i < 64 → k < 64 → line_byte (entry_by (Some c) m n).mask (entry_by (Some c) m n).lines i k ≡ byte_or_zero (m (n * page_bytes + 64 * i + k))
+line_byte_of : (c : Cell) (m : Memory) (n i k : ℕ) → i < 64 → k < 64 →
+    line_byte (entry_by (Some c) m n).mask (entry_by (Some c) m n).lines i k ≡ byte_or_zero (m (n * page_bytes + 64 * i + k))
 unfolding entry_by all_lines mask_at
 line_byte_of c m n i k low below =
     let lines = lines_before i low in
     let line = line_at_place m 64 (n * page_bytes) i low in
     rw (lines, line) (get_bytes_at m (n * page_bytes + 64 * i) 64 k below)
 
-byte_of_entry : (c : Cell) (m : Memory) (n k : ℕ) (old : Option Cell) → k < 4096 → patched_byte (entry_by (Some c) m n) old k ≡ byte_or_zero (m (n * page_bytes + k))
+byte_of_entry : (c : Cell) (m : Memory) (n k : ℕ) (old : Option Cell) → k < 4096 →
+    patched_byte (entry_by (Some c) m n) old k ≡ byte_or_zero (m (n * page_bytes + k))
 unfolding entry_by mask_at
 byte_of_entry c m n k old low =
     let set = all_set (k / 64) (omega arith) in
@@ -135,11 +145,13 @@ byte_of_entry c m n k old low =
     ap (λ b. cond b (line_byte (entry_by (Some c) m n).mask (entry_by (Some c) m n).lines (k / 64) (k % 64)) (byte_or_zero old)) set
     ∙ line_byte_of c m n (k / 64) (k % 64) (omega arith) (omega arith) ∙ ap (λ x. byte_or_zero (m x)) same
 
-some_alike : (c : Cell) (d : Option Cell) → AlikeCells (Some c) d → (let e : Cell = record { byte = byte_or_zero d; permissions = c.permissions } in Some e) ≡ d
+some_alike : (c : Cell) (d : Option Cell) → AlikeCells (Some c) d →
+    (let e : Cell = record { byte = byte_or_zero d; permissions = c.permissions } in Some e) ≡ d
 some_alike c None h = absurd h
 some_alike c (Some d) h = λ i. Some (record { byte = d.byte; permissions = h i })
 
-cell_by : (o : Option Cell) (m : Memory) (n a : ℕ) (old : Option Cell) → a / page_bytes ≡ n → AlikeCells o (m a) → patched_cell (Some (entry_by o m n)) old a ≡ m a
+cell_by : (o : Option Cell) (m : Memory) (n a : ℕ) (old : Option Cell) → a / page_bytes ≡ n → AlikeCells o (m a) →
+    patched_cell (Some (entry_by o m n)) old a ≡ m a
 unfolding entry_by permissions_at
 cell_by None m n a old at alike = none_alike (m a) alike
 cell_by (Some c) m n a old at alike =
@@ -169,13 +181,17 @@ length-entries_from m (suc count) first = ap (λ n. suc n) (length-entries_from 
 
 pub entries_append : (m : Memory) (a b first : ℕ) → entries_from m first (a + b) ≡ entries_from m first a ++ entries_from m (first + a) b
 unfolding entries_from
-entries_append m zero b first = let same : first ≡ first + 0 = omega arith in let none : 0 + b ≡ b = omega arith in rw none (ap (λ n. entries_from m n b) same)
+entries_append m zero b first = let same : first ≡ first + 0 = omega arith in let none : 0 + b ≡ b =
+    omega arith in rw none (ap (λ n. entries_from m n b) same)
 entries_append m (suc a) b first =
     let more : suc a + b ≡ suc (a + b) = omega arith in
     let next : suc first + a ≡ first + suc a = omega arith in
-    ap (entries_from m first) more ∙ ap (λ (ps : List PagePart). entry m first ∷ ps) (entries_append m a b (suc first) ∙ ap (λ n. entries_from m (suc first) a ++ entries_from m n b) next)
+    ap (entries_from m first) more
+    ∙ ap (λ (ps : List PagePart). entry m first ∷ ps)
+    (entries_append m a b (suc first) ∙ ap (λ n. entries_from m (suc first) a ++ entries_from m n b) next)
 
-pub entry_among : (m : Memory) (count first q : ℕ) → first ≤ q → q < first + count → entry_of q (entries_from m first count) ≡ Some (entry m q)
+pub entry_among : (m : Memory) (count first q : ℕ) → first ≤ q → q < first + count →
+    entry_of q (entries_from m first count) ≡ Some (entry m q)
 unfolding entry_of entries_from entry entry_by
 entry_among m zero first q from to = absurd (omega arith)
 entry_among m (suc count) first q from to = elim (eqb_tells first q) [
@@ -192,11 +208,14 @@ entry_beyond m (suc count) first q past = elim (eqb_tells first q) [
 ]
 
 -- the base with all pages as they are in m
-pub patched_whole : (m base : Memory) (count : ℕ) → IsPaged m → ((a : ℕ) → count ≤ a / page_bytes → m a ≡ None) → ((a : ℕ) → count ≤ a / page_bytes → base a ≡ None) →
+pub patched_whole : (m base : Memory) (count : ℕ) → IsPaged m → ((a : ℕ) → count ≤ a / page_bytes → m a ≡ None) →
+    ((a : ℕ) → count ≤ a / page_bytes → base a ≡ None) →
     patched (entries_from m 0 count) base ≡ m
 patched_whole m base count h high base_high = λ i a. at a i where
   at : (a : ℕ) → patched_cell (entry_of (a / page_bytes) (entries_from m 0 count)) (base a) a ≡ m a
   at a = elim (cases_lt (a / page_bytes) count) [
-    | inl w ↦ ap (λ (o : Option PagePart). patched_cell o (base a) a) (entry_among m count 0 (a / page_bytes) (omega arith) (omega (arith, w))) ∙ cell_of_entry m a (base a) h
-    | inr w ↦ ap (λ (o : Option PagePart). patched_cell o (base a) a) (entry_beyond m count 0 (a / page_bytes) (omega (arith, w))) ∙ base_high a w ∙ sym (high a w)
+    | inl w ↦ ap (λ (o : Option PagePart). patched_cell o (base a) a)
+        (entry_among m count 0 (a / page_bytes) (omega arith) (omega (arith, w))) ∙ cell_of_entry m a (base a) h
+    | inr w ↦ ap (λ (o : Option PagePart). patched_cell o (base a) a) (entry_beyond m count 0 (a / page_bytes) (omega (arith, w)))
+        ∙ base_high a w ∙ sym (high a w)
   ]

@@ -12,7 +12,8 @@ numbered-take guest index zero records h = tt
 numbered-take guest index (suc k) [] h = tt
 numbered-take guest index (suc k) (r ∷ records) h = (h.0, h.1, numbered-take guest (index + 1) k records h.2)
 
-items_follow-take : (base : State) (parts : List Part) (s : State) (k : ℕ) (rest : List Item) → ItemsFollow base parts s rest → ItemsFollow base parts s (take k rest)
+items_follow-take : (base : State) (parts : List Part) (s : State) (k : ℕ) (rest : List Item) → ItemsFollow base parts s rest →
+    ItemsFollow base parts s (take k rest)
 items_follow-take base parts s zero rest h = tt
 items_follow-take base parts s (suc k) [] h = tt
 items_follow-take base parts s (suc k) (items.Opening o ∷ rest) h = h

@@ -23,17 +23,22 @@ opening_behind o s opens = λ rest. (
 )
 
 -- what leads on is what follows
-leads_back : (it : Item) (base : State) (row : List Part) (s base' : State) (row' : List Part) (s' : State) → Leads it base row s base' row' s' →
+leads_back : (it : Item) (base : State) (row : List Part) (s base' : State) (row' : List Part) (s' : State) →
+    Leads it base row s base' row' s' →
     (rest : List Item) → ItemsFollow base' row' s' rest → ItemsFollow base row s (it ∷ rest)
 leads_back (items.Opening o) base row s base' row' s' leads rest h = absurd leads
-leads_back (items.Frame f) base row s base' row' s' leads rest h =
-    (s', leads.0, subst (λ (b : State). ItemsFollow b [] s' rest) leads.1 (subst (λ (ps : List Part). ItemsFollow base' ps s' rest) leads.2 h))
+leads_back (items.Frame f) base row s base' row' s' leads rest h = (
+  s',
+  leads.0,
+  subst (λ (b : State). ItemsFollow b [] s' rest) leads.1 (subst (λ (ps : List Part). ItemsFollow base' ps s' rest) leads.2 h),
+)
 leads_back (items.Part p) base row s base' row' s' leads rest h =
     let one = subst (λ (b : State). ItemsFollow b row' s' rest) leads.1 h in
     let two = subst (λ (ps : List Part). ItemsFollow (base_after p.rest base s) ps s' rest) leads.2 one in
     (leads.0, subst (λ (m : State). ItemsFollow (base_after p.rest base s) (row_after p.rest (row ++ p ∷ [])) m rest) leads.3 two)
 
-leads_on : (it : Item) (base : State) (row : List Part) (s base' : State) (row' : List Part) (s' : State) → Leads it base row s base' row' s' →
+leads_on : (it : Item) (base : State) (row : List Part) (s base' : State) (row' : List Part) (s' : State) →
+    Leads it base row s base' row' s' →
     (rest : List Item) → ItemsFollow base row s (it ∷ rest) → ItemsFollow base' row' s' rest
 leads_on (items.Opening o) base row s base' row' s' leads rest h = absurd leads
 leads_on (items.Frame f) base row s base' row' s' leads rest h =
@@ -46,7 +51,8 @@ leads_on (items.Part p) base row s base' row' s' leads rest h =
     subst (λ (b : State). ItemsFollow b row' s' rest) (sym leads.1) two
 
 -- an item that leads on
-pub next_behind : (before : List Item) (it : Item) (base : State) (row : List Part) (s base' : State) (row' : List Part) (s' : State) → StandsBehind before base row s → Leads it base row s base' row' s' →
+pub next_behind : (before : List Item) (it : Item) (base : State) (row : List Part) (s base' : State) (row' : List Part) (s' : State) →
+    StandsBehind before base row s → Leads it base row s base' row' s' →
     StandsBehind (before ++ it ∷ []) base' row' s'
 next_behind before it base row s base' row' s' h leads = λ rest.
     let same : (before ++ it ∷ []) ++ rest ≡ before ++ it ∷ rest = append_assoc before (it ∷ []) rest in (
@@ -62,7 +68,8 @@ part_fits_none : (p : Part) (base : State) (row : List Part) (s : State) → p.r
 part_fits_none p base row s none = subst (λ r. PartFits r base row s) (sym none) tt
 
 -- the parts of a checkpoint: behind the last of them the base is the state
-pub parts_behind : (before : List Item) (base : State) (row parts : List Part) (s : State) (rest : CheckpointRest) → EndsWithRest parts rest → Describes base (row ++ parts) s → StandsBehind before base row s →
+pub parts_behind : (before : List Item) (base : State) (row parts : List Part) (s : State) (rest : CheckpointRest) →
+    EndsWithRest parts rest → Describes base (row ++ parts) s → StandsBehind before base row s →
     StandsBehind (before ++ map items.Part parts) s [] s
 parts_behind before base row [] s rest ends describes h = absurd ends
 parts_behind before base row (p ∷ []) s rest ends describes h =
@@ -80,6 +87,7 @@ parts_behind before base row (p ∷ q ∷ parts) s rest ends describes h =
       ap (λ r. row_after r (row ++ p ∷ [])) (sym ends.0),
       refl,
     ) in
-    let longer : Describes base ((row ++ p ∷ []) ++ q ∷ parts) s = subst (λ (ps : List Part). Describes base ps s) (sym (append_assoc row (p ∷ []) (q ∷ parts))) describes in
+    let longer : Describes base ((row ++ p ∷ []) ++ q ∷ parts) s =
+    subst (λ (ps : List Part). Describes base ps s) (sym (append_assoc row (p ∷ []) (q ∷ parts))) describes in
     subst (λ (is : List Item). StandsBehind is s [] s) (append_assoc before (items.Part p ∷ []) (map items.Part (q ∷ parts)))
     (parts_behind (before ++ items.Part p ∷ []) base (row ++ p ∷ []) (q ∷ parts) s rest ends.1 longer one)

@@ -20,15 +20,19 @@ closes s h = keeps-reservation _ s tt h
 preempt_keeps : (old : State) (tid count : ℕ) (new : State) → Preempts old tid count new → IsState old → IsState new
 preempt_keeps old tid count new p h = subst IsState (sym p.new_is) (closes p.last (steps_keep_state count tid old p.last p.steps h))
 
-ends_in_call_keeps : (old : State) (tid count : ℕ) (r : CallRecord) (new : State) → EndsInCall old tid count r new → IsState old → IsState new
+ends_in_call_keeps : (old : State) (tid count : ℕ) (r : CallRecord) (new : State) → EndsInCall old tid count r new → IsState old →
+    IsState new
 ends_in_call_keeps old tid count r new p h =
     let before : IsState p.before = steps_keep_state (count - 1) tid old p.before p.steps h in
     let called : IsState p.called = ecall_keeps_state p.before tid p.called p.calls before in
     subst IsState (sym p.new_is) (closes p.after (call_keeps_state p.called tid p.answer r p.after p.answered called))
 
-fault_keeps : (old : State) (tid count : ℕ) (kind : FaultKind) (new : State) → EndsInFault old tid count kind new → IsState old → IsState new
+fault_keeps : (old : State) (tid count : ℕ) (kind : FaultKind) (new : State) → EndsInFault old tid count kind new → IsState old →
+    IsState new
 fault_keeps old tid count kind new p h =
-    subst IsState (sym p.new_is) (keeps-ended (guest_ends.Faulted kind) (closed p.before) tt (closes p.before (steps_keep_state (count - 1) tid old p.before p.steps h)))
+    subst IsState (sym p.new_is)
+    (keeps-ended (guest_ends.Faulted kind) (closed p.before) tt
+    (closes p.before (steps_keep_state (count - 1) tid old p.before p.steps h)))
 
 stuck_keeps : (old : State) (tid count : ℕ) (new : State) → IsStuck old tid count new → IsState old → IsState new
 stuck_keeps old tid count new p h = subst IsState (sym p.new_is) (keeps-ended guest_ends.Stuck (closed old) tt (closes old h))
@@ -44,7 +48,8 @@ frames_keep_states old frame new h p = by_end frame.end old frame.tid frame.coun
 
 -- ---- recorded guests
 
-at_by : (b : Bool) (f : Frame) (frames : List Frame) (s : State) (t : ℕ) (at : State) → ((mid : State) → IsState mid → StateAtFrom mid frames (t - f.count) at → IsState at) →
+at_by : (b : Bool) (f : Frame) (frames : List Frame) (s : State) (t : ℕ) (at : State) →
+    ((mid : State) → IsState mid → StateAtFrom mid frames (t - f.count) at → IsState at) →
     MatchBool b ((mid : State) × FrameStep s f mid × StateAtFrom mid frames (t - f.count) at) (Steps t f.tid s at) → IsState s → IsState at
 at_by true f frames s t at rest p h = rest p.0 (frames_keep_states s f p.0 h p.1) p.2
 at_by false f frames s t at rest p h = steps_keep_state t f.tid s at p h

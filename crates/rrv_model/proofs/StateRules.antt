@@ -89,15 +89,18 @@ keeps-break a s low high h = record {
 -- ---- threads
 
 -- a thread that is changed, but for where it waits
-pub keeps-change : (tid : ℕ) (change : Thread → Thread) (s : State) → ((t : Thread) → IsThread t → IsThread (change t)) → ((t : Thread) → (change t).waits_at ≡ t.waits_at) →
+pub keeps-change : (tid : ℕ) (change : Thread → Thread) (s : State) → ((t : Thread) → IsThread t → IsThread (change t)) →
+    ((t : Thread) → (change t).waits_at ≡ t.waits_at) →
     IsState s → IsState (change_thread tid change s)
 keeps-change tid change s fits same h =
     subst IsState (sym (change_is tid change s))
-    (keeps-threads (changed tid change s.threads) s.waiting s.next_tid s (keeps_changed s.threads s.waiting s.next_tid tid change h.rules.threads fits same) h)
+    (keeps-threads (changed tid change s.threads) s.waiting s.next_tid s
+    (keeps_changed s.threads s.waiting s.next_tid tid change h.rules.threads fits same) h)
 
 pub keeps-register : (tid r value : ℕ) (s : State) → value < 2 ^ 32 → IsState s → IsState (change_thread tid (set_register r value) s)
 keeps-register tid r value s low h =
-    keeps-change tid (set_register r value) s (λ t is. record { regs = regs-with_register r value t.regs low is.regs; waits = is.waits; clear = is.clear }) (λ t. refl) h
+    keeps-change tid (set_register r value) s
+    (λ t is. record { regs = regs-with_register r value t.regs low is.regs; waits = is.waits; clear = is.clear }) (λ t. refl) h
 
 pub keeps-clear : (tid a : ℕ) (s : State) → a < 2 ^ 32 → IsState s → IsState (change_thread tid (λ t. record t { clear = a }) s)
 keeps-clear tid a s low h =
@@ -106,7 +109,8 @@ keeps-clear tid a s low h =
 pub keeps-woken : (s : State) (tid : ℕ) → IsState s → IsState (woken s tid)
 keeps-woken s tid h =
     subst IsState (sym (woken_is s tid))
-    (keeps-threads (changed tid resumed s.threads) (filter (λ w. not (nat_eq w tid)) s.waiting) s.next_tid s (keeps_woken s.threads s.waiting s.next_tid tid h.rules.threads) h)
+    (keeps-threads (changed tid resumed s.threads) (filter (λ w. not (nat_eq w tid)) s.waiting) s.next_tid s
+    (keeps_woken s.threads s.waiting s.next_tid tid h.rules.threads) h)
 
 all_woken : (tids : List ℕ) (s : State) → IsState s → IsState (fold woken s tids)
 all_woken [] s h = h
@@ -131,7 +135,9 @@ either false x y h g = g
 pub keeps-leaves : (tid status : ℕ) (s : State) → IsRunning (thread_at s tid) → IsState s → IsState (leaves tid status s)
 keeps-leaves tid status s runs h =
     let rest : State = record s { threads = remove s.threads tid } in
-    let is_rest : IsState rest = keeps-threads (remove s.threads tid) s.waiting s.next_tid s (keeps_left s.threads s.waiting s.next_tid tid h.rules.threads runs) h in
+    let is_rest : IsState rest =
+    keeps-threads (remove s.threads tid) s.waiting s.next_tid s (keeps_left s.threads s.waiting s.next_tid tid h.rules.threads runs)
+    h in
     either (nat_eq (len rest.threads) 0) (ends status rest) rest (keeps-ends status rest is_rest) is_rest
 
 -- ---- what a call writes and answers
@@ -151,20 +157,24 @@ there_is o t e h = subst (λ (o : Option Thread). IfSome o IsThread) e h
 pub thread_of_state : (s : State) (tid : ℕ) (t : Thread) → thread_at s tid ≡ Some t → IsState s → IsThread t
 thread_of_state s tid t there h = there_is (thread_at s tid) t there (h.rules.threads.threads tid)
 
-changed_there : (m : FinMap nat_cmp Thread) (tid : ℕ) (change : Thread → Thread) (t : Thread) → get m tid ≡ Some t → changed tid change m ≡ insert m tid (change t)
+changed_there : (m : FinMap nat_cmp Thread) (tid : ℕ) (change : Thread → Thread) (t : Thread) → get m tid ≡ Some t →
+    changed tid change m ≡ insert m tid (change t)
 changed_there m tid change t there = rw there refl
 
-pub keeps-hart : (s : State) (tid : ℕ) (t : Thread) (h : Hart) → thread_at s tid ≡ Some t → IsHart h → IsState s → IsState (with_hart tid t h s)
+pub keeps-hart : (s : State) (tid : ℕ) (t : Thread) (h : Hart) → thread_at s tid ≡ Some t → IsHart h → IsState s →
+    IsState (with_hart tid t h s)
 keeps-hart s tid t h there is are =
     let change : Thread → Thread = λ u. record u { regs = h.regs } in
     let threads : AreThreads (changed tid change s.threads) s.waiting s.next_tid =
-    keeps_changed s.threads s.waiting s.next_tid tid change are.rules.threads (λ u g. record { regs = is.regs; waits = g.waits; clear = g.clear }) (λ u. refl) in
+    keeps_changed s.threads s.waiting s.next_tid tid change are.rules.threads
+    (λ u g. record { regs = is.regs; waits = g.waits; clear = g.clear }) (λ u. refl) in
     let now : AreThreads (insert s.threads tid (record t { regs = h.regs })) s.waiting s.next_tid =
     subst (λ (m : FinMap nat_cmp Thread). AreThreads m s.waiting s.next_tid) (changed_there s.threads tid change t there) threads in
     keeps-reservation h.reservation _ is.reservation (keeps-memory h.memory _ is.memory (keeps-threads _ s.waiting s.next_tid s now are))
 
 pub is_hart_of : (s : State) (tid : ℕ) (t : Thread) → thread_at s tid ≡ Some t → IsState s → IsHart (hart_of s t)
-is_hart_of s tid t there h = record { regs = (thread_of_state s tid t there h).regs; memory = memory_of_state s h; reservation = h.rules.reservation }
+is_hart_of s tid t there h =
+    record { regs = (thread_of_state s tid t there h).regs; memory = memory_of_state s h; reservation = h.rules.reservation }
 
 pub outcome_keeps : (s : State) (tid : ℕ) (t : Thread) (outcome : Outcome) → Step s tid t outcome → IsState s → LeavesHart outcome
 outcome_keeps s tid t outcome step h = hart_keeps (hart_of s t) outcome step.does (is_hart_of s tid t step.there h)

@@ -39,7 +39,8 @@ small_or_zero true n h = omega arith
 small_or_zero false n h = h
 
 pub small-register : (regs : Regs) (r : ℕ) → AreRegs regs → register regs r < 2 ^ 32
-small-register regs r h = small_or_zero (r == 0) (slice_index regs.registers r) (each_below (2 ^ 32) regs.registers (omega arith) h.registers.1 r)
+small-register regs r h =
+    small_or_zero (r == 0) (slice_index regs.registers r) (each_below (2 ^ 32) regs.registers (omega arith) h.registers.1 r)
 
 first_kept : (xs : List ℕ) (r value : ℕ) → nat_eq r 0 ≡ false → slice_index xs 0 ≡ 0 → slice_index (slice_set xs r value) 0 ≡ 0
 first_kept xs r value some first = grind (arith, nat_tests, get_or-set_other)
@@ -50,7 +51,10 @@ regs-with_register r value regs low h = by (nat_eq r 0) refl where
   by true e = h
   by false e = record {
     pc = h.pc;
-    registers = (length-set {A = ℕ} regs.registers r value ∙ h.registers.0, All-set (λ value. value < 2 ^ 32) regs.registers r value low h.registers.1);
+    registers = (
+      length-set {A = ℕ} regs.registers r value ∙ h.registers.0,
+      All-set (λ value. value < 2 ^ 32) regs.registers r value low h.registers.1,
+    );
     zero = first_kept regs.registers r value e h.zero;
   }
 
@@ -63,19 +67,25 @@ small-plus : (x y : ℕ) → plus x y < 2 ^ 32
 small-plus x y = omega arith
 
 with_regs : (regs : Regs) (h : Hart) → IsHart h → AreRegs regs → IsHart (goes_on regs h)
-with_regs regs h is are = record { regs = regs-with_pc (plus regs.pc 4) regs (small-plus regs.pc 4) are; memory = is.memory; reservation = is.reservation }
+with_regs regs h is are =
+    record { regs = regs-with_pc (plus regs.pc 4) regs (small-plus regs.pc 4) are; memory = is.memory; reservation = is.reservation }
 
-with_stored : (a : ℕ) (bytes : List ℕ) (h : Hart) → All (λ b. b < 256) bytes → IsHart h → IsHart (record h { memory = stored a bytes h.memory })
-with_stored a bytes h small is = record { regs = is.regs; memory = memory-stored a bytes h.memory (are_bytes bytes small) is.memory; reservation = is.reservation }
+with_stored : (a : ℕ) (bytes : List ℕ) (h : Hart) → All (λ b. b < 256) bytes → IsHart h →
+    IsHart (record h { memory = stored a bytes h.memory })
+with_stored a bytes h small is =
+    record { regs = is.regs; memory = memory-stored a bytes h.memory (are_bytes bytes small) is.memory; reservation = is.reservation }
 
 sets_keeps : (rd value : ℕ) (h : Hart) → value < 2 ^ 32 → IsHart h → LeavesHart (sets rd value h)
 sets_keeps rd value h low is = with_regs (with_register rd value h.regs) h is (regs-with_register rd value h.regs low is.regs)
 
 jumps_keeps : (rd target : ℕ) (h : Hart) → target < 2 ^ 32 → IsHart h → LeavesHart (jumps rd target h)
 jumps_keeps rd target h low is = by (target % 4 == 0) where
-  by : (b : Bool) → LeavesHart (cond b (Next (record h { regs = record (with_register rd (plus h.regs.pc 4) h.regs) { pc = target } })) (Faulted faults.MisalignedTarget))
+  by : (b : Bool) →
+      LeavesHart (cond b (Next (record h { regs = record (with_register rd (plus h.regs.pc 4) h.regs) { pc = target } }))
+      (Faulted faults.MisalignedTarget))
   by true = record {
-    regs = regs-with_pc target (with_register rd (plus h.regs.pc 4) h.regs) low (regs-with_register rd (plus h.regs.pc 4) h.regs (small-plus h.regs.pc 4) is.regs);
+    regs = regs-with_pc target (with_register rd (plus h.regs.pc 4) h.regs) low
+        (regs-with_register rd (plus h.regs.pc 4) h.regs (small-plus h.regs.pc 4) is.regs);
     memory = is.memory;
     reservation = is.reservation;
   }
@@ -85,7 +95,8 @@ if_keeps : (b : Bool) (x y : Outcome) → LeavesHart x → LeavesHart y → Leav
 if_keeps true x y h g = h
 if_keeps false x y h g = g
 
-atomic_keeps : (allowed : Bool) (kind : FaultKind) (a : ℕ) (outcome : Outcome) → LeavesHart outcome → LeavesHart (atomic allowed kind a outcome)
+atomic_keeps : (allowed : Bool) (kind : FaultKind) (a : ℕ) (outcome : Outcome) → LeavesHart outcome →
+    LeavesHart (atomic allowed kind a outcome)
 atomic_keeps allowed kind a outcome h = if_keeps (a % 4 == 0) _ _ (if_keeps allowed outcome (Faulted kind) h tt) tt
 
 small-word_at : (m : Memory) (a : ℕ) → IsMemory m → word_at m a < 2 ^ 32
@@ -157,41 +168,50 @@ executed_keeps (Some (Jalr rd rs1 immediate)) h low is =
     let fits : target < 2 ^ 32 = small-plus (register h.regs rs1) immediate in
     jumps_keeps rd (target - target % 2) h (omega (arith, fits)) is
 executed_keeps (Some (Branch test rs1 rs2 offset)) h low is =
-    if_keeps (branches test (register h.regs rs1) (register h.regs rs2)) _ _ (jumps_keeps 0 (plus h.regs.pc offset) h (small-plus h.regs.pc offset) is) (with_regs h.regs h is is.regs)
+    if_keeps (branches test (register h.regs rs1) (register h.regs rs2)) _ _
+    (jumps_keeps 0 (plus h.regs.pc offset) h (small-plus h.regs.pc offset) is) (with_regs h.regs h is is.regs)
 executed_keeps (Some (Load kind rd rs1 immediate)) h low is =
     let a = plus (register h.regs rs1) immediate in
-    if_keeps (readable h.memory a (load_len kind)) _ _ (sets_keeps rd (loaded kind h.memory a) h (small-loaded kind h.memory a is.memory) is) tt
+    if_keeps (readable h.memory a (load_len kind)) _ _
+    (sets_keeps rd (loaded kind h.memory a) h (small-loaded kind h.memory a is.memory) is) tt
 executed_keeps (Some (Store kind rs1 rs2 immediate)) h low is =
     let a = plus (register h.regs rs1) immediate in
     if_keeps (writable h.memory a (store_len kind)) _ _
-    (with_regs h.regs (record h { memory = stores kind a (register h.regs rs2) h.memory }) (stores_keeps kind a (register h.regs rs2) h is) is.regs) tt
+    (with_regs h.regs (record h { memory = stores kind a (register h.regs rs2) h.memory }) (stores_keeps kind a (register h.regs rs2) h is)
+    is.regs) tt
 executed_keeps (Some (OpImm op rd rs1 immediate)) h low is =
-    sets_keeps rd (immediate_value op (register h.regs rs1) immediate) h (small-immediate_value op (register h.regs rs1) immediate (small-register h.regs rs1 is.regs) low) is
+    sets_keeps rd (immediate_value op (register h.regs rs1) immediate) h
+    (small-immediate_value op (register h.regs rs1) immediate (small-register h.regs rs1 is.regs) low) is
 executed_keeps (Some (Shift op rd rs1 amount)) h low is =
-    sets_keeps rd (shift_value op (register h.regs rs1) amount) h (small-shift_value op (register h.regs rs1) amount (small-register h.regs rs1 is.regs)) is
+    sets_keeps rd (shift_value op (register h.regs rs1) amount) h
+    (small-shift_value op (register h.regs rs1) amount (small-register h.regs rs1 is.regs)) is
 executed_keeps (Some (Op op rd rs1 rs2)) h low is =
     sets_keeps rd (op_value op (register h.regs rs1) (register h.regs rs2)) h
-    (small-op_value op (register h.regs rs1) (register h.regs rs2) (small-register h.regs rs1 is.regs) (small-register h.regs rs2 is.regs)) is
+    (small-op_value op (register h.regs rs1) (register h.regs rs2) (small-register h.regs rs1 is.regs) (small-register h.regs rs2 is.regs))
+    is
 executed_keeps (Some Fence) h low is = with_regs h.regs h is is.regs
 executed_keeps (Some FenceI) h low is = with_regs h.regs h is is.regs
 executed_keeps (Some Ecall) h low is = with_regs h.regs h is is.regs
 executed_keeps (Some Ebreak) h low is = tt
 executed_keeps (Some (Lr ordering rd rs1)) h low is =
     let a = register h.regs rs1 in
-    atomic_keeps (readable h.memory a 4) _ a _ (sets_keeps rd (word_at h.memory a) (record h { reservation = Some a }) (small-word_at h.memory a is.memory)
+    atomic_keeps (readable h.memory a 4) _ a _
+    (sets_keeps rd (word_at h.memory a) (record h { reservation = Some a }) (small-word_at h.memory a is.memory)
     (record { regs = is.regs; memory = is.memory; reservation = small-register h.regs rs1 is.regs }))
 executed_keeps (Some (Sc ordering rd rs1 rs2)) h low is =
     let a = register h.regs rs1 in
     let after : Hart = record h { reservation = None } in
     let is_after : IsHart after = record { regs = is.regs; memory = is.memory; reservation = tt } in
     atomic_keeps (writable h.memory a 4) _ a _ (if_keeps (is_reserved h.reservation a) _ _
-    (sets_keeps rd 0 (record after { memory = stores Sw a (register h.regs rs2) h.memory }) (omega arith) (stores_keeps Sw a (register h.regs rs2) after is_after))
+    (sets_keeps rd 0 (record after { memory = stores Sw a (register h.regs rs2) h.memory }) (omega arith)
+    (stores_keeps Sw a (register h.regs rs2) after is_after))
     (sets_keeps rd 1 after (omega arith) is_after))
 executed_keeps (Some (Amo op ordering rd rs1 rs2)) h low is =
     let a = register h.regs rs1 in
     let old = word_at h.memory a in
     atomic_keeps (writable h.memory a 4) _ a _
-    (sets_keeps rd old (record h { memory = stores Sw a (amo_value op old (register h.regs rs2)) h.memory }) (small-word_at h.memory a is.memory)
+    (sets_keeps rd old (record h { memory = stores Sw a (amo_value op old (register h.regs rs2)) h.memory })
+    (small-word_at h.memory a is.memory)
     (stores_keeps Sw a (amo_value op old (register h.regs rs2)) h is))
 
 -- ---- steps

@@ -49,7 +49,8 @@ by_cmp q tid e = by (eq_by_cmp nat_cmp q tid) refl where
 
 in_filtered : (p : ℕ → Bool) (xs : List ℕ) (q : ℕ) → Contains xs q → p q ≡ true → Contains (filter p xs) q
 in_filtered p xs q c e = Contains-from_any same_tid q (filter p xs)
-    (any-filter_same (eq_by_cmp nat_cmp q) p true (λ k at. ap p (sym (same_tid q k at)) ∙ e) xs ∙ list_any-from_Contains (eq_by_cmp_equiv nat_cmp_total) q xs c)
+    (any-filter_same (eq_by_cmp nat_cmp q) p true (λ k at. ap p (sym (same_tid q k at)) ∙ e) xs
+    ∙ list_any-from_Contains (eq_by_cmp_equiv nat_cmp_total) q xs c)
 
 of_filtered : (p : ℕ → Bool) (xs : List ℕ) (q : ℕ) → Contains (filter p xs) q → Contains xs q × (p q ≡ true)
 of_filtered p xs q c = (
@@ -76,7 +77,8 @@ wider (Some t) q n n' more h = (h.0, omega (arith, h.1))
 
 -- the map differs at one tid
 keeps : (m m' : FinMap nat_cmp Thread) (order order' : List ℕ) (next next' tid : ℕ) (o : Option Thread) → AreThreads m order next →
-    ((q : ℕ) → get m' q ≡ cond (eq_by_cmp nat_cmp q tid) o (get m q)) → len m' ≤ 16 → IfSome o IsThread → IfSome o (λ _. (1 ≤ tid) × (tid < next')) →
+    ((q : ℕ) → get m' q ≡ cond (eq_by_cmp nat_cmp q tid) o (get m q)) → len m' ≤ 16 → IfSome o IsThread →
+    IfSome o (λ _. (1 ≤ tid) × (tid < next')) →
     next ≤ next' → next' ≤ 2 ^ 31 → ((q : ℕ) → Contains order' q ↔ IsWaiting (cond (eq_by_cmp nat_cmp q tid) o (get m q))) →
     AllPairs (λ a b. a ≢ b) order' → AreThreads m' order' next'
 keeps m m' order order' next next' tid o h reads live fits low more most waits once = record {
@@ -84,7 +86,8 @@ keeps m m' order order' next next' tid o h reads live fits low more most waits o
   live = live;
   tids = λ q. subst (λ (p : Option Thread). IfSome p (λ _. (1 ≤ q) × (q < next'))) (sym (reads q))
       (one_of (λ _. (1 ≤ q) × (q < next')) _ o (get m q)
-      (λ e. subst (λ k. IfSome o (λ _. (1 ≤ k) × (k < next'))) (sym (same_tid q tid e)) low) (wider (get m q) q next next' more (h.tids q)));
+      (λ e. subst (λ k. IfSome o (λ _. (1 ≤ k) × (k < next'))) (sym (same_tid q tid e)) low)
+      (wider (get m q) q next next' more (h.tids q)));
   first = omega (arith, h.first);
   next_tid = most;
   waiting = λ q. subst (λ (p : Option Thread). Contains order' q ↔ IsWaiting p) (sym (reads q)) (waits q);
@@ -92,7 +95,8 @@ keeps m m' order order' next next' tid o h reads live fits low more most waits o
 }
 
 -- the rules, along equations
-pub moved : {m m' : FinMap nat_cmp Thread} {order order' : List ℕ} {next : ℕ} → m' ≡ m → order' ≡ order → AreThreads m order next → AreThreads m' order' next
+pub moved : {m m' : FinMap nat_cmp Thread} {order order' : List ℕ} {next : ℕ} → m' ≡ m → order' ≡ order → AreThreads m order next →
+    AreThreads m' order' next
 moved {m = m} {order' = order'} {next = next} e f h =
     subst (λ (n : FinMap nat_cmp Thread). AreThreads n order' next) (sym e) (subst (λ (o : List ℕ). AreThreads m o next) (sym f) h)
 
@@ -105,7 +109,8 @@ no_threads = record {
   tids = λ q. subst (λ (o : Option Thread). IfSome o (λ _. (1 ≤ q) × (q < 1))) (sym (get-empty nat_cmp q)) tt;
   first = omega arith;
   next_tid = omega arith;
-  waiting = λ q. subst (λ (o : Option Thread). Contains [] q ↔ IsWaiting o) (sym (get-empty nat_cmp q)) (λ c. absurd (omega (arith, c.1)), λ w. absurd w);
+  waiting = λ q. subst (λ (o : Option Thread). Contains [] q ↔ IsWaiting o) (sym (get-empty nat_cmp q))
+      (λ c. absurd (omega (arith, c.1)), λ w. absurd w);
   waiting_once = λ i j d below inside. absurd (omega arith);
 }
 
@@ -124,14 +129,17 @@ unborn : (o : Option Thread) (q next : ℕ) → IfSome o (λ _. (1 ≤ q) × (q 
 unborn None q next h e w = w
 unborn (Some t) q next h e w = omega (arith, h.1)
 
-pub keeps_spawned : (m : FinMap nat_cmp Thread) (order : List ℕ) (next : ℕ) (t : Thread) → AreThreads m order next → len m < 16 → next < 2 ^ 31 → IsThread t →
+pub keeps_spawned : (m : FinMap nat_cmp Thread) (order : List ℕ) (next : ℕ) (t : Thread) → AreThreads m order next → len m < 16 →
+    next < 2 ^ 31 → IsThread t →
     t.waits_at ≡ None → AreThreads (insert m next t) order (next + 1)
 keeps_spawned m order next t h room left fits runs =
     let size : len (insert m next t) ≤ len m + 1 = subst (λ n. n ≤ len m + 1) (sym (len-insert nat_cmp_total m next t)) (grown _ (len m)) in
-    keeps m (insert m next t) order order next (next + 1) next (Some t) h (get-insert nat_cmp_total m next t) (omega arith) fits (h.first, omega arith) (omega arith) (omega arith)
+    keeps m (insert m next t) order order next (next + 1) next (Some t) h (get-insert nat_cmp_total m next t) (omega arith) fits
+    (h.first, omega arith) (omega arith) (omega arith)
     (λ q. waits q (eq_by_cmp nat_cmp q next) refl) h.waiting_once where
       waits : (q : ℕ) (b : Bool) → eq_by_cmp nat_cmp q next ≡ b → Contains order q ↔ IsWaiting (cond b (Some t) (get m q))
-      waits q true e = (λ c. absurd (unborn (get m q) q next (h.tids q) (same_tid q next e) ((h.waiting q).0 c)), λ w. absurd (not_waiting t runs w))
+      waits q true e =
+          (λ c. absurd (unborn (get m q) q next (h.tids q) (same_tid q next e) ((h.waiting q).0 c)), λ w. absurd (not_waiting t runs w))
       waits q false e = h.waiting q
 
 -- ---- one that leaves
@@ -140,13 +148,18 @@ shrunk : (b : Bool) (n : ℕ) → cond b (n - 1) n ≤ n
 shrunk true n = omega arith
 shrunk false n = omega arith
 
-pub keeps_left : (m : FinMap nat_cmp Thread) (order : List ℕ) (next tid : ℕ) → AreThreads m order next → IsRunning (get m tid) → AreThreads (remove m tid) order next
+pub keeps_left : (m : FinMap nat_cmp Thread) (order : List ℕ) (next tid : ℕ) → AreThreads m order next → IsRunning (get m tid) →
+    AreThreads (remove m tid) order next
 keeps_left m order next tid h runs =
     let size : len (remove m tid) ≤ len m = subst (λ n. n ≤ len m) (sym (len-remove nat_cmp_total m tid)) (shrunk _ (len m)) in
-    keeps m (remove m tid) order order next next tid None h (get-remove nat_cmp_total m tid) (omega (arith, h.live)) tt tt (omega arith) h.next_tid
+    keeps m (remove m tid) order order next next tid None h (get-remove nat_cmp_total m tid) (omega (arith, h.live)) tt tt (omega arith)
+    h.next_tid
     (λ q. waits q (eq_by_cmp nat_cmp q tid) refl) h.waiting_once where
       waits : (q : ℕ) (b : Bool) → eq_by_cmp nat_cmp q tid ≡ b → Contains order q ↔ IsWaiting (cond b None (get m q))
-      waits q true e = (λ c. running_not_waiting (get m tid) runs (subst (λ k. IsWaiting (get m k)) (same_tid q tid e) ((h.waiting q).0 c)), λ w. absurd w)
+      waits q true e = (
+        λ c. running_not_waiting (get m tid) runs (subst (λ k. IsWaiting (get m k)) (same_tid q tid e) ((h.waiting q).0 c)),
+        λ w. absurd w,
+      )
       waits q false e = h.waiting q
 
 -- ---- one that is changed
@@ -154,7 +167,8 @@ keeps_left m order next tid h runs =
 changed_nowhere : (m : FinMap nat_cmp Thread) (tid : ℕ) (change : Thread → Thread) → get m tid ≡ None → changed tid change m ≡ m
 changed_nowhere m tid change none = rw none refl
 
-changed_there : (m : FinMap nat_cmp Thread) (tid : ℕ) (change : Thread → Thread) (t : Thread) → get m tid ≡ Some t → changed tid change m ≡ insert m tid (change t)
+changed_there : (m : FinMap nat_cmp Thread) (tid : ℕ) (change : Thread → Thread) (t : Thread) → get m tid ≡ Some t →
+    changed tid change m ≡ insert m tid (change t)
 changed_there m tid change t there = rw there refl
 
 -- the thread at the tid is changed
@@ -172,9 +186,11 @@ none_at m tid q none = by (eq_by_cmp nat_cmp q tid) refl where
 pub get-changed : (m : FinMap nat_cmp Thread) (tid : ℕ) (change : Thread → Thread) (q : ℕ) →
     get (changed tid change m) q ≡ cond (eq_by_cmp nat_cmp q tid) (changed_at tid change (get m tid)) (get m q)
 get-changed m tid change q = by (get m tid) refl where
-  by : (o : Option Thread) → get m tid ≡ o → get (changed tid change m) q ≡ cond (eq_by_cmp nat_cmp q tid) (changed_at tid change o) (get m q)
+  by : (o : Option Thread) → get m tid ≡ o →
+      get (changed tid change m) q ≡ cond (eq_by_cmp nat_cmp q tid) (changed_at tid change o) (get m q)
   by None e = ap (λ (m' : FinMap nat_cmp Thread). get m' q) (changed_nowhere m tid change e) ∙ none_at m tid q e
-  by (Some t) e = ap (λ (m' : FinMap nat_cmp Thread). get m' q) (changed_there m tid change t e) ∙ get-insert nat_cmp_total m tid (change t) q
+  by (Some t) e =
+      ap (λ (m' : FinMap nat_cmp Thread). get m' q) (changed_there m tid change t e) ∙ get-insert nat_cmp_total m tid (change t) q
 
 len-changed : (m : FinMap nat_cmp Thread) (tid : ℕ) (change : Thread → Thread) → len (changed tid change m) ≡ len m
 len-changed m tid change = by (get m tid) refl where
@@ -183,27 +199,34 @@ len-changed m tid change = by (get m tid) refl where
   by (Some t) e = ap (λ (m' : FinMap nat_cmp Thread). len m') (changed_there m tid change t e) ∙ len-insert nat_cmp_total m tid (change t)
       ∙ ap (λ (o : Option Thread). cond (is_some o) (len m) (len m + 1)) e
 
-maps_fits : (tid : ℕ) (change : Thread → Thread) (o : Option Thread) → ((t : Thread) → IsThread t → IsThread (change t)) → IfSome o IsThread → IfSome (changed_at tid change o) IsThread
+maps_fits : (tid : ℕ) (change : Thread → Thread) (o : Option Thread) → ((t : Thread) → IsThread t → IsThread (change t)) →
+    IfSome o IsThread → IfSome (changed_at tid change o) IsThread
 maps_fits tid change None f h = tt
 maps_fits tid change (Some t) f h = f t h
 
-maps_low : (tid next : ℕ) (change : Thread → Thread) (o : Option Thread) → IfSome o (λ _. (1 ≤ tid) × (tid < next)) → IfSome (changed_at tid change o) (λ _. (1 ≤ tid) × (tid < next))
+maps_low : (tid next : ℕ) (change : Thread → Thread) (o : Option Thread) → IfSome o (λ _. (1 ≤ tid) × (tid < next)) →
+    IfSome (changed_at tid change o) (λ _. (1 ≤ tid) × (tid < next))
 maps_low tid next change None h = tt
 maps_low tid next change (Some t) h = h
 
 -- a change that leaves where the thread waits
 pub keeps_changed : (m : FinMap nat_cmp Thread) (order : List ℕ) (next tid : ℕ) (change : Thread → Thread) → AreThreads m order next →
-    ((t : Thread) → IsThread t → IsThread (change t)) → ((t : Thread) → (change t).waits_at ≡ t.waits_at) → AreThreads (changed tid change m) order next
+    ((t : Thread) → IsThread t → IsThread (change t)) → ((t : Thread) → (change t).waits_at ≡ t.waits_at) →
+    AreThreads (changed tid change m) order next
 keeps_changed m order next tid change h fits same =
-    keeps m (changed tid change m) order order next next tid (changed_at tid change (get m tid)) h (get-changed m tid change) (omega (arith, h.live, len-changed m tid change))
+    keeps m (changed tid change m) order order next next tid (changed_at tid change (get m tid)) h (get-changed m tid change)
+    (omega (arith, h.live, len-changed m tid change))
     (maps_fits tid change (get m tid) fits (h.threads tid)) (maps_low tid next change (get m tid) (h.tids tid)) (omega arith) h.next_tid
     (λ q. waits q (eq_by_cmp nat_cmp q tid) refl) h.waiting_once where
       waiting_same : (o : Option Thread) → IsWaiting (changed_at tid change o) ≡ IsWaiting o
       waiting_same None = refl
       waiting_same (Some t) = ap (λ (o : Option ℕ). IsSome o) (same t)
 
-      waits : (q : ℕ) (b : Bool) → eq_by_cmp nat_cmp q tid ≡ b → Contains order q ↔ IsWaiting (cond b (changed_at tid change (get m tid)) (get m q))
-      waits q true e = subst (λ (W : Type 0). Contains order q ↔ W) (sym (waiting_same (get m tid))) (subst (λ k. Contains order q ↔ IsWaiting (get m k)) (same_tid q tid e) (h.waiting q))
+      waits : (q : ℕ) (b : Bool) → eq_by_cmp nat_cmp q tid ≡ b →
+          Contains order q ↔ IsWaiting (cond b (changed_at tid change (get m tid)) (get m q))
+      waits q true e =
+          subst (λ (W : Type 0). Contains order q ↔ W) (sym (waiting_same (get m tid)))
+          (subst (λ k. Contains order q ↔ IsWaiting (get m k)) (same_tid q tid e) (h.waiting q))
       waits q false e = h.waiting q
 
 -- a thread that runs again
@@ -213,17 +236,21 @@ resumed t = record t { waits_at = None }
 pub keeps_woken : (m : FinMap nat_cmp Thread) (order : List ℕ) (next tid : ℕ) → AreThreads m order next →
     AreThreads (changed tid resumed m) (filter (λ w. not (nat_eq w tid)) order) next
 keeps_woken m order next tid h =
-    keeps m (changed tid resumed m) order (filter (λ w. not (nat_eq w tid)) order) next next tid (changed_at tid resumed (get m tid)) h (get-changed m tid resumed)
-    (omega (arith, h.live, len-changed m tid resumed)) (maps_fits tid resumed (get m tid) (λ t is. record { regs = is.regs; waits = tt; clear = is.clear }) (h.threads tid))
+    keeps m (changed tid resumed m) order (filter (λ w. not (nat_eq w tid)) order) next next tid (changed_at tid resumed (get m tid)) h
+    (get-changed m tid resumed)
+    (omega (arith, h.live, len-changed m tid resumed))
+    (maps_fits tid resumed (get m tid) (λ t is. record { regs = is.regs; waits = tt; clear = is.clear }) (h.threads tid))
     (maps_low tid next resumed (get m tid) (h.tids tid)) (omega arith) h.next_tid
     (λ q. waits q (eq_by_cmp nat_cmp q tid) refl) (AllPairs-filter (λ a b. a ≢ b) (λ w. not (nat_eq w tid)) order h.waiting_once) where
       none_waits : (o : Option Thread) → IsWaiting (changed_at tid resumed o) → ⊥
       none_waits None w = w
       none_waits (Some t) w = false≢true w
 
-      waits : (q : ℕ) (b : Bool) → eq_by_cmp nat_cmp q tid ≡ b → Contains (filter (λ w. not (nat_eq w tid)) order) q ↔ IsWaiting (cond b (changed_at tid resumed (get m tid)) (get m q))
+      waits : (q : ℕ) (b : Bool) → eq_by_cmp nat_cmp q tid ≡ b →
+          Contains (filter (λ w. not (nat_eq w tid)) order) q ↔ IsWaiting (cond b (changed_at tid resumed (get m tid)) (get m q))
       waits q true e = (
-        λ c. absurd (false≢true (ap not (sym ((Decides-eqb q tid).1 (same_tid q tid e))) ∙ (of_filtered (λ w. not (nat_eq w tid)) order q c).1)),
+        λ c. absurd (false≢true
+            (ap not (sym ((Decides-eqb q tid).1 (same_tid q tid e))) ∙ (of_filtered (λ w. not (nat_eq w tid)) order q c).1)),
         λ w. absurd (none_waits (get m tid) w),
       )
       waits q false e = (
@@ -241,16 +268,20 @@ it_waits : (a tid : ℕ) (o : Option Thread) → IsRunning o → IsWaiting (chan
 it_waits a tid None r = absurd r
 it_waits a tid (Some t) r = refl
 
-pub keeps_waits : (m : FinMap nat_cmp Thread) (order : List ℕ) (next tid a : ℕ) → AreThreads m order next → IsRunning (get m tid) → a < 2 ^ 32 →
+pub keeps_waits : (m : FinMap nat_cmp Thread) (order : List ℕ) (next tid a : ℕ) → AreThreads m order next → IsRunning (get m tid) →
+    a < 2 ^ 32 →
     AreThreads (changed tid (λ t. record t { waits_at = Some a }) m) (order ++ tid ∷ []) next
 keeps_waits m order next tid a h runs fits =
-    keeps m (changed tid (waits_from a) m) order (order ++ tid ∷ []) next next tid (changed_at tid (waits_from a) (get m tid)) h (get-changed m tid (waits_from a))
+    keeps m (changed tid (waits_from a) m) order (order ++ tid ∷ []) next next tid (changed_at tid (waits_from a) (get m tid)) h
+    (get-changed m tid (waits_from a))
     (omega (arith, h.live, len-changed m tid (waits_from a)))
     (maps_fits tid (waits_from a) (get m tid) (λ t is. record { regs = is.regs; waits = fits; clear = is.clear }) (h.threads tid))
     (maps_low tid next (waits_from a) (get m tid) (h.tids tid)) (omega arith) h.next_tid
     (λ q. waits q (eq_by_cmp nat_cmp q tid) refl) (all_pairs_push (λ a b. a ≢ b) order tid h.waiting_once new) where
       new : (k : ℕ) (d : ℕ) → k < length order → get_or order k d ≢ tid
-      new k d l e = running_not_waiting (get m tid) runs (subst (λ q. IsWaiting (get m q)) e ((h.waiting (get_or order k d)).0 (Contains-get_or order k d l)))
+      new k d l e =
+          running_not_waiting (get m tid) runs
+          (subst (λ q. IsWaiting (get m q)) e ((h.waiting (get_or order k d)).0 (Contains-get_or order k d l)))
 
       older : (q : ℕ) → eq_by_cmp nat_cmp q tid ≡ false → Contains order q ⊎ (tid ≡ q) → Contains order q
       older q e (inl c) = c
@@ -258,19 +289,27 @@ keeps_waits m order next tid a h runs fits =
 
       waits : (q : ℕ) (b : Bool) → eq_by_cmp nat_cmp q tid ≡ b →
           Contains (order ++ tid ∷ []) q ↔ IsWaiting (cond b (changed_at tid (waits_from a) (get m tid)) (get m q))
-      waits q true e = (λ c. it_waits a tid (get m tid) runs, λ w. subst (λ k. Contains (order ++ tid ∷ []) k) (sym (same_tid q tid e)) (Contains-push order tid))
-      waits q false e = (λ c. (h.waiting q).0 (older q e (Contains-push_cases order tid q c)), λ w. Contains-append_left order (tid ∷ []) q ((h.waiting q).1 w))
+      waits q true e = (
+        λ c. it_waits a tid (get m tid) runs,
+        λ w. subst (λ k. Contains (order ++ tid ∷ []) k) (sym (same_tid q tid e)) (Contains-push order tid),
+      )
+      waits q false e = (
+        λ c. (h.waiting q).0 (older q e (Contains-push_cases order tid q c)),
+        λ w. Contains-append_left order (tid ∷ []) q ((h.waiting q).1 w),
+      )
 
 -- ---- changes of a state's threads
 
 -- a change of a thread, as a change of the map
-pub change_is : (tid : ℕ) (change : Thread → Thread) (s : State) → change_thread tid change s ≡ record s { threads = changed tid change s.threads }
+pub change_is : (tid : ℕ) (change : Thread → Thread) (s : State) →
+    change_thread tid change s ≡ record s { threads = changed tid change s.threads }
 change_is tid change s = by (get s.threads tid) refl where
   by : (o : Option Thread) → get s.threads tid ≡ o → change_thread tid change s ≡ record s { threads = changed tid change s.threads }
   by None e = rw e refl
   by (Some t) e = rw e refl
 
-pub woken_is : (s : State) (tid : ℕ) → woken s tid ≡ record s { threads = changed tid resumed s.threads; waiting = filter (λ w. not (nat_eq w tid)) s.waiting }
+pub woken_is : (s : State) (tid : ℕ) →
+    woken s tid ≡ record s { threads = changed tid resumed s.threads; waiting = filter (λ w. not (nat_eq w tid)) s.waiting }
 woken_is s tid = change_is tid resumed (record s { waiting = filter (λ w. not (nat_eq w tid)) s.waiting })
 
 -- ---- a running thread still runs when others are woken
@@ -281,7 +320,8 @@ still w (Some t) r = refl
 
 woken_running : (s : State) (w tid : ℕ) → IsRunning (thread_at s tid) → IsRunning (thread_at (woken s w) tid)
 woken_running s w tid r =
-    subst (λ (o : Option Thread). IsRunning o) (sym (ap (λ (s' : State). get s'.threads tid) (woken_is s w) ∙ get-changed s.threads w resumed tid))
+    subst (λ (o : Option Thread). IsRunning o)
+    (sym (ap (λ (s' : State). get s'.threads tid) (woken_is s w) ∙ get-changed s.threads w resumed tid))
     (by (eq_by_cmp nat_cmp tid w) refl) where
       by : (b : Bool) → eq_by_cmp nat_cmp tid w ≡ b → IsRunning (cond b (changed_at w resumed (get s.threads w)) (get s.threads tid))
       by true e = still w (get s.threads w) (subst (λ k. IsRunning (get s.threads k)) (same_tid tid w e) r)

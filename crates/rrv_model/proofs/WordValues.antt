@@ -100,7 +100,8 @@ below-mixed : (x y : ℤ) → Within (2 ^ 31) x → Within (2 ^ 32) y → Below 
 below-mixed (pos a) (pos b) h g = let most = mul-lt a b (2 ^ 32) (2 ^ 32) (omega arith) g in omega (arith, most)
 below-mixed (pos a) (negsuc b) h g = below-neg (2 ^ 64) (a * suc b) (omega arith)
 below-mixed (negsuc a) (pos b) h g = below-neg (2 ^ 64) (suc a * b) (omega arith)
-below-mixed (negsuc a) (negsuc b) h g = let most = mul-le (suc a) (suc b) (2 ^ 31) (2 ^ 32) (omega arith) (omega arith) in omega (arith, most)
+below-mixed (negsuc a) (negsuc b) h g = let most =
+    mul-le (suc a) (suc b) (2 ^ 31) (2 ^ 32) (omega arith) (omega arith) in omega (arith, most)
 
 pub small-op_value : (op : RegisterOp) (x y : ℕ) → x < 2 ^ 32 → y < 2 ^ 32 → op_value op x y < 2 ^ 32
 small-op_value ops.Add x y h g = omega arith
@@ -114,7 +115,8 @@ small-op_value ops.Sra x y h g = small-shifted_right_signed x y h
 small-op_value ops.Or x y h g = or_lt 32 x y h g
 small-op_value ops.And x y h g = and_lt 32 x y h g
 small-op_value ops.Mul x y h g = omega arith
-small-op_value ops.Mulh x y h g = small-upper_word _ (below-mixed (signed x) (signed y) (within-signed x h) (wider (signed y) (within-signed y g)))
+small-op_value ops.Mulh x y h g =
+    small-upper_word _ (below-mixed (signed x) (signed y) (within-signed x h) (wider (signed y) (within-signed y g)))
 small-op_value ops.Mulhsu x y h g = small-upper_word _ (below-mixed (signed x) (pos y) (within-signed x h) g)
 small-op_value ops.Mulhu x y h g = small-product x y h g
 small-op_value ops.Div x y h g = small-quotient x y h

@@ -61,7 +61,8 @@ stored_keeps m a bytes allowed x read_only = by_test (is_within a (length bytes)
   by_test true inside = absurd (false≢true (sym read_only ∙ within_writable m a (length bytes) x allowed inside))
   by_test false outside = refl
 
-pub stores_keeps : (kind : StoreKind) (m : Memory) (a value : ℕ) → writable m a (store_len kind) ≡ true → KeepsReadOnly m (stores kind a value m)
+pub stores_keeps : (kind : StoreKind) (m : Memory) (a value : ℕ) → writable m a (store_len kind) ≡ true →
+    KeepsReadOnly m (stores kind a value m)
 stores_keeps Sb m a value allowed = stored_keeps m a (to_le_bytes w8 value) allowed
 stores_keeps Sh m a value allowed = stored_keeps m a (to_le_bytes w16 value) allowed
 stores_keeps Sw m a value allowed = stored_keeps m a (to_le_bytes w32 value) allowed
@@ -80,7 +81,8 @@ if_keeps false x y m h k = k
 jump_keeps : (rd target : ℕ) (h : Hart) → MemoryAfter (jumps rd target h) h.memory
 jump_keeps rd target h = if_keeps (target % 4 == 0) _ _ h.memory (λ _. keeps h.memory) tt
 
-atomic_keeps : (allowed : Bool) (kind : FaultKind) (a : ℕ) (x : Outcome) (m : Memory) → (allowed ≡ true → MemoryAfter x m) → MemoryAfter (atomic allowed kind a x) m
+atomic_keeps : (allowed : Bool) (kind : FaultKind) (a : ℕ) (x : Outcome) (m : Memory) → (allowed ≡ true → MemoryAfter x m) →
+    MemoryAfter (atomic allowed kind a x) m
 atomic_keeps allowed kind a x m h = if_keeps (a % 4 == 0) _ _ m (λ _. if_keeps allowed x _ m h tt) tt
 
 -- whatever an instruction does, it leaves what no store may change
@@ -105,14 +107,16 @@ executed_keeps (Some instrs.Fence) h = keeps h.memory
 executed_keeps (Some instrs.FenceI) h = keeps h.memory
 executed_keeps (Some instrs.Ecall) h = keeps h.memory
 executed_keeps (Some instrs.Ebreak) h = tt
-executed_keeps (Some (instrs.Lr ordering rd rs1)) h = atomic_keeps (readable h.memory (register h.regs rs1) 4) _ (register h.regs rs1) _ h.memory (λ _. keeps h.memory)
+executed_keeps (Some (instrs.Lr ordering rd rs1)) h =
+    atomic_keeps (readable h.memory (register h.regs rs1) 4) _ (register h.regs rs1) _ h.memory (λ _. keeps h.memory)
 executed_keeps (Some (instrs.Sc ordering rd rs1 rs2)) h =
     atomic_keeps (writable h.memory (register h.regs rs1) 4) _ (register h.regs rs1) _ h.memory (λ allowed.
     if_keeps (is_reserved h.reservation (register h.regs rs1)) _ _ h.memory
     (λ _. stores_keeps Sw h.memory (register h.regs rs1) (register h.regs rs2) allowed) (keeps h.memory))
 executed_keeps (Some (instrs.Amo op ordering rd rs1 rs2)) h =
     atomic_keeps (writable h.memory (register h.regs rs1) 4) _ (register h.regs rs1) _ h.memory
-    (λ allowed. stores_keeps Sw h.memory (register h.regs rs1) (amo_value op (word_at h.memory (register h.regs rs1)) (register h.regs rs2)) allowed)
+    (λ allowed. stores_keeps Sw h.memory (register h.regs rs1) (amo_value op (word_at h.memory (register h.regs rs1)) (register h.regs rs2))
+    allowed)
 
 of_word : (r : Result ℕ FaultKind) (h : Hart) (x : Outcome) → StepOfWord r h x → MemoryAfter x h.memory
 of_word (Err kind) h x e = subst (λ (o : Outcome). MemoryAfter o h.memory) (sym e) tt
@@ -134,7 +138,8 @@ steps_keep (suc n) old new (mid, p, q) = keeps_more old.memory mid.memory new.me
 
 -- ---- what stays of decoded pages
 
-all_same : (test : Option Cell → Bool) (m m' : Memory) (a n : ℕ) → ((k : ℕ) → k < n → m' (a + k) ≡ m (a + k)) → all_cells test m' a n ≡ all_cells test m a n
+all_same : (test : Option Cell → Bool) (m m' : Memory) (a n : ℕ) → ((k : ℕ) → k < n → m' (a + k) ≡ m (a + k)) →
+    all_cells test m' a n ≡ all_cells test m a n
 unfolding all_cells
 all_same test m m' a zero h = refl
 all_same test m m' a (suc n) h =
@@ -153,7 +158,8 @@ bytes_same m m' a (suc n) h =
     subst (λ (x : ℕ). m' x ≡ m x) place (h (k + 1) (omega arith))) in
     rw (first, rest) refl
 
-pub decoded_at_same : (m m' : Memory) (a : ℕ) (decoded : Decoded) → ((k : ℕ) → k < 4 → m' (a + k) ≡ m (a + k)) → IsDecodedAt m a decoded → IsDecodedAt m' a decoded
+pub decoded_at_same : (m m' : Memory) (a : ℕ) (decoded : Decoded) → ((k : ℕ) → k < 4 → m' (a + k) ≡ m (a + k)) → IsDecodedAt m a decoded →
+    IsDecodedAt m' a decoded
 decoded_at_same m m' a decoded cells is =
     let bytes : bytes_at m' a 4 ≡ bytes_at m a 4 = bytes_same m m' a 4 cells in
     let same : word_at m' a ≡ word_at m a = rw bytes refl in
@@ -169,7 +175,8 @@ decoded_at_kept m m' a decoded kept is = decoded_at_same m m' a decoded (λ k l.
 pub page_kept : (m m' : Memory) (page : DecodedPage) → KeepsReadOnly m m' → IsDecodedPage m page → IsDecodedPage m' page
 page_kept m m' page kept are k decoded low is = decoded_at_kept m m' _ decoded kept (are k decoded low is)
 
-pub pages_kept : (m m' : Memory) (slots : List (Option DecodedPage)) → KeepsReadOnly m m' → AreDecodedPages m slots → AreDecodedPages m' slots
+pub pages_kept : (m m' : Memory) (slots : List (Option DecodedPage)) → KeepsReadOnly m m' → AreDecodedPages m slots →
+    AreDecodedPages m' slots
 pages_kept m m' slots kept are j = by_slot (slice_index_or slots j None) (are j) where
   by_slot : (slot : Option DecodedPage) → IfSome slot (IsDecodedPage m) → IfSome slot (IsDecodedPage m')
   by_slot None h = tt
@@ -185,7 +192,8 @@ unfolding executed
 outcome_is None answer old new h = h.0
 outcome_is (Some i) answer old new h = h.outcome
 
-pub performs_step : (h new : Hart) (decoded : Decoded) (answer : Stepped) → h.regs.pc % 4 ≡ 0 → IsDecodedAt h.memory h.regs.pc decoded → Performs (instr_of decoded) answer h new → HartStep h (outcome_of answer new)
+pub performs_step : (h new : Hart) (decoded : Decoded) (answer : Stepped) → h.regs.pc % 4 ≡ 0 → IsDecodedAt h.memory h.regs.pc decoded →
+    Performs (instr_of decoded) answer h new → HartStep h (outcome_of answer new)
 performs_step h new decoded answer aligned are does =
     subst (λ (r : Result ℕ FaultKind). StepOfWord r h (outcome_of answer new)) (sym (fetched_is h.memory h.regs.pc aligned are.fetches))
     (instr_of decoded, are.decodes, outcome_is (instr_of decoded) answer h new does)
@@ -194,7 +202,8 @@ pub performs_fault : (i : Option Instr) (answer : Stepped) (old new : Hart) → 
 performs_fault None answer old new h = h.1
 performs_fault (Some i) answer old new h = h.fault
 
-pub stores_may : (h : Hart) (decoded : Decoded) → h.regs.pc % 4 ≡ 0 → IsDecodedAt h.memory h.regs.pc decoded → StoresWithoutFault (instr_of decoded) h → MayStore h
+pub stores_may : (h : Hart) (decoded : Decoded) → h.regs.pc % 4 ≡ 0 → IsDecodedAt h.memory h.regs.pc decoded →
+    StoresWithoutFault (instr_of decoded) h → MayStore h
 stores_may h decoded aligned are takes = by_instr (instr_of decoded) are.decodes takes where
   by_instr : (i : Option Instr) → Decodes (word_at h.memory h.regs.pc) i → StoresWithoutFault i h → MayStore h
   by_instr None d t = absurd t
@@ -208,7 +217,8 @@ stores_may h decoded aligned are takes = by_instr (instr_of decoded) are.decodes
   }
 
 -- the instruction where a hart stands, which has come there by steps, in a page that was decoded before
-pub decoded_there : (n : ℕ) (first old : Hart) (page : DecodedPage) (decoded : Decoded) → IsDecodedPage first.memory page → HartSteps n first old →
+pub decoded_there : (n : ℕ) (first old : Hart) (page : DecodedPage) (decoded : Decoded) → IsDecodedPage first.memory page →
+    HartSteps n first old →
     old.regs.pc / 4096 ≡ page.number → old.regs.pc % 4 ≡ 0 → decoded ≡ slice_index_or page.instrs.items (old.regs.pc % 4096 / 4) decoded →
     IsDecodedAt old.memory old.regs.pc decoded
 decoded_there n first old page decoded are steps place aligned is =
@@ -218,10 +228,12 @@ decoded_there n first old page decoded are steps place aligned is =
     (page_kept first.memory old.memory page (steps_keep n first old steps) are (old.regs.pc % 4096 / 4) decoded low is)
 
 -- whatever ran, it left what no store may change
-pub run_keeps : (end : RunEnd) (limit count : ℕ) (old new : Hart) → HartRunsAtMost end limit count old new → KeepsReadOnly old.memory new.memory
+pub run_keeps : (end : RunEnd) (limit count : ℕ) (old new : Hart) → HartRunsAtMost end limit count old new →
+    KeepsReadOnly old.memory new.memory
 run_keeps ends.Limit limit count old new run = steps_keep count old new run.1
 run_keeps ends.Call limit count old new run =
-    keeps_more old.memory run.before.memory new.memory (steps_keep (count - 1) old run.before run.steps) (called_keeps run.before new run.calls)
+    keeps_more old.memory run.before.memory new.memory (steps_keep (count - 1) old run.before run.steps)
+    (called_keeps run.before new run.calls)
 run_keeps (ends.Fault kind) limit count old new run = steps_keep (count - 1) old new run.steps
 run_keeps ends.Memory limit count old new run = steps_keep count old new run.steps
 
@@ -238,12 +250,14 @@ first_read_only m a h =
     let here : a + 0 ≡ a = omega arith in
     subst (λ (x : ℕ). can_write (m x) ≡ false) here h
 
-pub page_read_only : (m : Memory) → IsMemory m → (number a : ℕ) → a / 4096 ≡ number → writable m (number * 4096) 1 ≡ false → can_write (m a) ≡ false
+pub page_read_only : (m : Memory) → IsMemory m → (number a : ℕ) → a / 4096 ≡ number → writable m (number * 4096) 1 ≡ false →
+    can_write (m a) ≡ false
 page_read_only m is_memory number a place read_only =
     let same : a / 4096 ≡ number * 4096 / 4096 = omega arith in
     alike_read_only (m a) (m (number * 4096)) (is_memory.pages.paged a (number * 4096) same) (first_read_only m (number * 4096) read_only)
 
-pub decoded_here : (m : Memory) → IsMemory m → (number k a : ℕ) (decoded : Decoded) → a ≡ number * 4096 + k * 4 → k < 1024 → writable m (number * 4096) 1 ≡ false →
+pub decoded_here : (m : Memory) → IsMemory m → (number k a : ℕ) (decoded : Decoded) → a ≡ number * 4096 + k * 4 → k < 1024 →
+    writable m (number * 4096) 1 ≡ false →
     executable m a 4 ≡ true → Decodes (word_at m a) (instr_of decoded) → IsDecodedAt m (number * 4096 + k * 4) decoded
 decoded_here m is_memory number k a decoded e low read_only fetches decodes = subst (λ (x : ℕ). IsDecodedAt m x decoded) e (record {
   fetches = fetches;
@@ -251,7 +265,8 @@ decoded_here m is_memory number k a decoded e low read_only fetches decodes = su
   read_only = λ j l. page_read_only m is_memory number (a + j) (omega arith) read_only;
 })
 
-pub one_more_decoded : (m : Memory) (number n : ℕ) (instrs : List Decoded) (last : Decoded) → length instrs ≡ n → AreDecoded m number n instrs → IsDecodedAt m (number * 4096 + n * 4) last → AreDecoded m number (n + 1) (instrs ++ last ∷ [])
+pub one_more_decoded : (m : Memory) (number n : ℕ) (instrs : List Decoded) (last : Decoded) → length instrs ≡ n →
+    AreDecoded m number n instrs → IsDecodedAt m (number * 4096 + n * 4) last → AreDecoded m number (n + 1) (instrs ++ last ∷ [])
 one_more_decoded m number n instrs last len are here k decoded low is = by_place (cases_lt k n) where
   by_place : k < n ⊎ n ≤ k → IsDecodedAt m (number * 4096 + k * 4) decoded
   by_place (inl l) =
@@ -259,19 +274,26 @@ one_more_decoded m number n instrs last len are here k decoded low is = by_place
       are k decoded l (is ∙ get_or_append_left instrs (last ∷ []) decoded k within)
   by_place (inr r) =
       let place : k ≡ length instrs = omega arith in
-      let same : decoded ≡ last = subst (λ (i : ℕ). decoded ≡ slice_index_or (instrs ++ last ∷ []) i decoded) place is ∙ get_or-append_seam instrs last [] decoded in
+      let same : decoded ≡ last =
+      subst (λ (i : ℕ). decoded ≡ slice_index_or (instrs ++ last ∷ []) i decoded) place is
+      ∙ get_or-append_seam instrs last [] decoded in
       let at : n ≡ k = omega arith in
-      subst (λ (f : Decoded). IsDecodedAt m (number * 4096 + k * 4) f) (sym same) (subst (λ (i : ℕ). IsDecodedAt m (number * 4096 + i * 4) last) at here)
+      subst (λ (f : Decoded). IsDecodedAt m (number * 4096 + k * 4) f) (sym same)
+      (subst (λ (i : ℕ). IsDecodedAt m (number * 4096 + i * 4) last) at here)
 
 -- ---- a space whose answer tells whether it stored
 
-pub store_keeps : {T E : Type 0} (r : Result T E) (old new : SpaceValue) (a : ℕ) (bytes : List ℕ) → OnOk r (IsTrue (writable (memory_of old) a (length bytes))) →
+pub store_keeps : {T E : Type 0} (r : Result T E) (old new : SpaceValue) (a : ℕ) (bytes : List ℕ) →
+    OnOk r (IsTrue (writable (memory_of old) a (length bytes))) →
     OnOk r (memory_of new ≡ stored a bytes (memory_of old)) → OnErr r (new ≡ old) → KeepsReadOnly (memory_of old) (memory_of new)
-store_keeps (Ok x) old new a bytes allowed done err = subst (λ (m : Memory). KeepsReadOnly (memory_of old) m) (sym done) (stored_keeps (memory_of old) a bytes allowed)
-store_keeps (Err e) old new a bytes allowed done err = subst (λ (s : SpaceValue). KeepsReadOnly (memory_of old) (memory_of s)) (sym err) (keeps (memory_of old))
+store_keeps (Ok x) old new a bytes allowed done err =
+    subst (λ (m : Memory). KeepsReadOnly (memory_of old) m) (sym done) (stored_keeps (memory_of old) a bytes allowed)
+store_keeps (Err e) old new a bytes allowed done err =
+    subst (λ (s : SpaceValue). KeepsReadOnly (memory_of old) (memory_of s)) (sym err) (keeps (memory_of old))
 
 -- words that are stored, one after another
-each_kept : (places bytes : List ℕ) (m : Memory) → length bytes ≡ 4 → all_writable m places ≡ true → KeepsReadOnly m (stored_at_each places bytes m)
+each_kept : (places bytes : List ℕ) (m : Memory) → length bytes ≡ 4 → all_writable m places ≡ true →
+    KeepsReadOnly m (stored_at_each places bytes m)
 unfolding stored_at_each all_writable
 each_kept [] bytes m len allowed = keeps m
 each_kept (a ∷ places) bytes m len allowed =
@@ -280,11 +302,14 @@ each_kept (a ∷ places) bytes m len allowed =
     keeps_more m (stored a bytes m) (stored_at_each places bytes (stored a bytes m)) (stored_keeps m a bytes here)
     (each_kept places bytes (stored a bytes m) len (allowed_after a bytes m places each.1))
 
-pub words_keep : {T E : Type 0} (r : Result T E) (old new : SpaceValue) (places bytes : List ℕ) → length bytes ≡ 4 → IsTrue (all_writable (memory_of old) places) →
-    OnOk r (memory_of new ≡ stored_at_each places bytes (memory_of old)) → OnErr r (new ≡ old) → KeepsReadOnly (memory_of old) (memory_of new)
+pub words_keep : {T E : Type 0} (r : Result T E) (old new : SpaceValue) (places bytes : List ℕ) → length bytes ≡ 4 →
+    IsTrue (all_writable (memory_of old) places) →
+    OnOk r (memory_of new ≡ stored_at_each places bytes (memory_of old)) → OnErr r (new ≡ old) →
+    KeepsReadOnly (memory_of old) (memory_of new)
 words_keep (Ok x) old new places bytes len allowed done err =
     subst (λ (m : Memory). KeepsReadOnly (memory_of old) m) (sym done) (each_kept places bytes (memory_of old) len allowed)
-words_keep (Err e) old new places bytes len allowed done err = subst (λ (s : SpaceValue). KeepsReadOnly (memory_of old) (memory_of s)) (sym err) (keeps (memory_of old))
+words_keep (Err e) old new places bytes len allowed done err =
+    subst (λ (s : SpaceValue). KeepsReadOnly (memory_of old) (memory_of s)) (sym err) (keeps (memory_of old))
 
 -- ---- pc stays a multiple of 4
 
@@ -348,7 +373,11 @@ executed_pc (Some (instrs.Sc ordering rd rs1 rs2)) h aligned =
     (if_pc (is_reserved h.reservation (register h.regs rs1)) _ _ (λ _. sets_pc rd 0 stored_there aligned) (sets_pc rd 1 after aligned))
 executed_pc (Some (instrs.Amo op ordering rd rs1 rs2)) h aligned =
     let old = word_at h.memory (register h.regs rs1) in
-    let stored_there : Hart = record h { memory = stores Sw (register h.regs rs1) (amo_value op (word_at h.memory (register h.regs rs1)) (register h.regs rs2)) h.memory } in
+    let stored_there : Hart =
+    record h {
+      memory = stores Sw (register h.regs rs1) (amo_value op (word_at h.memory (register h.regs rs1)) (register h.regs rs2))
+          h.memory;
+    } in
     atomic_pc (writable h.memory (register h.regs rs1) 4) _ (register h.regs rs1) _ (sets_pc rd _ stored_there aligned)
 
 word_pc : (r : Result ℕ FaultKind) (h : Hart) (x : Outcome) → h.regs.pc % 4 ≡ 0 → StepOfWord r h x → PcAfter x

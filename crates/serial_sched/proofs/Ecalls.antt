@@ -55,7 +55,15 @@ stores_take (Sc ordering rd rs1 rs2) h e = refl
 stores_take (Amo op ordering rd rs1 rs2) h e = refl
 
 store_takes : (h : Hart) → MayStore h → MayTakeMemory h
-store_takes h p = record { word = p.word; instr = p.instr; fetches = p.fetches; stands = p.stands; passes = stores_take p.instr h p.passes; goes = p.goes }
+store_takes h p =
+    record {
+      word = p.word;
+      instr = p.instr;
+      fetches = p.fetches;
+      stands = p.stands;
+      passes = stores_take p.instr h p.passes;
+      goes = p.goes;
+    }
 
 pub store_may_take : (s : State) (tid : ℕ) → ThreadMayStore s tid → ThreadMayTakeMemory s tid
 store_may_take s tid p = record { thread = p.thread; there = p.there; running = p.running; next = store_takes (hart_of s p.thread) p.next }

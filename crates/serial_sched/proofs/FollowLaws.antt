@@ -28,7 +28,8 @@ use Rattle.serial_sched.proofs.SliceLaws.{call_puts, ends_in_call}
 reaches_call : (old new : State) (tid count : ℕ) (r : CallRecord) (p : EndsInCall old tid count r new) → ReachesCall count tid old p.called
 reaches_call old new tid count r p = record { some = p.some; before = p.before; steps = p.steps; calls = p.calls }
 
-reaches_fault : (old new : State) (tid count : ℕ) (kind : FaultKind) (p : EndsInFault old tid count kind new) → ReachesFault count tid kind old p.before
+reaches_fault : (old new : State) (tid count : ℕ) (kind : FaultKind) (p : EndsInFault old tid count kind new) →
+    ReachesFault count tid kind old p.before
 reaches_fault old new tid count kind p = record { some = p.some; steps = p.steps; faults = p.faults }
 
 -- where no run has that end, no frame has it
@@ -46,18 +47,23 @@ pub other_than_steps : (end : RunEnd) (tid count : ℕ) (old mid : State) → en
 other_than_steps end tid count old mid other run new p =
     other (one_run_end end ends.Limit count tid old mid new (reached end count count tid old mid refl run) p)
 
-pub other_than_call : (end : RunEnd) (tid count : ℕ) (r : CallRecord) (old mid : State) → end ≢ ends.Call → RunsTo end count tid count old mid →
+pub other_than_call : (end : RunEnd) (tid count : ℕ) (r : CallRecord) (old mid : State) → end ≢ ends.Call →
+    RunsTo end count tid count old mid →
     (new : State) → EndsInCall old tid count r new → ⊥
 other_than_call end tid count r old mid other run new p =
-    other (one_run_end end ends.Call count tid old mid p.called (reached end count count tid old mid refl run) (reaches_call old new tid count r p))
+    other (one_run_end end ends.Call count tid old mid p.called (reached end count count tid old mid refl run)
+    (reaches_call old new tid count r p))
 
-pub other_than_fault : (end : RunEnd) (tid count : ℕ) (kind : FaultKind) (old mid : State) → end ≢ ends.Fault kind → RunsTo end count tid count old mid →
+pub other_than_fault : (end : RunEnd) (tid count : ℕ) (kind : FaultKind) (old mid : State) → end ≢ ends.Fault kind →
+    RunsTo end count tid count old mid →
     (new : State) → EndsInFault old tid count kind new → ⊥
 other_than_fault end tid count kind old mid other run new p =
-    other (one_run_end end (ends.Fault kind) count tid old mid p.before (reached end count count tid old mid refl run) (reaches_fault old new tid count kind p))
+    other (one_run_end end (ends.Fault kind) count tid old mid p.before (reached end count count tid old mid refl run)
+    (reaches_fault old new tid count kind p))
 
 -- where the call has another record, though it is answered as it is told
-pub other_record : {O : Type 0} (gives : O → Question → Answer → O → Type 0) (tid count : ℕ) (q r : CallRecord) (old called : State) (before after : O) →
+pub other_record : {O : Type 0} (gives : O → Question → Answer → O → Type 0) (tid count : ℕ) (q r : CallRecord) (old called : State)
+    (before after : O) →
     ((question : Question) (answer : Answer) → gives before question answer after → Recalls (answered r.written) question answer) →
     q ≢ r → RunsToCall count tid count old called → CallIsAnswered gives called tid (thread_at called tid) q before after →
     (new : State) → EndsInCall old tid count r new → ⊥
@@ -70,35 +76,44 @@ other_record gives tid count q r old called before after recalls other run found
 
 -- ---- what is followed
 
-pub call_followed : (tid count : ℕ) (q r : CallRecord) (answer : Answer) (old called after : State) → q ≡ r → RunsToCall count tid count old called →
+pub call_followed : (tid count : ℕ) (q r : CallRecord) (answer : Answer) (old called after : State) → q ≡ r →
+    RunsToCall count tid count old called →
     Calls called tid answer q after → EndsInCall old tid count r (closed after)
 call_followed tid count q r answer old called after e run calls =
-    ends_in_call count tid count old called after (closed after) answer r run (subst (λ (t : CallRecord). Calls called tid answer t after) e calls) refl
+    ends_in_call count tid count old called after (closed after) answer r run
+    (subst (λ (t : CallRecord). Calls called tid answer t after) e calls) refl
 
 -- a call finds no memory
-pub call_meets : (limit tid count : ℕ) (old called : State) → RunsToCall limit tid count old called → CallMayGrow called tid (thread_at called tid) →
+pub call_meets : (limit tid count : ℕ) (old called : State) → RunsToCall limit tid count old called →
+    CallMayGrow called tid (thread_at called tid) →
     CallMeetsNoMemory old tid count
 call_meets limit tid count old called p grows =
     record { called = called; reaches = call_reached limit count tid old called p; grows = grows }
 
-pub call_put : (tid count : ℕ) (q r : CallRecord) (answer : Answer) (old called after : State) (chunks : List Chunk) → q ≡ r → RunsToCall count tid count old called →
-    Calls called tid answer q after → chunks ≡ put_out_by (thread_at called tid) called.memory q.result → CallPutsAt old tid count r.result chunks
+pub call_put : (tid count : ℕ) (q r : CallRecord) (answer : Answer) (old called after : State) (chunks : List Chunk) → q ≡ r →
+    RunsToCall count tid count old called →
+    Calls called tid answer q after → chunks ≡ put_out_by (thread_at called tid) called.memory q.result →
+    CallPutsAt old tid count r.result chunks
 call_put tid count q r answer old called after chunks e run calls puts =
-    subst (λ (t : CallRecord). CallPutsAt old tid count t.result chunks) e (call_puts count tid count old called after answer q chunks run calls puts)
+    subst (λ (t : CallRecord). CallPutsAt old tid count t.result chunks) e
+    (call_puts count tid count old called after answer q chunks run calls puts)
 
 -- ---- a frame by its end
 
 module _ {T : Type 0} (f : Frame) (old new : State) where
-  pub frame_followed : (r : Result T FollowFault) → old.ended ≡ None → f.count ≤ MAX_QUANTUM → Follows f.end old f.tid f.count r new → OnOk r (FrameStep old f new)
+  pub frame_followed : (r : Result T FollowFault) → old.ended ≡ None → f.count ≤ MAX_QUANTUM → Follows f.end old f.tid f.count r new →
+      OnOk r (FrameStep old f new)
   frame_followed (Ok x) runs limit follows = record { runs = runs; limit = limit; goes = follows }
   frame_followed (Err e) runs limit follows = tt
 
-  pub frame_goes_nowhere : (r : Result T FollowFault) → Follows f.end old f.tid f.count r new → IsErrOf r faults.GoesNowhere → (other : State) → FrameStep old f other → ⊥
+  pub frame_goes_nowhere : (r : Result T FollowFault) → Follows f.end old f.tid f.count r new → IsErrOf r faults.GoesNowhere →
+      (other : State) → FrameStep old f other → ⊥
   frame_goes_nowhere (Ok x) follows e other p = cc
   frame_goes_nowhere (Err faults.GoesNowhere) follows e other p = follows other p.goes
   frame_goes_nowhere (Err faults.Memory) follows e other p = cc
 
-  pub frame_meets : (r : Result T FollowFault) → old.ended ≡ None → f.count ≤ MAX_QUANTUM → Follows f.end old f.tid f.count r new → IsErrOf r faults.Memory → FrameMeetsNoMemory old f
+  pub frame_meets : (r : Result T FollowFault) → old.ended ≡ None → f.count ≤ MAX_QUANTUM → Follows f.end old f.tid f.count r new →
+      IsErrOf r faults.Memory → FrameMeetsNoMemory old f
   frame_meets (Ok x) runs limit follows e = absurd cc
   frame_meets (Err faults.GoesNowhere) runs limit follows e = absurd cc
   frame_meets (Err faults.Memory) runs limit follows e = record { runs = runs; limit = limit; meets = follows }
@@ -111,7 +126,8 @@ pub again : {A B E : Type 0} (r : Result A E) (y x f : E) → r ≡ Err y → y 
 again r y x f p q e = let w : x ≡ f = sym q ∙ one_error r y f p e in ap Err w
 
 -- at that exit the error is the one that was found
-pub refused : {A B : Type 0} (r : Result A FollowFault) (x : FollowFault) (end : End) (tid count : ℕ) (old new : State) → IsErrAnd r (λ y. y ≡ x) →
+pub refused : {A B : Type 0} (r : Result A FollowFault) (x : FollowFault) (end : End) (tid count : ℕ) (old new : State) →
+    IsErrAnd r (λ y. y ≡ x) →
     (IsErrOf {T = B} (Err x) faults.GoesNowhere → (other : State) → FrameStepBy end old tid count other → ⊥) →
     (IsErrOf {T = B} (Err x) faults.Memory → EndMeetsNoMemory end old tid count) → Follows end old tid count r new
 refused (Ok y) x end tid count old new is nowhere memory = absurd is

@@ -41,7 +41,8 @@ called_harts g h e = cc
 
 pub one_call_from : (s : State) (tid : ℕ) (after after' : State) → CallsFrom s tid after → CallsFrom s tid after' → after ≡ after'
 one_call_from s tid after after' p q =
-    let hart : p.hart ≡ q.hart = called_harts p.hart q.hart (one_outcome_of s tid p.thread q.thread (Called p.hart) (Called q.hart) p.step q.step) in
+    let hart : p.hart ≡ q.hart =
+    called_harts p.hart q.hart (one_outcome_of s tid p.thread q.thread (Called p.hart) (Called q.hart) p.step q.step) in
     let thread : p.thread ≡ q.thread = same_thread _ _ _ p.step.there q.step.there in
     p.after_is ∙ (λ i. with_hart tid (thread i) (hart i) s) ∙ sym q.after_is
 
@@ -59,7 +60,8 @@ longer (suc n) (suc m) tid s a b h p q =
 no_longer_than_call : (n m tid : ℕ) (s x a b : State) → n < m → Steps n tid s x → CallsFrom x tid a → Steps m tid s b → ⊥
 no_longer_than_call n m tid s x a b h p calls q = let on = longer n m tid s x b h p q in no_step_at_call x tid a on.0 calls on.1
 
-no_longer_than_fault : (n m tid : ℕ) (kind : FaultKind) (s x b : State) → n < m → Steps n tid s x → FaultsFrom x tid kind → Steps m tid s b → ⊥
+no_longer_than_fault : (n m tid : ℕ) (kind : FaultKind) (s x b : State) → n < m → Steps n tid s x → FaultsFrom x tid kind →
+    Steps m tid s b → ⊥
 no_longer_than_fault n m tid kind s x b h p faults q = let on = longer n m tid s x b h p q in no_step_at_fault x tid kind on.0 faults on.1
 
 -- ---- runs and their ends
@@ -82,7 +84,8 @@ past_call ends.Call n m tid s x a b h p calls q = no_longer_than_call n (m - 1) 
 past_call (ends.Fault kind) n m tid s x a b h p calls q = no_longer_than_call n (m - 1) tid s x a b (omega arith) p calls q.steps
 past_call ends.Memory n m tid s x a b h p calls q = q
 
-past_fault : (end : RunEnd) (n m tid : ℕ) (kind : FaultKind) (s x b : State) → n + 1 < m → Steps n tid s x → FaultsFrom x tid kind → Reaches end m tid s b → ⊥
+past_fault : (end : RunEnd) (n m tid : ℕ) (kind : FaultKind) (s x b : State) → n + 1 < m → Steps n tid s x → FaultsFrom x tid kind →
+    Reaches end m tid s b → ⊥
 past_fault ends.Limit n m tid kind s x b h p faults q = no_longer_than_fault n m tid kind s x b (omega arith) p faults q
 past_fault ends.Call n m tid kind s x b h p faults q = no_longer_than_fault n (m - 1) tid kind s x q.before (omega arith) p faults q.steps
 past_fault (ends.Fault other) n m tid kind s x b h p faults q = no_longer_than_fault n (m - 1) tid kind s x b (omega arith) p faults q.steps
@@ -110,7 +113,8 @@ steps_or_call n tid s a b p q = let some = q.some in no_longer_than_call (n - 1)
 steps_or_fault : (n tid : ℕ) (kind : FaultKind) (s a b : State) → Steps n tid s a → ReachesFault n tid kind s b → ⊥
 steps_or_fault n tid kind s a b p q = let some = q.some in no_longer_than_fault (n - 1) n tid kind s b a (omega arith) q.steps q.faults p
 
-fault_or_fault : (n tid : ℕ) (kind kind' : FaultKind) (s a b : State) → ReachesFault n tid kind s a → ReachesFault n tid kind' s b → kind ≡ kind'
+fault_or_fault : (n tid : ℕ) (kind kind' : FaultKind) (s a b : State) → ReachesFault n tid kind s a → ReachesFault n tid kind' s b →
+    kind ≡ kind'
 fault_or_fault n tid kind kind' s a b p q =
     let e : b ≡ a = one_end (n - 1) tid s b a q.steps p.steps in
     one_kind a tid kind kind' p.faults (subst (λ (x : State). FaultsFrom x tid kind') e q.faults)

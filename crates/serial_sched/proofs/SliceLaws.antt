@@ -32,7 +32,8 @@ use Rattle.serial_sched.proofs.Ecalls.{call_may_take, store_may_take}
 -- ---- what a call puts out
 
 -- the thread there is changed
-changed_there : (tid : ℕ) (change : Thread → Thread) (s : State) (t : Thread) → thread_at s tid ≡ Some t → change_thread tid change s ≡ with_thread tid (change t) s
+changed_there : (tid : ℕ) (change : Thread → Thread) (s : State) (t : Thread) → thread_at s tid ≡ Some t →
+    change_thread tid change s ≡ with_thread tid (change t) s
 changed_there tid change s t there = rw there refl
 
 -- the thread at its ECALL, from the one behind it
@@ -55,8 +56,10 @@ same_put tid count before called t there back =
     ∙ sym (ap (λ (o : Option Thread). put_out_by o called.memory count) (get-insert_same called.threads tid (at_ecall t)))
     ∙ sym (ap (λ (s : State). put_out_by (thread_at s tid) s.memory count) is)
 
-pub call_puts : (limit tid count : ℕ) (s called after : State) (answer : Answer) (r : CallRecord) (chunks : List Chunk) → RunsToCall limit tid count s called →
-    Calls called tid answer r after → chunks ≡ put_out_by (thread_at called tid) called.memory r.result → CallPutsAt s tid count r.result chunks
+pub call_puts : (limit tid count : ℕ) (s called after : State) (answer : Answer) (r : CallRecord) (chunks : List Chunk) →
+    RunsToCall limit tid count s called →
+    Calls called tid answer r after → chunks ≡ put_out_by (thread_at called tid) called.memory r.result →
+    CallPutsAt s tid count r.result chunks
 call_puts limit tid count s called after answer r chunks p calls puts =
     (p.before, p.steps, puts ∙ same_put tid r.result p.before called calls.thread calls.there p.back)
 
@@ -77,7 +80,8 @@ grow_may_take s tid (inl stores) = store_may_take s tid stores
 grow_may_take s tid (inr calls) = call_may_take s tid calls.called calls.calls
 
 -- a run to a call and what the call does end a slice
-pub ends_in_call : (limit tid count : ℕ) (s called after new : State) (answer : Answer) (r : CallRecord) → RunsToCall limit tid count s called →
+pub ends_in_call : (limit tid count : ℕ) (s called after new : State) (answer : Answer) (r : CallRecord) →
+    RunsToCall limit tid count s called →
     Calls called tid answer r after → new ≡ closed after → EndsInCall s tid count r new
 ends_in_call limit tid count s called after new answer r p calls closes = record {
   some = p.some;
@@ -109,7 +113,8 @@ abbrev preempt : Choice → ℕ → Frame
 preempt choice count = record { tid = choice.tid; count = count; end = ends.Preempt }
 
 -- a slice whose frame ends in no call
-quiet_slice : {O : Type 0} (gives : Gives O) (old new : GuestValue) (choice : Choice) (before after : O) (f : Frame) → call_in f.end ≡ None →
+quiet_slice : {O : Type 0} (gives : Gives O) (old new : GuestValue) (choice : Choice) (before after : O) (f : Frame) →
+    call_in f.end ≡ None →
     FrameStep (state_of old) f (state_of new) → HasFrameText f.end f.tid f.count → FitsChoice f.end (state_of old) f choice →
     Counts old f.count new before after → IsSliceOf gives old choice f new before after
 quiet_slice gives old new choice before after f none frame text fits counts = record {
@@ -125,7 +130,8 @@ quiet_slice gives old new choice before after f none frame text fits counts = re
 }
 
 -- what comes of a slice that ends before an instruction which found no memory: none where it would be the first one
-pub record StopsShort {O E : Type 0} (gives : Gives O) (old new : GuestValue) (choice : Choice) (before after : O) (r : Result Frame E) : Type 0 where
+pub record StopsShort {O E : Type 0} (gives : Gives O) (old new : GuestValue) (choice : Choice) (before after : O) (r : Result Frame E) :
+    Type 0 where
   pub slice : IfOk r (λ f. IsSliceOf gives old choice f new before after)
   pub memory : OnErr r (ThreadMayTakeMemory (state_of old) choice.tid)
   pub grows : OnErr r (NextMayGrow (state_of old) choice.tid)
@@ -135,7 +141,8 @@ pub record StopsShort {O E : Type 0} (gives : Gives O) (old new : GuestValue) (c
 counted_none : (n : ℕ) → n < 2 ^ 64 → counted n 0 ≡ n
 counted_none n low = omega arith
 
-module _ {O : Type 0} (gives : Gives O) (old new : GuestValue) (choice : Choice) (before after : O) (can : CanRun (state_of old) choice) where
+module _ {O : Type 0} (gives : Gives O) (old new : GuestValue) (choice : Choice) (before after : O)
+    (can : CanRun (state_of old) choice) where
   counted_text : (count : ℕ) → 1 ≤ count → count ≤ choice.quantum → HasTidAndCount choice.tid count
   counted_text count some within =
       let most = can.quantum.1 in record { tid_low = can.tid.0; tid_high = can.tid.1; count_low = some; count_high = omega arith }
@@ -156,11 +163,13 @@ module _ {O : Type 0} (gives : Gives O) (old new : GuestValue) (choice : Choice)
   limit_slice f count last is e steps closes counts =
       let least = can.quantum.0 in
       same_frame gives old new choice before after (preempt choice count) f is
-      (preempted count last (omega arith) (omega arith) (subst (λ n. Steps n choice.tid (state_of old) last) (sym e) steps) (inl e) closes counts)
+      (preempted count last (omega arith) (omega arith) (subst (λ n. Steps n choice.tid (state_of old) last) (sym e) steps) (inl e) closes
+      counts)
 
   -- less, since there was no memory
   pub stops_short : {E : Type 0} (r : Result Frame E) (count : ℕ) (last : State) → old.ran < 2 ^ 64 → count < choice.quantum →
-      Steps count choice.tid (state_of old) last → NextMayGrow last choice.tid → OnOk r (1 ≤ count) → IfOk r (λ f. f ≡ preempt choice count) →
+      Steps count choice.tid (state_of old) last → NextMayGrow last choice.tid → OnOk r (1 ≤ count) →
+      IfOk r (λ f. f ≡ preempt choice count) →
       OnOk r (state_of new ≡ closed last) → OnErr r (count ≡ 0) → OnErr r (state_of new ≡ last) → Counts old count new before after →
       StopsShort gives old new choice before after r
   stops_short (Ok f) count last low within steps grows some frame closes none same counts =
@@ -168,7 +177,12 @@ module _ {O : Type 0} (gives : Gives O) (old new : GuestValue) (choice : Choice)
       let slice : IsSliceOf gives old choice (preempt choice count) new before after =
       preempted count last some (omega arith) steps
       (inr (within, record { last = last; steps = steps; takes = takes; grows = grows })) closes counts in
-      record { slice = same_frame gives old new choice before after (preempt choice count) f frame slice; memory = tt; grows = tt; refused = tt }
+      record {
+        slice = same_frame gives old new choice before after (preempt choice count) f frame slice;
+        memory = tt;
+        grows = tt;
+        refused = tt;
+      }
   stops_short (Err x) count last low within steps grows some frame closes none same counts =
       let stays : last ≡ state_of old = subst (λ (n : ℕ). Steps n choice.tid (state_of old) last) none steps in
       let first : NextMayGrow (state_of old) choice.tid = subst (λ (s : State). NextMayGrow s choice.tid) stays grows in
@@ -189,12 +203,14 @@ module _ {O : Type 0} (gives : Gives O) (old new : GuestValue) (choice : Choice)
   pub call_stops_short : {E : Type 0} (r : Result Frame E) (count : ℕ) (called back : State) → old.ran < 2 ^ 64 →
       RunsToCall choice.quantum choice.tid count (state_of old) called → CallMayGrow called choice.tid (thread_at called choice.tid) →
       back ≡ before_call choice.tid called → OnOk r (1 ≤ count - 1) → IfOk r (λ f. f ≡ preempt choice (count - 1)) →
-      OnOk r (state_of new ≡ closed back) → OnErr r (count - 1 ≡ 0) → OnErr r (state_of new ≡ back) → Counts old (count - 1) new before after →
+      OnOk r (state_of new ≡ closed back) → OnErr r (count - 1 ≡ 0) → OnErr r (state_of new ≡ back) →
+      Counts old (count - 1) new before after →
       StopsShort gives old new choice before after r
   call_stops_short r count called back low p grows e some frame closes none same counts =
       let least = p.some in let within = p.within in
       let at : back ≡ p.before = e ∙ p.back in
-      stops_short r (count - 1) back low (omega arith) (subst (λ (x : State). Steps (count - 1) choice.tid (state_of old) x) (sym at) p.steps)
+      stops_short r (count - 1) back low (omega arith)
+      (subst (λ (x : State). Steps (count - 1) choice.tid (state_of old) x) (sym at) p.steps)
       (subst (λ (x : State). NextMayGrow x choice.tid) (sym at) (inr (record { called = called; calls = p.calls; grows = grows })))
       some frame closes none same counts
 

@@ -83,10 +83,12 @@ module _ {C : Type 0} (chooses : Choosing C) where
   }
 
   -- the chooser had no choice left
-  pub makes_left : (r : GuestRecorder) (c c' : C) → Picks chooses (state_of r.guest) c None c' → MakesChosen chooses r c r (IsLeftWith chooses c' (state_of r.guest))
+  pub makes_left : (r : GuestRecorder) (c c' : C) → Picks chooses (state_of r.guest) c None c' →
+      MakesChosen chooses r c r (IsLeftWith chooses c' (state_of r.guest))
   makes_left r c c' picks = makes_none r c (IsLeftWith chooses c' (state_of r.guest)) (inr picks)
 
-  pub makes_unmoved : {O : Type 0} (a b : GuestRecorder) (before after : O) (c : C) (E : C → Type 0) → E c → IsUnmoved a b before after → MakesChosen chooses a c b E
+  pub makes_unmoved : {O : Type 0} (a b : GuestRecorder) (before after : O) (c : C) (E : C → Type 0) → E c → IsUnmoved a b before after →
+      MakesChosen chooses a c b E
   makes_unmoved a b before after c E e h = record {
     frames = [];
     made_are = (λ i. frames_in ((h.seat i).sent ++ h.backlog i)) ∙ sym (append-nil (frames_in (made a)));
@@ -96,7 +98,8 @@ module _ {C : Type 0} (chooses : Choosing C) where
     ends = e;
   }
 
-  pub makes_kept : (o a b : GuestRecorder) (c : C) (E : C → Type 0) → KeepsMade a b → MakesChosen chooses o c a E → MakesChosen chooses o c b E
+  pub makes_kept : (o a b : GuestRecorder) (c : C) (E : C → Type 0) → KeepsMade a b → MakesChosen chooses o c a E →
+      MakesChosen chooses o c b E
   makes_kept o a b c E keeps p = record {
     frames = p.frames;
     made_are = ap (λ (l : List Record). frames_in l) keeps.made_is ∙ p.made_are;
@@ -106,7 +109,8 @@ module _ {C : Type 0} (chooses : Choosing C) where
     ends = p.ends;
   }
 
-  pub makes_both : (o a b : GuestRecorder) (c c' : C) (E : C → Type 0) → MakesChosen chooses o c a (λ last. c' ≡ last) → MakesChosen chooses a c' b E → MakesChosen chooses o c b E
+  pub makes_both : (o a b : GuestRecorder) (c c' : C) (E : C → Type 0) → MakesChosen chooses o c a (λ last. c' ≡ last) →
+      MakesChosen chooses a c' b E → MakesChosen chooses o c b E
   makes_both o a b c c' E p q = record {
     frames = p.frames ++ q.frames;
     made_are = q.made_are ∙ ap (λ (l : List Frame). l ++ q.frames) p.made_are ∙ append_assoc (frames_in (made o)) p.frames q.frames;
@@ -118,13 +122,16 @@ module _ {C : Type 0} (chooses : Choosing C) where
   }
 
   -- a step was refused, and its choice is lost
-  pub makes_lost : {O : Type 0} (a b : GuestRecorder) (choice : Choice) (before after : O) (c c' : C) → IsUnmoved a b before after → Picks chooses (state_of a.guest) c (Some choice) c'
+  pub makes_lost : {O : Type 0} (a b : GuestRecorder) (choice : Choice) (before after : O) (c c' : C) → IsUnmoved a b before after →
+      Picks chooses (state_of a.guest) c (Some choice) c'
       → MakesChosen chooses a c b (IsAskedOnce chooses c' (state_of b.guest))
   makes_lost a b choice before after c c' h picks =
-      makes_unmoved a b before after c (IsAskedOnce chooses c' (state_of b.guest)) (inr (Some choice, subst (λ (s : State). Picks chooses s c (Some choice) c') (sym h.state) picks)) h
+      makes_unmoved a b before after c (IsAskedOnce chooses c' (state_of b.guest))
+      (inr (Some choice, subst (λ (s : State). Picks chooses s c (Some choice) c') (sym h.state) picks)) h
 
   -- one frame
-  pub makes_one : {O : Type 0} (gives : Gives O) (a b : GuestRecorder) (choice : Choice) (outcome : Parts) (before after : O) (c c' : C) → HasStepped gives a choice outcome b before after
+  pub makes_one : {O : Type 0} (gives : Gives O) (a b : GuestRecorder) (choice : Choice) (outcome : Parts) (before after : O) (c c' : C) →
+      HasStepped gives a choice outcome b before after
       → Picks chooses (state_of a.guest) c (Some choice) c' → MakesChosen chooses a c b (λ last. c' ≡ last)
   makes_one gives a b choice outcome before after c c' h picks =
       let f = h.makes.frame in
@@ -132,13 +139,20 @@ module _ {C : Type 0} (chooses : Choosing C) where
       let more = part_records h.between h.keeps.parts in
       let made_is : made b ≡ (made a ++ r ∷ []) ++ more = h.keeps.made_is ∙ ap (λ (l : List Record). l ++ more) h.makes.made_is in
       let none : frames_in more ≡ [] = no_frames h.between.seat.guest (length (made h.between)) h.keeps.parts in
-      let step : FrameStep (state_of a.guest) f (state_of b.guest) = subst (λ (s : State). FrameStep (state_of a.guest) f s) (sym h.keeps.guest.0) h.makes.slice.slice.frame in
+      let step : FrameStep (state_of a.guest) f (state_of b.guest) =
+      subst (λ (s : State). FrameStep (state_of a.guest) f s) (sym h.keeps.guest.0) h.makes.slice.slice.frame in
       record {
         frames = f ∷ [];
-        made_are = ap (λ (l : List Record). frames_in l) made_is ∙ frames_append (made a ++ r ∷ []) more ∙ ap (λ (l : List Frame). frames_in (made a ++ r ∷ []) ++ l) none
+        made_are = ap (λ (l : List Record). frames_in l) made_is ∙ frames_append (made a ++ r ∷ []) more
+            ∙ ap (λ (l : List Frame). frames_in (made a ++ r ∷ []) ++ l) none
             ∙ append-nil (frames_in (made a ++ r ∷ [])) ∙ frames_append (made a) (r ∷ []);
         last = c';
-        chosen = (state_of b.guest, c', record { step = step; choice = choice; picks = picks; fits = h.makes.slice.slice.fits }, (refl, refl));
+        chosen = (
+          state_of b.guest,
+          c',
+          record { step = step; choice = choice; picks = picks; fits = h.makes.slice.slice.fits },
+          (refl, refl),
+        );
         ran = counts_one a.guest.ran b.guest.ran f (h.keeps.guest.1 ∙ h.makes.slice.slice.ran);
         ends = refl;
       }
@@ -150,17 +164,29 @@ module _ {C : Type 0} (chooses : Choosing C) where
   goes_round turns.Held new s last other h = h
   goes_round turns.Waits new s last other h = h
 
-  pub makes_round : (a b : GuestRecorder) (c c' : C) (turn : Turn) → turn ≢ turns.Over → MakesChosen chooses a c b (TurnLeaves chooses turn c' (state_of b.guest)) → MakesChosen chooses a c b (λ last. c' ≡ last)
-  makes_round a b c c' turn other p = record { frames = p.frames; made_are = p.made_are; last = p.last; chosen = p.chosen; ran = p.ran; ends = goes_round turn c' (state_of b.guest) p.last other p.ends }
+  pub makes_round : (a b : GuestRecorder) (c c' : C) (turn : Turn) → turn ≢ turns.Over →
+      MakesChosen chooses a c b (TurnLeaves chooses turn c' (state_of b.guest)) → MakesChosen chooses a c b (λ last. c' ≡ last)
+  makes_round a b c c' turn other p =
+      record {
+        frames = p.frames;
+        made_are = p.made_are;
+        last = p.last;
+        chosen = p.chosen;
+        ran = p.ran;
+        ends = goes_round turn c' (state_of b.guest) p.last other p.ends;
+      }
 
-  pub makes_over : (a b : GuestRecorder) (c c' : C) (turn : Turn) → turn ≡ turns.Over → MakesChosen chooses a c b (TurnLeaves chooses turn c' (state_of b.guest))
+  pub makes_over : (a b : GuestRecorder) (c c' : C) (turn : Turn) → turn ≡ turns.Over →
+      MakesChosen chooses a c b (TurnLeaves chooses turn c' (state_of b.guest))
       → MakesChosen chooses a c b (IsLeftWith chooses c' (state_of b.guest))
   makes_over a b c c' turn over p = subst (λ (t : Turn). MakesChosen chooses a c b (TurnLeaves chooses t c' (state_of b.guest))) over p
 
   -- ---- what is left of the chooser, by what was met
 
-  makes_weaker : (o a : GuestRecorder) (c : C) (E F : C → Type 0) → ((last : C) → E last → F last) → MakesChosen chooses o c a E → MakesChosen chooses o c a F
-  makes_weaker o a c E F weaker p = record { frames = p.frames; made_are = p.made_are; last = p.last; chosen = p.chosen; ran = p.ran; ends = weaker p.last p.ends }
+  makes_weaker : (o a : GuestRecorder) (c : C) (E F : C → Type 0) → ((last : C) → E last → F last) → MakesChosen chooses o c a E →
+      MakesChosen chooses o c a F
+  makes_weaker o a c E F weaker p =
+      record { frames = p.frames; made_are = p.made_are; last = p.last; chosen = p.chosen; ran = p.ran; ends = weaker p.last p.ends }
 
   leaves_same : (e : WorkFault) (new : C) (s : State) (last : C) → new ≡ last → WorkLeaves chooses (Err e) new s last
   leaves_same work_faults.Halted new s last same = inl same
@@ -169,17 +195,23 @@ module _ {C : Type 0} (chooses : Choosing C) where
   leaves_same work_faults.Memory new s last same = inl same
 
   -- the chooser is the one that the frames lead to
-  pub makes_met : (o a : GuestRecorder) (c c' : C) (e : WorkFault) → MakesChosen chooses o c a (λ last. c' ≡ last) → MakesChosen chooses o c a (WorkLeaves chooses (Err e) c' (state_of a.guest))
-  makes_met o a c c' e p = makes_weaker o a c (λ last. c' ≡ last) (WorkLeaves chooses (Err e) c' (state_of a.guest)) (λ last same. leaves_same e c' (state_of a.guest) last same) p
+  pub makes_met : (o a : GuestRecorder) (c c' : C) (e : WorkFault) → MakesChosen chooses o c a (λ last. c' ≡ last) →
+      MakesChosen chooses o c a (WorkLeaves chooses (Err e) c' (state_of a.guest))
+  makes_met o a c c' e p =
+      makes_weaker o a c (λ last. c' ≡ last) (WorkLeaves chooses (Err e) c' (state_of a.guest))
+      (λ last same. leaves_same e c' (state_of a.guest) last same) p
 
-  pub makes_asked : (o a : GuestRecorder) (c c' : C) (e : WorkFault) → e ≡ work_faults.Memory → MakesChosen chooses o c a (IsAskedOnce chooses c' (state_of a.guest))
+  pub makes_asked : (o a : GuestRecorder) (c c' : C) (e : WorkFault) → e ≡ work_faults.Memory →
+      MakesChosen chooses o c a (IsAskedOnce chooses c' (state_of a.guest))
       → MakesChosen chooses o c a (WorkLeaves chooses (Err e) c' (state_of a.guest))
-  makes_asked o a c c' e is p = subst (λ (x : WorkFault). MakesChosen chooses o c a (WorkLeaves chooses (Err x) c' (state_of a.guest))) (sym is) p
+  makes_asked o a c c' e is p =
+      subst (λ (x : WorkFault). MakesChosen chooses o c a (WorkLeaves chooses (Err x) c' (state_of a.guest))) (sym is) p
 
   asked : (new : C) (s : State) (last : C) → IsLeftWith chooses new s last → IsAskedOnce chooses new s last
   asked new s last left = elim left [ inl same ↦ inl same | inr picks ↦ inr (None, picks) ]
 
-  leaves_left : (e : RecorderFault) (new : C) (s : State) (last : C) → IsLeftWith chooses new s last → WorkLeaves chooses (Err (work_told e)) new s last
+  leaves_left : (e : RecorderFault) (new : C) (s : State) (last : C) → IsLeftWith chooses new s last →
+      WorkLeaves chooses (Err (work_told e)) new s last
   leaves_left recorder_faults.Halted new s last left = left
   leaves_left (recorder_faults.SinkFailed taken) new s last left = left
   leaves_left recorder_faults.Full new s last left = asked new s last left
@@ -189,13 +221,16 @@ module _ {C : Type 0} (chooses : Choosing C) where
   leaves_left recorder_faults.BadOpening new s last left = asked new s last left
 
   -- a recorder that had no frame to make met a fault
-  pub makes_settled : (o a : GuestRecorder) (c c' : C) (e : RecorderFault) (fault : WorkFault) → fault ≡ work_told e → MakesChosen chooses o c a (IsLeftWith chooses c' (state_of a.guest))
+  pub makes_settled : (o a : GuestRecorder) (c c' : C) (e : RecorderFault) (fault : WorkFault) → fault ≡ work_told e →
+      MakesChosen chooses o c a (IsLeftWith chooses c' (state_of a.guest))
       → MakesChosen chooses o c a (WorkLeaves chooses (Err fault) c' (state_of a.guest))
   makes_settled o a c c' e fault is p =
       subst (λ (x : WorkFault). MakesChosen chooses o c a (WorkLeaves chooses (Err x) c' (state_of a.guest))) (sym is)
-      (makes_weaker o a c (IsLeftWith chooses c' (state_of a.guest)) (WorkLeaves chooses (Err (work_told e)) c' (state_of a.guest)) (λ last left. leaves_left e c' (state_of a.guest) last left) p)
+      (makes_weaker o a c (IsLeftWith chooses c' (state_of a.guest)) (WorkLeaves chooses (Err (work_told e)) c' (state_of a.guest))
+      (λ last left. leaves_left e c' (state_of a.guest) last left) p)
 
-  pub makes_fault : (o a : GuestRecorder) (c c' : C) (guest : ℕ) (s : State) (e : WorkFault) → MakesChosen chooses o c a (WorkLeaves chooses (Err e) c' s)
+  pub makes_fault : (o a : GuestRecorder) (c c' : C) (guest : ℕ) (s : State) (e : WorkFault) →
+      MakesChosen chooses o c a (WorkLeaves chooses (Err e) c' s)
       → MakesChosen chooses o c a (LeavesChooser chooses (fault_told guest e) c' s)
   makes_fault o a c c' guest s work_faults.Halted p = p
   makes_fault o a c c' guest s work_faults.SinkFailed p = p
@@ -225,15 +260,18 @@ module _ {C O S : Type 0} (chooses : Choosing C) (job : Job C O S) where
       record {
         state = state_of new.guest;
         last = p.last;
-        chosen = subst (λ (x : State × List Frame). AreChosen chooses x.0 job.chooser x.1 (state_of new.guest) p.last) (λ i. (start.state i, sym same i)) p.chosen;
+        chosen = subst (λ (x : State × List Frame). AreChosen chooses x.0 job.chooser x.1 (state_of new.guest) p.last)
+            (λ i. (start.state i, sym same i)) p.chosen;
         ends = (refl, p.ends);
       }
 
   -- a recorder of the job's opening alone
-  pub at_start : (r : GuestRecorder) (guest : ℕ) (o : Opening) → made r ≡ opening_record guest o ∷ [] → HasRecorded r → r.guest.ran ≡ 0 → o ≡ record { elf = vec_items job.elf; name = vec_items job.name; random = job.random }
+  pub at_start : (r : GuestRecorder) (guest : ℕ) (o : Opening) → made r ≡ opening_record guest o ∷ [] → HasRecorded r → r.guest.ran ≡ 0 →
+      o ≡ record { elf = vec_items job.elf; name = vec_items job.name; random = job.random }
       → IsAtStart job r
   at_start r guest o is recorded ran o_is =
-      let e : EndsIn (items_of (opening_record guest o ∷ [])) (state_of r.guest) = subst (λ (l : List Record). EndsIn (items_of l) (state_of r.guest)) is recorded.ends in
+      let e : EndsIn (items_of (opening_record guest o ∷ [])) (state_of r.guest) =
+      subst (λ (l : List Record). EndsIn (items_of l) (state_of r.guest)) is recorded.ends in
       record {
         none = ap (λ (l : List Record). frames_in l) is;
         state = e.2.1 ∙ e.1.state_is ∙ ap (λ (p : Opening). opening_state p.elf p.name p.random) o_is;
@@ -243,7 +281,8 @@ module _ {C O S : Type 0} (chooses : Choosing C) (job : Job C O S) where
   pub none_chosen : HasChosen chooses job [] (λ _ _. Unit {0})
   none_chosen = record { state = start_of job; last = job.chooser; chosen = (refl, refl); ends = tt }
 
-  pub front_chosen : (xs ys : List Record) (E : State → C → Type 0) → HasChosen chooses job (xs ++ ys) E → HasChosen chooses job xs (λ _ _. Unit {0})
+  pub front_chosen : (xs ys : List Record) (E : State → C → Type 0) → HasChosen chooses job (xs ++ ys) E →
+      HasChosen chooses job xs (λ _ _. Unit {0})
   front_chosen xs ys E h =
       let r = beginnings_are_chosen chooses (frames_in xs) (frames_in ys) (start_of job) h.state job.chooser h.last
       (subst (λ (l : List Frame). AreChosen chooses (start_of job) job.chooser l h.state h.last) (frames_append xs ys) h.chosen) in
@@ -268,7 +307,8 @@ module _ {C O S : Type 0} (chooses : Choosing C) (job : Job C O S) where
 
   pub first_on : (k : ℕ) (xs : List Record) (E : State → C → Type 0) → HasChosenOn chooses job xs E → HasChosenOn chooses job (take k xs) E
   first_on k xs E h =
-      let whole : frames_in xs ≡ frames_in (take k xs) ++ frames_in (drop k xs) = ap (λ (l : List Record). frames_in l) (sym (take-append-drop k xs)) ∙ frames_append (take k xs) (drop k xs) in
+      let whole : frames_in xs ≡ frames_in (take k xs) ++ frames_in (drop k xs) =
+      ap (λ (l : List Record). frames_in l) (sym (take-append-drop k xs)) ∙ frames_append (take k xs) (drop k xs) in
       record {
         behind = frames_in (drop k xs) ++ h.behind;
         state = h.state;
@@ -278,22 +318,28 @@ module _ {C O S : Type 0} (chooses : Choosing C) (job : Job C O S) where
         ends = h.ends;
       }
 
-  pub on_again : (b : ℕ) (xs : List Record) (E : State → C → Type 0) → HasChosenOn chooses job xs E → HasChosenOn chooses job (renumbered b xs) E
+  pub on_again : (b : ℕ) (xs : List Record) (E : State → C → Type 0) → HasChosenOn chooses job xs E →
+      HasChosenOn chooses job (renumbered b xs) E
   on_again b xs E h = record {
     behind = h.behind;
     state = h.state;
     last = h.last;
-    chosen = subst (λ (l : List Item). AreChosen chooses (start_of job) job.chooser (frames_of l ++ h.behind) h.state h.last) (sym (same_items b xs)) h.chosen;
+    chosen = subst (λ (l : List Item). AreChosen chooses (start_of job) job.chooser (frames_of l ++ h.behind) h.state h.last)
+        (sym (same_items b xs)) h.chosen;
     ends = h.ends;
   }
 
-  pub first_chosen : (k : ℕ) (xs : List Record) (E : State → C → Type 0) → HasChosen chooses job xs E → HasChosen chooses job (take k xs) (λ _ _. Unit {0})
-  first_chosen k xs E h = front_chosen (take k xs) (drop k xs) E (subst (λ (l : List Record). HasChosen chooses job l E) (sym (take-append-drop k xs)) h)
+  pub first_chosen : (k : ℕ) (xs : List Record) (E : State → C → Type 0) → HasChosen chooses job xs E →
+      HasChosen chooses job (take k xs) (λ _ _. Unit {0})
+  first_chosen k xs E h =
+      front_chosen (take k xs) (drop k xs) E (subst (λ (l : List Record). HasChosen chooses job l E) (sym (take-append-drop k xs)) h)
 
-  pub chosen_again : (b : ℕ) (xs : List Record) (E : State → C → Type 0) → HasChosen chooses job xs E → HasChosen chooses job (renumbered b xs) E
+  pub chosen_again : (b : ℕ) (xs : List Record) (E : State → C → Type 0) → HasChosen chooses job xs E →
+      HasChosen chooses job (renumbered b xs) E
   chosen_again b xs E h = record {
     state = h.state;
     last = h.last;
-    chosen = subst (λ (l : List Item). AreChosen chooses (start_of job) job.chooser (frames_of l) h.state h.last) (sym (same_items b xs)) h.chosen;
+    chosen = subst (λ (l : List Item). AreChosen chooses (start_of job) job.chooser (frames_of l) h.state h.last) (sym (same_items b xs))
+        h.chosen;
     ends = h.ends;
   }

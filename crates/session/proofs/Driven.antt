@@ -43,11 +43,14 @@ goes_both a b c p q g h = record {
 
 -- ---- calls that keep what was made
 
-same_recording : (a b : GuestRecorder) (opening : Record) → KeepsMade a b → IsRecordedFrom opening a.seat.guest (made a) (state_of a.guest) → IsRecordedFrom opening b.seat.guest (made b) (state_of b.guest)
+same_recording : (a b : GuestRecorder) (opening : Record) → KeepsMade a b →
+    IsRecordedFrom opening a.seat.guest (made a) (state_of a.guest) → IsRecordedFrom opening b.seat.guest (made b) (state_of b.guest)
 same_recording a b opening keeps h =
-    subst (λ (x : ℕ × (List Record × State)). IsRecordedFrom opening x.0 x.1.0 x.1.1) (λ i. (sym keeps.place i, (sym keeps.made_is i, state_of (sym keeps.guest i)))) h
+    subst (λ (x : ℕ × (List Record × State)). IsRecordedFrom opening x.0 x.1.0 x.1.1)
+    (λ i. (sym keeps.place i, (sym keeps.made_is i, state_of (sym keeps.guest i)))) h
 
-pub goes_kept : (a b : GuestRecorder) (put : List (ℕ × ℕ)) → KeepsMade a b → ((out : List (ℕ × ℕ)) → HasPut a out → HasPut b (out ++ put)) → GoesOn a b put
+pub goes_kept : (a b : GuestRecorder) (put : List (ℕ × ℕ)) → KeepsMade a b → ((out : List (ℕ × ℕ)) → HasPut a out → HasPut b (out ++ put)) →
+    GoesOn a b put
 goes_kept a b put keeps has_put = record {
   group = keeps.group;
   guest = keeps.place;
@@ -62,7 +65,8 @@ goes_sent a b h = goes_kept a b [] (keeps_sent a b h) (λ out p. subst (HasPut b
 still_first : (opening : Record) (records more : List Record) → IsFirst opening records → IsFirst opening (records ++ more)
 still_first opening records more h = (h.0 ++ more, ap (λ (l : List Record). l ++ more) h.1)
 
-pub goes_stepped : {O : Type 0} (gives : Gives O) (a b : GuestRecorder) (choice : Choice) (outcome : Parts) (before after : O) → HasStepped gives a choice outcome b before after → HasRecorded b → GoesOn a b []
+pub goes_stepped : {O : Type 0} (gives : Gives O) (a b : GuestRecorder) (choice : Choice) (outcome : Parts) (before after : O) →
+    HasStepped gives a choice outcome b before after → HasRecorded b → GoesOn a b []
 goes_stepped gives a b choice outcome before after h recorded =
     let seat : b.seat ≡ a.seat = h.keeps.seat ∙ h.makes.seat in
     let r = frame_record a.seat.guest (length (made a)) h.makes.frame in
@@ -73,7 +77,8 @@ goes_stepped gives a b choice outcome before after h recorded =
       guest = ap (λ (q : RecorderValue). q.guest) seat;
       driven = λ opening out d. record {
         recorded = record {
-          opens = subst (IsFirst opening) (sym made_is) (still_first opening (made a ++ r ∷ []) more (still_first opening (made a) (r ∷ []) d.recorded.opens));
+          opens = subst (IsFirst opening) (sym made_is)
+              (still_first opening (made a ++ r ∷ []) more (still_first opening (made a) (r ∷ []) d.recorded.opens));
           recorded = recorded;
         };
         has_put = subst (HasPut b) (sym (append-nil out)) (h.keeps.has_put out (h.makes.has_put out d.has_put));
@@ -87,7 +92,8 @@ goes_unmoved a b before after h =
       group = ap (λ (q : RecorderValue). q.group) h.seat;
       guest = ap (λ (q : RecorderValue). q.guest) h.seat;
       driven = λ opening out d. record {
-        recorded = subst (λ (x : RecorderValue × (List Record × State)). IsRecordedFrom opening x.0.guest x.1.0 x.1.1) (λ i. (sym h.seat i, (sym same i, sym h.state i))) d.recorded;
+        recorded = subst (λ (x : RecorderValue × (List Record × State)). IsRecordedFrom opening x.0.guest x.1.0 x.1.1)
+            (λ i. (sym h.seat i, (sym same i, sym h.state i))) d.recorded;
         has_put = subst (HasPut b) (sym (append-nil out)) (record {
           each = λ k low high.
               let s : b.seat.seen ≡ a.seat.seen = ap (λ (q : RecorderValue). q.seen) h.seat in
@@ -103,17 +109,21 @@ goes_unmoved a b before after h =
 
 -- ---- release and settle
 
-pub drives_more : {S : Type 0} (sinks : Sinks S) (a b : GuestRecorder) (s t : S) (result : Result (Unit {0}) RecorderFault) → KeepsMade a b → PutsMore sinks.tells sinks.taken a b s t result
+pub drives_more : {S : Type 0} (sinks : Sinks S) (a b : GuestRecorder) (s t : S) (result : Result (Unit {0}) RecorderFault) →
+    KeepsMade a b → PutsMore sinks.tells sinks.taken a b s t result
     → (sinks.tells t ↔ sinks.tells s) → Drives sinks a b s t
-drives_more sinks a b s t result keeps h tells = record { put = h.put; takes = h.takes; goes = goes_kept a b h.put keeps h.has_put; tells = tells }
+drives_more sinks a b s t result keeps h tells =
+    record { put = h.put; takes = h.takes; goes = goes_kept a b h.put keeps h.has_put; tells = tells }
 
 pub drives_none : {S : Type 0} (sinks : Sinks S) (r : GuestRecorder) (s : S) → Drives sinks r r s s
 drives_none sinks r s = record { put = []; takes = λ t. sym (append-nil (sinks.taken s)); goes = goes_none r; tells = ((λ t. t), (λ t. t)) }
 
-pub drives_both : {S : Type 0} (sinks : Sinks S) (a b c : GuestRecorder) (s t u : S) → Drives sinks a b s t → Drives sinks b c t u → Drives sinks a c s u
+pub drives_both : {S : Type 0} (sinks : Sinks S) (a b c : GuestRecorder) (s t u : S) → Drives sinks a b s t → Drives sinks b c t u →
+    Drives sinks a c s u
 drives_both sinks a b c s t u g h = record {
   put = g.put ++ h.put;
-  takes = λ tells. h.takes (g.tells.1 tells) ∙ ap (λ (l : List (ℕ × ℕ)). l ++ h.put) (g.takes tells) ∙ append_assoc (sinks.taken s) g.put h.put;
+  takes = λ tells. h.takes (g.tells.1 tells) ∙ ap (λ (l : List (ℕ × ℕ)). l ++ h.put) (g.takes tells)
+      ∙ append_assoc (sinks.taken s) g.put h.put;
   goes = goes_both a b c g.put h.put g.goes h.goes;
   tells = ((λ t. g.tells.0 (h.tells.0 t)), (λ t. h.tells.1 (g.tells.1 t)));
 }
@@ -124,7 +134,8 @@ drives_still sinks a b s h = record { put = []; takes = λ t. sym (append-nil (s
 
 -- ---- halts
 
-pub halted_is : (fault : RecorderFault) → (r : Result (Unit {0}) RecorderFault) → r ≡ Err fault → r ≡ Err faults.Halted → fault ≡ faults.Halted
+pub halted_is : (fault : RecorderFault) → (r : Result (Unit {0}) RecorderFault) → r ≡ Err fault → r ≡ Err faults.Halted →
+    fault ≡ faults.Halted
 halted_is fault r is e = cc
 
 -- ---- what a call tells of its sink
@@ -139,7 +150,8 @@ call_tells_released faults.TooManyRecords old new h = absurd h
 call_tells_released faults.BadOpening old new h = absurd h
 
 -- behind a release that put all out, where a halt alone is told
-pub call_tells_sent : (Knows : Type 0) (r : Result (Unit {0}) RecorderFault) (old new : ℕ) → IfErr r (λ e. (e ≡ faults.Halted) × Knows) → new ≡ old → CallTellsSink r old new
+pub call_tells_sent : (Knows : Type 0) (r : Result (Unit {0}) RecorderFault) (old new : ℕ) → IfErr r (λ e. (e ≡ faults.Halted) × Knows) →
+    new ≡ old → CallTellsSink r old new
 call_tells_sent Knows (Ok u) old new halted same = same
 call_tells_sent Knows (Err e) old new halted same = subst (λ x. CallTellsSink (Err x) old new) (sym halted.0) same
 
@@ -152,7 +164,8 @@ call_tells_settled r (faults.Refused fault) old new h = absurd h
 call_tells_settled r faults.TooManyRecords old new h = absurd h
 call_tells_settled r faults.BadOpening old new h = absurd h
 
-told_again : (e : RecorderFault) (first old new : ℕ) → CallTellsSink (Err e) old new → old ≡ first → WorkTellsSink (Err (work_told e)) first new
+told_again : (e : RecorderFault) (first old new : ℕ) → CallTellsSink (Err e) old new → old ≡ first →
+    WorkTellsSink (Err (work_told e)) first new
 told_again faults.Halted first old new h same = h ∙ same
 told_again (faults.SinkFailed taken) first old new h same = subst (λ (n : ℕ). HasFailed n new) same h
 told_again faults.Full first old new h same = h ∙ same
@@ -162,8 +175,10 @@ told_again faults.TooManyRecords first old new h same = h ∙ same
 told_again faults.BadOpening first old new h same = h ∙ same
 
 -- a worker tells it so, where nothing was refused before
-pub work_tells : (e : RecorderFault) (fault : WorkFault) (first old new : ℕ) → CallTellsSink (Err e) old new → old ≡ first → fault ≡ work_told e → WorkTellsSink (Err fault) first new
-work_tells e fault first old new h same is = subst (λ (f : WorkFault). WorkTellsSink (Err f) first new) (sym is) (told_again e first old new h same)
+pub work_tells : (e : RecorderFault) (fault : WorkFault) (first old new : ℕ) → CallTellsSink (Err e) old new → old ≡ first →
+    fault ≡ work_told e → WorkTellsSink (Err fault) first new
+work_tells e fault first old new h same is =
+    subst (λ (f : WorkFault). WorkTellsSink (Err f) first new) (sym is) (told_again e first old new h same)
 
 -- a fault that isn't the sink's
 pub work_steady : (fault : WorkFault) (first new : ℕ) → fault ≢ work_faults.SinkFailed → new ≡ first → WorkTellsSink (Err fault) first new
@@ -173,7 +188,8 @@ work_steady work_faults.Held first new other same = same
 work_steady work_faults.Memory first new other same = same
 
 -- and so does what is told of the worker
-pub fault_tells : (guest : ℕ) (fault : WorkFault) (old new : ℕ) → WorkTellsSink (Err fault) old new → FaultTellsSink (fault_told guest fault) old new
+pub fault_tells : (guest : ℕ) (fault : WorkFault) (old new : ℕ) → WorkTellsSink (Err fault) old new →
+    FaultTellsSink (fault_told guest fault) old new
 fault_tells guest work_faults.Halted old new h = h
 fault_tells guest work_faults.SinkFailed old new h = h
 fault_tells guest work_faults.Held old new h = h

@@ -7,7 +7,8 @@ use Rattle.session.specs.declared.job.Job.{Job}
 use Rattle.session.specs.Openings.{StartsGuest}
 
 -- one more of which it holds
-pub all_next : {A : Type 0} (P : A → Type 0) (xs : List A) (i : ℕ) (x : A) → i < length xs → x ≡ get_or xs i x → AllByRecursion P (take i xs) → P x → AllByRecursion P (take (suc i) xs)
+pub all_next : {A : Type 0} (P : A → Type 0) (xs : List A) (i : ℕ) (x : A) → i < length xs → x ≡ get_or xs i x →
+    AllByRecursion P (take i xs) → P x → AllByRecursion P (take (suc i) xs)
 all_next P [] i x low is all p = absurd (omega arith)
 all_next P (y ∷ xs) zero x low is all p = (subst P is p, tt)
 all_next P (y ∷ xs) (suc i) x low is all p = (all.0, all_next P xs i x (omega arith) is all.1 p)

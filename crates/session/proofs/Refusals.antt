@@ -52,12 +52,15 @@ module _ {C O S D : Type 0} (log log' : LogValue D) (jobs jobs' : Vec (Job C O S
   flusher_tells flushes.TooLong left = left
   flusher_tells flushes.Memory left = left
 
-  flusher_tells_one : (flushed : Result Unit FlushFault) (fault : SessionFault) → IfErr flushed (IsLeftBy log') → Contains (flusher_met flushed) fault → RefusesSession log log' jobs jobs' fault
+  flusher_tells_one : (flushed : Result Unit FlushFault) (fault : SessionFault) → IfErr flushed (IsLeftBy log') →
+      Contains (flusher_met flushed) fault → RefusesSession log log' jobs jobs' fault
   flusher_tells_one (Ok u) fault left there = absurd (none_in fault there)
-  flusher_tells_one (Err e) fault left there = subst (RefusesSession log log' jobs jobs') (only_one (flush_told e) fault there) (flusher_tells e left)
+  flusher_tells_one (Err e) fault left there =
+      subst (RefusesSession log log' jobs jobs') (only_one (flush_told e) fault there) (flusher_tells e left)
 
   -- where another fault is the lowest no call of the disk failed
-  whole_unless : (flushed : Result Unit FlushFault) (rest : List SessionFault) (fault : SessionFault) → IfErr flushed (IsLeftBy log') → OnOk flushed (log'.is_broken ≡ false)
+  whole_unless : (flushed : Result Unit FlushFault) (rest : List SessionFault) (fault : SessionFault) → IfErr flushed (IsLeftBy log') →
+      OnOk flushed (log'.is_broken ≡ false)
       → IsLowest (flusher_met flushed ++ rest) (Some fault) → fault ≢ faults.DeviceFailed → log'.is_broken ≡ false
   whole_unless (Ok u) rest fault left whole lowest other = whole
   whole_unless (Err flushes.DeviceFailed) rest fault left whole lowest other = absurd (other (first_of_all fault lowest.1.0))
@@ -67,7 +70,8 @@ module _ {C O S D : Type 0} (log log' : LogValue D) (jobs jobs' : Vec (Job C O S
 
   -- ---- a worker's
 
-  worker_tells : (g : ℕ) (fault : SessionFault) → g < length (vec_items jobs) → (fault ≢ faults.DeviceFailed → log'.is_broken ≡ false) → IsMet g fault → RefusesSession log log' jobs jobs' fault
+  worker_tells : (g : ℕ) (fault : SessionFault) → g < length (vec_items jobs) → (fault ≢ faults.DeviceFailed → log'.is_broken ≡ false) →
+      IsMet g fault → RefusesSession log log' jobs jobs' fault
   worker_tells g fault low whole met = elim met [
     | inl sink ↦ subst (RefusesSession log log' jobs jobs') (sym sink) (low, whole (λ e. absurd (sink_is_not_device (sym sink ∙ e))))
     | inr more ↦ elim more [
@@ -87,12 +91,14 @@ module _ {C O S D : Type 0} (log log' : LogValue D) (jobs jobs' : Vec (Job C O S
 
 -- ---- which worker met it
 
-once_met : (guest : ℕ) (met : Option SessionFault) (fault : SessionFault) → AreMet guest met → Contains (met_once met) fault → IsMet guest fault
+once_met : (guest : ℕ) (met : Option SessionFault) (fault : SessionFault) → AreMet guest met → Contains (met_once met) fault →
+    IsMet guest fault
 once_met guest None fault all there = absurd (none_in fault there)
 once_met guest (Some a) fault all there = subst (IsMet guest) (only_one a fault there) all
 
 module _ {C O S : Type 0} (choosers : Choosers C) (sinks : Sinks S) where
-  of_one : (tasks : List (Task C O S)) (done : List (Worked C O S)) (fault : SessionFault) → ArePairs (HasWorked choosers sinks) tasks done → Contains (faults_met done) fault
+  of_one : (tasks : List (Task C O S)) (done : List (Worked C O S)) (fault : SessionFault) →
+      ArePairs (HasWorked choosers sinks) tasks done → Contains (faults_met done) fault
       → (k : ℕ) × (r : RecorderValue) × (slice_get (seats_worked done) k ≡ Some r) × IsMet r.guest fault × (k < length done)
   of_one [] [] fault pairs there = absurd (none_in fault there)
   of_one [] (d ∷ done) fault pairs there = elim pairs [ ]
@@ -103,9 +109,11 @@ module _ {C O S : Type 0} (choosers : Choosers C) (sinks : Sinks S) where
   ]
 
   -- what the lowest of the faults that the flusher and the workers met tells
-  pub lowest_tells : {D : Type 0} (log log' : LogValue D) (jobs jobs' : Vec (Job C O S) Global) (group : GroupId) (flushed : Result Unit FlushFault)
+  pub lowest_tells : {D : Type 0} (log log' : LogValue D) (jobs jobs' : Vec (Job C O S) Global) (group : GroupId)
+      (flushed : Result Unit FlushFault)
       (tasks : List (Task C O S)) (done : List (Worked C O S)) (fault : SessionFault)
-      → IfErr flushed (IsLeftBy log') → OnOk flushed (log'.is_broken ≡ false) → AllNew group (seats_of tasks) → ArePairs (HasWorked choosers sinks) tasks done → length tasks ≡ length (vec_items jobs)
+      → IfErr flushed (IsLeftBy log') → OnOk flushed (log'.is_broken ≡ false) → AllNew group (seats_of tasks) →
+      ArePairs (HasWorked choosers sinks) tasks done → length tasks ≡ length (vec_items jobs)
       → IsLowest (flusher_met flushed ++ faults_met done) (Some fault) → RefusesSession log log' jobs jobs' fault
   lowest_tells log log' jobs jobs' group flushed tasks done fault left whole new pairs count lowest =
       elim (Contains-append_cases (flusher_met flushed) (faults_met done) fault lowest.0) [
@@ -122,7 +130,8 @@ module _ {C O S : Type 0} (choosers : Choosers C) (sinks : Sinks S) where
 -- ---- before a thread starts
 
 module _ {C O S D : Type 0} (log : LogValue D) (jobs : Vec (Job C O S) Global) where
-  pub job_tells : (fault : SessionFault) → log.is_broken ≡ false → RefusesJobs (vec_items jobs) fault → RefusesSession log log jobs jobs fault
+  pub job_tells : (fault : SessionFault) → log.is_broken ≡ false → RefusesJobs (vec_items jobs) fault →
+      RefusesSession log log jobs jobs fault
   job_tells fault whole h = elim h.refuses [
     | inl memory ↦ subst (RefusesSession log log jobs jobs) (sym memory.0) whole
     | inr bad ↦ subst (RefusesSession log log jobs jobs) (sym bad.0) (

@@ -24,7 +24,8 @@ AreFrom n group seats = (k : ℕ) (r : RecorderValue) → slice_get seats k ≡ 
 all_from : (group : GroupId) (seats : List RecorderValue) → AllNew group seats → AreFrom 0 group seats
 all_from group seats new k r at = new k r at ∙ ap (λ m. new_seat group m) (omega arith)
 
-from_next : (n : ℕ) (group : GroupId) (seat : RecorderValue) (seats : List RecorderValue) → AreFrom n group (seat ∷ seats) → AreFrom (suc n) group seats
+from_next : (n : ℕ) (group : GroupId) (seat : RecorderValue) (seats : List RecorderValue) → AreFrom n group (seat ∷ seats) →
+    AreFrom (suc n) group seats
 from_next n group seat seats new k r at = new (suc k) r at ∙ ap (λ m. new_seat group m) (omega arith)
 
 module _ {C O S : Type 0} where
@@ -47,12 +48,14 @@ module _ {C O S : Type 0} where
   pub seats_over : (tasks tasks' : List (Task C O S)) (t : Task C O S) (rest rest' all : List RecorderValue)
       → seats_of tasks ++ rest ≡ all → rest ≡ t.seat ∷ rest' → tasks' ≡ tasks ++ t ∷ [] → seats_of tasks' ++ rest' ≡ all
   seats_over tasks tasks' t rest rest' all e is now =
-      ap (λ l. seats_of l ++ rest') now ∙ ap (λ l. l ++ rest') (seats_push tasks t) ∙ append_assoc (seats_of tasks) (t.seat ∷ []) rest' ∙ ap (λ l. seats_of tasks ++ l) (sym is) ∙ e
+      ap (λ l. seats_of l ++ rest') now ∙ ap (λ l. l ++ rest') (seats_push tasks t) ∙ append_assoc (seats_of tasks) (t.seat ∷ []) rest'
+      ∙ ap (λ l. seats_of tasks ++ l) (sym is) ∙ e
 
   pub jobs_over : (tasks tasks' : List (Task C O S)) (t : Task C O S) (rest rest' all : List (Job C O S))
       → jobs_of tasks ++ rest ≡ all → rest ≡ t.job ∷ rest' → tasks' ≡ tasks ++ t ∷ [] → jobs_of tasks' ++ rest' ≡ all
   jobs_over tasks tasks' t rest rest' all e is now =
-      ap (λ l. jobs_of l ++ rest') now ∙ ap (λ l. l ++ rest') (jobs_push tasks t) ∙ append_assoc (jobs_of tasks) (t.job ∷ []) rest' ∙ ap (λ l. jobs_of tasks ++ l) (sym is) ∙ e
+      ap (λ l. jobs_of l ++ rest') now ∙ ap (λ l. l ++ rest') (jobs_push tasks t) ∙ append_assoc (jobs_of tasks) (t.job ∷ []) rest'
+      ∙ ap (λ l. jobs_of tasks ++ l) (sym is) ∙ e
 
   -- ---- what came of them
 
@@ -64,24 +67,30 @@ module _ {C O S : Type 0} where
   jobs_worked_length [] = refl
   jobs_worked_length (x ∷ xs) = ap suc (jobs_worked_length xs)
 
-  pub seats_end : (seats : List RecorderValue) (rest : List (Worked C O S)) (all : List RecorderValue) → seats ++ seats_worked rest ≡ all → rest ≡ [] → seats ≡ all
+  pub seats_end : (seats : List RecorderValue) (rest : List (Worked C O S)) (all : List RecorderValue) → seats ++ seats_worked rest ≡ all →
+      rest ≡ [] → seats ≡ all
   seats_end seats rest all e none = sym (append-nil seats) ∙ ap (λ l. seats ++ seats_worked l) (sym none) ∙ e
 
-  pub jobs_end : (jobs : List (Job C O S)) (rest : List (Worked C O S)) (all : List (Job C O S)) → jobs ++ jobs_worked rest ≡ all → rest ≡ [] → jobs ≡ all
+  pub jobs_end : (jobs : List (Job C O S)) (rest : List (Worked C O S)) (all : List (Job C O S)) → jobs ++ jobs_worked rest ≡ all →
+      rest ≡ [] → jobs ≡ all
   jobs_end jobs rest all e none = sym (append-nil jobs) ∙ ap (λ l. jobs ++ jobs_worked l) (sym none) ∙ e
 
-  pub reports_end : (first : ℕ) (reports : List GuestReport) (rest : List (Worked C O S)) (all : List GuestReport) → reports ++ reports_of first rest ≡ all → rest ≡ [] → reports ≡ all
+  pub reports_end : (first : ℕ) (reports : List GuestReport) (rest : List (Worked C O S)) (all : List GuestReport) →
+      reports ++ reports_of first rest ≡ all → rest ≡ [] → reports ≡ all
   reports_end first reports rest all e none = sym (append-nil reports) ∙ ap (λ l. reports ++ reports_of first l) (sym none) ∙ e
 
-  pub states_end : (states : List GuestValue) (rest : List (Worked C O S)) (all : List GuestValue) → states ++ states_worked rest ≡ all → rest ≡ [] → states ≡ all
+  pub states_end : (states : List GuestValue) (rest : List (Worked C O S)) (all : List GuestValue) → states ++ states_worked rest ≡ all →
+      rest ≡ [] → states ≡ all
   states_end states rest all e none = sym (append-nil states) ∙ ap (λ l. states ++ states_worked l) (sym none) ∙ e
 
   pub states_over : (states states' : List GuestValue) (w : Worked C O S) (rest rest' : List (Worked C O S)) (all : List GuestValue)
       → states ++ states_worked rest ≡ all → rest ≡ w ∷ rest' → states' ≡ states ++ once w.guest → states' ++ states_worked rest' ≡ all
   states_over states states' w rest rest' all e is now =
-      ap (λ l. l ++ states_worked rest') now ∙ append_assoc states (once w.guest) (states_worked rest') ∙ ap (λ l. states ++ states_worked l) (sym is) ∙ e
+      ap (λ l. l ++ states_worked rest') now ∙ append_assoc states (once w.guest) (states_worked rest')
+      ∙ ap (λ l. states ++ states_worked l) (sym is) ∙ e
 
-  fresh_from : (n : ℕ) (group : GroupId) (tasks : List (Task C O S)) → AreFrom n group (seats_of tasks) → AllByRecursion StartsGuest (jobs_of tasks) → AllByRecursion IsFresh tasks
+  fresh_from : (n : ℕ) (group : GroupId) (tasks : List (Task C O S)) → AreFrom n group (seats_of tasks) →
+      AllByRecursion StartsGuest (jobs_of tasks) → AllByRecursion IsFresh tasks
   fresh_from n group [] new starts = tt
   fresh_from n group (task ∷ tasks) new starts =
       let first = new 0 task.seat refl in (
@@ -95,11 +104,13 @@ module _ {C O S : Type 0} where
         fresh_from (suc n) group tasks (from_next n group task.seat (seats_of tasks) new) starts.1,
       )
 
-  pub all_fresh : (group : GroupId) (tasks : List (Task C O S)) → AllNew group (seats_of tasks) → AllByRecursion StartsGuest (jobs_of tasks) → AllByRecursion IsFresh tasks
+  pub all_fresh : (group : GroupId) (tasks : List (Task C O S)) → AllNew group (seats_of tasks) →
+      AllByRecursion StartsGuest (jobs_of tasks) → AllByRecursion IsFresh tasks
   all_fresh group tasks new starts = fresh_from 0 group tasks (all_from group (seats_of tasks) new) starts
 
   module _ (choosers : Choosers C) (sinks : Sinks S) where
-    of_from : (n : ℕ) (group : GroupId) (tasks : List (Task C O S)) (done : List (Worked C O S)) → AreFrom n group (seats_of tasks) → ArePairs (HasWorked choosers sinks) tasks done
+    of_from : (n : ℕ) (group : GroupId) (tasks : List (Task C O S)) (done : List (Worked C O S)) → AreFrom n group (seats_of tasks) →
+        ArePairs (HasWorked choosers sinks) tasks done
         → (k : ℕ) (r : RecorderValue) → slice_get (seats_worked done) k ≡ Some r → (r.group ≡ group) × (r.guest ≡ n + k)
     of_from n group [] [] new pairs k r at = absurd (subst (λ (o : Option RecorderValue). MatchOption o (Unit {0}) (λ _. ⊥)) at tt)
     of_from n group [] (d ∷ done) new pairs k r at = elim pairs [ ]
@@ -114,7 +125,8 @@ module _ {C O S : Type 0} where
         let h = of_from (suc n) group tasks done (from_next n group t.seat (seats_of tasks) new) pairs.1 k r at in
         (h.0, h.1 ∙ omega arith)
 
-    pub all_of : (group : GroupId) (tasks : List (Task C O S)) (done : List (Worked C O S)) → AllNew group (seats_of tasks) → ArePairs (HasWorked choosers sinks) tasks done → AllOf group (seats_worked done)
+    pub all_of : (group : GroupId) (tasks : List (Task C O S)) (done : List (Worked C O S)) → AllNew group (seats_of tasks) →
+        ArePairs (HasWorked choosers sinks) tasks done → AllOf group (seats_worked done)
     all_of group tasks done new pairs k r at =
         let h = of_from 0 group tasks done (all_from group (seats_of tasks) new) pairs k r at in
         (h.0, h.1 ∙ omega arith)

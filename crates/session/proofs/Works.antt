@@ -10,7 +10,8 @@ take_none zero = refl
 take_none (suc n) = refl
 
 pub none_put : (n : ℕ) (xs : List Record) → xs ≡ [] → IsOutput [] (take n xs)
-none_put n xs none = subst (λ (l : List Record). IsOutput [] l) (sym (ap (λ (l : List Record). take n l) none ∙ take_none n)) ([], refl, ([], refl))
+none_put n xs none =
+    subst (λ (l : List Record). IsOutput [] l) (sym (ap (λ (l : List Record). take n l) none ∙ take_none n)) ([], refl, ([], refl))
 
 pub no_fault : {fault : SessionFault} → Some fault ≡ None → ⊥
 no_fault e = cc

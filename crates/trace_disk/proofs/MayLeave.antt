@@ -9,18 +9,22 @@ touched_before [] range place touched = absurd touched
 touched_before (r ∷ ranges) range place (inl here) = inl here
 touched_before (r ∷ ranges) range place (inr there) = inr (touched_before ranges range place there)
 
-touched_last : (ranges : List (ℕ × ℕ)) (range : ℕ × ℕ) (place : ℕ) → range.0 ≤ place → place < range.0 + range.1 → IsTouched (ranges ++ range ∷ []) place
+touched_last : (ranges : List (ℕ × ℕ)) (range : ℕ × ℕ) (place : ℕ) → range.0 ≤ place → place < range.0 + range.1 →
+    IsTouched (ranges ++ range ∷ []) place
 touched_last [] range place a b = inl (a, b)
 touched_last (r ∷ ranges) range place a b = inr (touched_last ranges range place a b)
 
 -- outside the range of a write the bytes stay
-outside : (content bytes : List ℕ) (place k : ℕ) → k < length content → (k < place) ⊎ ((place ≤ k) × (place + length bytes ≤ k)) → get_or (overwritten content place bytes) k 0 ≡ get_or content k 0
+outside : (content bytes : List ℕ) (place k : ℕ) → k < length content → (k < place) ⊎ ((place ≤ k) × (place + length bytes ≤ k)) →
+    get_or (overwritten content place bytes) k 0 ≡ get_or content k 0
 outside content bytes place k h (inl below) =
     let front : k < length (take place content) = omega (arith, length-take place content) in
-    get_or_append_left (take place content ++ bytes) (drop (place + length bytes) content) 0 k (omega (arith, length-append (take place content) bytes))
+    get_or_append_left (take place content ++ bytes) (drop (place + length bytes) content) 0 k
+    (omega (arith, length-append (take place content) bytes))
     ∙ get_or_append_left (take place content) bytes 0 k front ∙ get_or-take place content k 0 below
 outside content bytes place k h (inr above) =
-    let long : length (take place content ++ bytes) ≡ place + length bytes = omega (arith, length-append (take place content) bytes, length-take place content, above.0) in
+    let long : length (take place content ++ bytes) ≡ place + length bytes =
+    omega (arith, length-append (take place content) bytes, length-take place content, above.0) in
     get_or-append_right (take place content ++ bytes) (drop (place + length bytes) content) (place + length bytes) k 0 long above.1
     ∙ get_or-drop (place + length bytes) content (k - (place + length bytes)) 0 ∙ ap (λ n. get_or content n 0) (omega (arith, above.1))
 
@@ -28,7 +32,8 @@ outside content bytes place k h (inr above) =
 where_is : (place count k : ℕ) → ((k < place) ⊎ ((place ≤ k) × (place + count ≤ k))) ⊎ ((place ≤ k) × (k < place + count))
 where_is place count k = grind arith
 
-pub reads_write : (pending : Pending) (content bytes : List ℕ) (place : ℕ) → IsCrash pending content → IsCrash (pending_write pending place (length bytes)) (overwritten content place bytes)
+pub reads_write : (pending : Pending) (content bytes : List ℕ) (place : ℕ) → IsCrash pending content →
+    IsCrash (pending_write pending place (length bytes)) (overwritten content place bytes)
 reads_write pending content bytes place crash =
     let long = length-append (take place content ++ bytes) (drop (place + length bytes) content) in
     let front = length-append (take place content) bytes in
@@ -40,12 +45,15 @@ reads_write pending content bytes place crash =
       no_shorter = omega arith;
       no_longer = omega arith;
       kept = λ k h untouched. ⊎_elim
-          (λ out. outside content bytes place k (omega arith) out ∙ crash.kept k h (λ touched. untouched (touched_before pending.touched _ k touched)))
-          (λ (inside : (place ≤ k) × (k < place + length bytes)). absurd (untouched (touched_last pending.touched (place, length bytes) k inside.0 inside.1)))
+          (λ out. outside content bytes place k (omega arith) out
+          ∙ crash.kept k h (λ touched. untouched (touched_before pending.touched _ k touched)))
+          (λ (inside : (place ≤ k) × (k < place + length bytes)). absurd
+          (untouched (touched_last pending.touched (place, length bytes) k inside.0 inside.1)))
           (where_is place (length bytes) k);
     }
 
-pub reads_cut : (pending : Pending) (content : List ℕ) (size : ℕ) → IsCrash pending content → IsCrash (pending_cut pending size) (take size content)
+pub reads_cut : (pending : Pending) (content : List ℕ) (size : ℕ) → IsCrash pending content →
+    IsCrash (pending_cut pending size) (take size content)
 reads_cut pending content size crash =
     let taken = length-take size content in
     let low = crash.no_shorter in

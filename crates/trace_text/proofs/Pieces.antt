@@ -33,7 +33,8 @@ bytes_alike : (bytes : List ℕ) (m : Memory) (a : ℕ) → ((k : ℕ) → k < l
 unfolding bytes_at
 bytes_alike [] m a h = refl
 bytes_alike (b ∷ bs) m a h = λ i.
-    (ap (λ (x : ℕ). byte_or_zero (m x)) first ∙ h 0 (omega arith)) i ∷ bytes_alike bs m (a + 1) (λ k low. rest k ∙ h (suc k) (omega (arith, low))) i
+    (ap (λ (x : ℕ). byte_or_zero (m x)) first ∙ h 0 (omega arith)) i
+    ∷ bytes_alike bs m (a + 1) (λ k low. rest k ∙ h (suc k) (omega (arith, low))) i
   where
     first : a ≡ a + 0
     first = omega arith
@@ -52,7 +53,8 @@ piece_of_view m n v full is =
     ap (page_piece m n) (ap m first ∙ is 0 (omega arith)) ∙ ap (piece n v.permissions) bytes
 
 -- the next page after those below one number, where none lies between
-pub pieces_next : (m : Memory) (least n : ℕ) (v : PageView) → IsNextPage m least (Some n) → length v.bytes.now ≡ page_bytes → IsPageOf m n (Some v) →
+pub pieces_next : (m : Memory) (least n : ℕ) (v : PageView) → IsNextPage m least (Some n) → length v.bytes.now ≡ page_bytes →
+    IsPageOf m n (Some v) →
     pieces_below (n + 1) m ≡ pieces_below least m ++ piece n v.permissions v.bytes.now
 unfolding pieces_below
 pieces_next m least n v next full is =

@@ -55,7 +55,8 @@ none_found : (n x : ℕ) (es : List (ℕ × Thread)) → n ≤ x → T (below_al
 none_found n x [] low h = refl
 none_found n x (e ∷ es) low h =
     let after = above x e.0 (left _ _ h) in
-    ap (λ (b : Bool). cond b (Some e.1) (find nat_cmp n es)) (not_at n e.0 (omega (arith, after, low))) ∙ none_found n x es low (right _ _ h)
+    ap (λ (b : Bool). cond b (Some e.1) (find nat_cmp n es)) (not_at n e.0 (omega (arith, after, low)))
+    ∙ none_found n x es low (right _ _ h)
 
 more_in : (n : ℕ) (es : List (ℕ × Thread)) → T (is_sorted nat_cmp es) → below (n + 1) es ≡ below n es ++ entry n (find nat_cmp n es)
 more_in n [] h = refl
@@ -80,21 +81,25 @@ kept P true t None p = tt
 kept P true t (Some u) p = p
 kept P false t o p = p
 
-at_first : (P : ℕ → Type 0) (e : ℕ × Thread) (es : List (ℕ × Thread)) → ((tid : ℕ) → IfSome (find nat_cmp tid (e ∷ es)) (λ _. P tid)) → P e.0
+at_first : (P : ℕ → Type 0) (e : ℕ × Thread) (es : List (ℕ × Thread)) → ((tid : ℕ) → IfSome (find nat_cmp tid (e ∷ es)) (λ _. P tid)) →
+    P e.0
 at_first P e es h = by (nat_cmp e.0 e.0) (ranks e.0 e.0) (h e.0) where
-  by : (o : Ordering) → MatchOrdering o (e.0 < e.0) (e.0 ≡ e.0) (e.0 < e.0) → IfSome (cond (is_eq o) (Some e.1) (find nat_cmp e.0 es)) (λ _. P e.0) → P e.0
+  by : (o : Ordering) → MatchOrdering o (e.0 < e.0) (e.0 ≡ e.0) (e.0 < e.0) →
+      IfSome (cond (is_eq o) (Some e.1) (find nat_cmp e.0 es)) (λ _. P e.0) → P e.0
   by Less r p = absurd (omega (arith, r))
   by Equal r p = p
   by Greater r p = absurd (omega (arith, r))
 
-all_in : (P : ℕ → Type 0) (n : ℕ) → ((tid : ℕ) → P tid → tid < n) → (es : List (ℕ × Thread)) → ((tid : ℕ) → IfSome (find nat_cmp tid es) (λ _. P tid)) →
+all_in : (P : ℕ → Type 0) (n : ℕ) → ((tid : ℕ) → P tid → tid < n) → (es : List (ℕ × Thread)) →
+    ((tid : ℕ) → IfSome (find nat_cmp tid es) (λ _. P tid)) →
     below n es ≡ es
 all_in P n low [] h = refl
 all_in P n low (e ∷ es) h =
     rw (lt-ltb e.0 n (low e.0 (at_first P e es h)))
     (ap (λ (fs : List (ℕ × Thread)). e ∷ fs) (all_in P n low es (λ tid. kept (P tid) (eq_by_cmp nat_cmp tid e.0) e.1 _ (h tid))))
 
-none_in : (P : ℕ → Type 0) (n : ℕ) → ((tid : ℕ) → P tid → n ≤ tid) → (es : List (ℕ × Thread)) → ((tid : ℕ) → IfSome (find nat_cmp tid es) (λ _. P tid)) →
+none_in : (P : ℕ → Type 0) (n : ℕ) → ((tid : ℕ) → P tid → n ≤ tid) → (es : List (ℕ × Thread)) →
+    ((tid : ℕ) → IfSome (find nat_cmp tid es) (λ _. P tid)) →
     below n es ≡ []
 none_in P n high [] h = refl
 none_in P n high (e ∷ es) h = rw (le-ltb e.0 n (high e.0 (at_first P e es h))) refl
@@ -113,13 +118,18 @@ one_entry f n (Some t) = append-nil (f (n, t))
 pub below_more : (f : ℕ × Thread → List ℕ) (n : ℕ) (m : FinMap nat_cmp Thread) (o : Option Thread) → get m n ≡ o →
     flat_map f (below (n + 1) (entries m)) ≡ flat_map f (below n (entries m)) ++ of_entry f n o
 below_more f n m o is =
-    ap (flat_map f) (more_in n (entries m) (entries_sorted m)) ∙ flat_map-append f (below n (entries m)) (entry n (find nat_cmp n (entries m)))
-    ∙ ap (λ (text : List ℕ). flat_map f (below n (entries m)) ++ text) (one_entry f n (find nat_cmp n (entries m)) ∙ ap (of_entry f n) (sym (get-entries m n) ∙ is))
+    ap (flat_map f) (more_in n (entries m) (entries_sorted m))
+    ∙ flat_map-append f (below n (entries m)) (entry n (find nat_cmp n (entries m)))
+    ∙ ap (λ (text : List ℕ). flat_map f (below n (entries m)) ++ text)
+    (one_entry f n (find nat_cmp n (entries m)) ∙ ap (of_entry f n) (sym (get-entries m n) ∙ is))
 
-pub below_end : (P : ℕ → Type 0) (n : ℕ) (m : FinMap nat_cmp Thread) → ((tid : ℕ) → P tid → tid < n) → ((tid : ℕ) → IfSome (get m tid) (λ _. P tid)) →
+pub below_end : (P : ℕ → Type 0) (n : ℕ) (m : FinMap nat_cmp Thread) → ((tid : ℕ) → P tid → tid < n) →
+    ((tid : ℕ) → IfSome (get m tid) (λ _. P tid)) →
     below n (entries m) ≡ entries m
 below_end P n m low h = all_in P n low (entries m) (λ tid. subst (λ (o : Option Thread). IfSome o (λ _. P tid)) (get-entries m tid) (h tid))
 
-pub below_start : (P : ℕ → Type 0) (n : ℕ) (m : FinMap nat_cmp Thread) → ((tid : ℕ) → P tid → n ≤ tid) → ((tid : ℕ) → IfSome (get m tid) (λ _. P tid)) →
+pub below_start : (P : ℕ → Type 0) (n : ℕ) (m : FinMap nat_cmp Thread) → ((tid : ℕ) → P tid → n ≤ tid) →
+    ((tid : ℕ) → IfSome (get m tid) (λ _. P tid)) →
     below n (entries m) ≡ []
-below_start P n m high h = none_in P n high (entries m) (λ tid. subst (λ (o : Option Thread). IfSome o (λ _. P tid)) (get-entries m tid) (h tid))
+below_start P n m high h =
+    none_in P n high (entries m) (λ tid. subst (λ (o : Option Thread). IfSome o (λ _. P tid)) (get-entries m tid) (h tid))

@@ -52,7 +52,8 @@ child_keeps t =
     let stacked : Thread = if argument t 1 == 0 then zeroed else set_register 2 (argument t 1) zeroed in
     let first : number zeroed ≡ number t = set_10 0 t in
     let second : number stacked ≡ number t = one_of (number t) (argument t 1 == 0) zeroed _ first (set_2 (argument t 1) zeroed ∙ first) in
-    one_of (number t) (has_flag (argument t 0) 0x80000) (set_register 4 (argument t 3) stacked) stacked (set_4 (argument t 3) stacked ∙ second) second
+    one_of (number t) (has_flag (argument t 0) 0x80000) (set_register 4 (argument t 3) stacked) stacked
+    (set_4 (argument t 3) stacked ∙ second) second
 
 -- ---- one thread of a state
 
@@ -60,14 +61,17 @@ either_has : (n : ℕ) (b : Bool) (x y : Option Thread) → Has n x → Has n y 
 either_has n true x y p q = p
 either_has n false x y p q = q
 
-changed_has : (n w : ℕ) (change : Thread → Thread) → ((t : Thread) → number (change t) ≡ number t) → (o : Option Thread) → Has n o → Has n (changed_at w change o)
+changed_has : (n w : ℕ) (change : Thread → Thread) → ((t : Thread) → number (change t) ≡ number t) → (o : Option Thread) → Has n o →
+    Has n (changed_at w change o)
 changed_has n w change same None h = h
 changed_has n w change same (Some t) h = same t ∙ h
 
-changing_has : (n tid w : ℕ) (change : Thread → Thread) → ((t : Thread) → number (change t) ≡ number t) → (s : State) → Has n (thread_at s tid) →
+changing_has : (n tid w : ℕ) (change : Thread → Thread) → ((t : Thread) → number (change t) ≡ number t) → (s : State) →
+    Has n (thread_at s tid) →
     Has n (thread_at (change_thread w change s) tid)
 changing_has n tid w change same s h =
-    subst (λ (o : Option Thread). Has n o) (sym (ap (λ (s' : State). get s'.threads tid) (change_is w change s) ∙ get-changed s.threads w change tid))
+    subst (λ (o : Option Thread). Has n o)
+    (sym (ap (λ (s' : State). get s'.threads tid) (change_is w change s) ∙ get-changed s.threads w change tid))
     (by (eq_by_cmp nat_cmp tid w) refl) where
       by : (b : Bool) → eq_by_cmp nat_cmp tid w ≡ b → Has n (cond b (changed_at w change (get s.threads w)) (get s.threads tid))
       by true e = changed_has n w change same (get s.threads w) (subst (λ k. Has n (get s.threads k)) (same_tid tid w e) h)
@@ -79,7 +83,8 @@ all_woken_have n tid (w ∷ tids) s h =
     all_woken_have n tid tids (woken s w)
     (changing_has n tid w (λ t. record t { waits_at = None }) (λ t. refl) (record s { waiting = filter (λ q. not (q == w)) s.waiting }) h)
 
-inserted_has : (n tid next : ℕ) (t : Thread) (s : State) → number t ≡ n → Has n (thread_at s tid) → Has n (get (insert s.threads next t) tid)
+inserted_has : (n tid next : ℕ) (t : Thread) (s : State) → number t ≡ n → Has n (thread_at s tid) →
+    Has n (get (insert s.threads next t) tid)
 inserted_has n tid next t s k h =
     subst (λ (o : Option Thread). Has n o) (sym (get-insert nat_cmp_total s.threads next t tid))
     (either_has n (eq_by_cmp nat_cmp tid next) (Some t) (get s.threads tid) k h)
@@ -89,7 +94,8 @@ left_has n tid s e =
     subst (λ (o : Option Thread). Has n o)
     (sym (get-remove nat_cmp_total s.threads tid tid ∙ ap (λ (b : Bool). cond b None (get s.threads tid)) (tied tid))) e
 
-either_state : (n tid : ℕ) (b : Bool) (x y : State) → Has n (thread_at x tid) → Has n (thread_at y tid) → Has n (thread_at (if b then x else y) tid)
+either_state : (n tid : ℕ) (b : Bool) (x y : State) → Has n (thread_at x tid) → Has n (thread_at y tid) →
+    Has n (thread_at (if b then x else y) tid)
 either_state n tid true x y p q = p
 either_state n tid false x y p q = q
 
@@ -142,7 +148,8 @@ writev_has n tid s t h =
 
 exit_has : (n tid : ℕ) (s : State) (t : Thread) → n ≡ 93 → RowHas n tid (exit_row tid s t) s
 exit_has n tid s t e =
-    either n tid (clears s t) (NoResult (range t.clear (0 ∷ 0 ∷ 0 ∷ 0 ∷ [])) (λ s. leaves tid (argument t 0) (wakes t.clear 1 s))) (NoResult [] (leaves tid (argument t 0))) s
+    either n tid (clears s t) (NoResult (range t.clear (0 ∷ 0 ∷ 0 ∷ 0 ∷ [])) (λ s. leaves tid (argument t 0) (wakes t.clear 1 s)))
+    (NoResult [] (leaves tid (argument t 0))) s
     (leaves_has n tid (argument t 0) (wakes t.clear 1 s) e) (leaves_has n tid (argument t 0) s e)
 
 futex_has : (n tid : ℕ) (s : State) (t : Thread) → Has n (thread_at s tid) → RowHas n tid (futex_row tid s t) s
@@ -151,7 +158,8 @@ futex_has n tid s t h =
     let op = argument t 1 - argument t 1 / 128 % 2 * 128 in
     either n tid (nat_lt 1 op) _ _ s h (
     either n tid (not (a % 4 == 0)) _ _ s h (
-    either n tid (op == 1) (Returns (length (waiters s a (argument t 2))) [] (wakes a (argument t 2))) _ s (all_woken_have n tid (waiters s a (argument t 2)) s h) (
+    either n tid (op == 1) (Returns (length (waiters s a (argument t 2))) [] (wakes a (argument t 2))) _ s
+    (all_woken_have n tid (waiters s a (argument t 2)) s h) (
     either n tid (not (argument t 3 == 0)) _ _ s h (
     either n tid (not (readable s.memory a 4)) _ _ s h (
     either n tid (not (word_at s.memory a == argument t 2)) _ (Returns 0 [] (waits tid a)) s h
@@ -166,14 +174,16 @@ brk_has n tid s t h =
     let shrunk : Memory = unmapped (to * page_bytes) ((from - to) * page_bytes) s.memory in
     either n tid (nat_lt a s.opening_break || nat_lt 0x70000000 a) _ _ s h (
     either n tid (nat_le to from) (Returns a [] (λ s'. record s' { memory = shrunk; program_break = a })) _ s h (
-    either n tid (not (all_free s.memory from (to - from)) || nat_lt page_limit (page_count grown)) _ (Returns a [] (λ s'. record s' { memory = grown; program_break = a })) s
+    either n tid (not (all_free s.memory from (to - from)) || nat_lt page_limit (page_count grown)) _
+    (Returns a [] (λ s'. record s' { memory = grown; program_break = a })) s
     h h))
 
 munmap_has : (n tid : ℕ) (s : State) (t : Thread) → Has n (thread_at s tid) → RowHas n tid (munmap_row s t) s
 munmap_has n tid s t h =
     let a = argument t 0 in
     let bytes = pages_for (argument t 1) * page_bytes in
-    either n tid (not (a % page_bytes == 0) || (argument t 1 == 0 || nat_lt 0x80000000 (a + bytes))) _ (Returns 0 [] (λ s'. record s' { memory = unmapped a bytes s'.memory })) s
+    either n tid (not (a % page_bytes == 0) || (argument t 1 == 0 || nat_lt 0x80000000 (a + bytes))) _
+    (Returns 0 [] (λ s'. record s' { memory = unmapped a bytes s'.memory })) s
     h h
 
 clone_has : (n tid : ℕ) (s : State) (t : Thread) → number t ≡ n → Has n (thread_at s tid) → RowHas n tid (clone_row s t) s
@@ -182,13 +192,15 @@ clone_has n tid s t k h =
     either n tid (not (are_clone_flags (argument t 0))) _ _ s h (
     either n tid (nat_le 16 (len s.threads) || nat_lt (2 ^ 31 - 1) next) _ _ s h (
     either n tid (not (all_writable s.memory (tid_places t))) _
-    (Returns next (flat_map (λ a. range a (to_le_bytes w32 next)) (tid_places t)) (λ s'. with_thread next (child_of t) (record s' { next_tid = next + 1 }))) s
+    (Returns next (flat_map (λ a. range a (to_le_bytes w32 next)) (tid_places t))
+    (λ s'. with_thread next (child_of t) (record s' { next_tid = next + 1 }))) s
     h (inserted_has n tid next (child_of t) s (child_keeps t ∙ k) h)))
 
 mmap_has : (n tid : ℕ) (s : State) (t : Thread) → Has n (thread_at s tid) → RowHas n tid (mmap_row s t) s
 mmap_has n tid s t h =
     let flags = argument t 3 in
-    either n tid (argument t 1 == 0 || (nat_lt 7 (argument t 2) || (not (has_flag flags 2) || (not (has_flag flags 0x20) || (has_flag flags 1
+    either n tid
+    (argument t 1 == 0 || (nat_lt 7 (argument t 2) || (not (has_flag flags 2) || (not (has_flag flags 0x20) || (has_flag flags 1
     || (has_flag flags 0x10 && not (argument t 0 % page_bytes == 0))))))) (fails 22) (maps_at s t (mmap_place s t)) s
     h (maps_have n tid s t (mmap_place s t) h)
 
@@ -260,7 +272,8 @@ only_exit n =
     choice n (n == 278) _ _ (λ e. tt) (
     choice n (n == 403) _ _ (λ e. tt) (tt))))))))))))))))))
 
-row_has : (call : Syscall) (n tid : ℕ) (s : State) (t : Thread) → IfExit n call → number t ≡ n → Has n (thread_at s tid) → RowHas n tid (row_of call tid s t) s
+row_has : (call : Syscall) (n tid : ℕ) (s : State) (t : Thread) → IfExit n call → number t ≡ n → Has n (thread_at s tid) →
+    RowHas n tid (row_of call tid s t) s
 unfolding row_of
 row_has calls.Read n tid s t e k h = read_has n tid s t h
 row_has calls.Write n tid s t e k h = write_has n tid s t h
@@ -281,17 +294,20 @@ row_has calls.Getrandom n tid s t e k h = getrandom_has n tid s t h
 row_has calls.ClockGettime n tid s t e k h = clock_gettime_has n tid s t h
 row_has calls.Other n tid s t e k h = h
 
-answered_has : (n tid : ℕ) (r : CallRecord) (s : State) → Has n (thread_at s tid) → Has n (thread_at (results tid r.result (writes r.written s)) tid)
+answered_has : (n tid : ℕ) (r : CallRecord) (s : State) → Has n (thread_at s tid) →
+    Has n (thread_at (results tid r.result (writes r.written s)) tid)
 answered_has n tid r s h = changing_has n tid tid (set_register 10 r.result) (set_10 r.result) (writes r.written s) h
 
-after_has : (n : ℕ) (row : Row) (tid : ℕ) (r : CallRecord) (s : State) → RowHas n tid row s → Has n (thread_at s tid) → Has n (thread_at (after_call row tid r s) tid)
+after_has : (n : ℕ) (row : Row) (tid : ℕ) (r : CallRecord) (s : State) → RowHas n tid row s → Has n (thread_at s tid) →
+    Has n (thread_at (after_call row tid r s) tid)
 after_has n (Returns result written change) tid r s p h = answered_has n tid r (change s) p
 after_has n (NoResult written change) tid r s p h = p
 after_has n (AsksInput a count) tid r s p h = answered_has n tid r s h
 after_has n (AsksRandom a count) tid r s p h = answered_has n tid r s h
 after_has n (AsksTime a) tid r s p h = answered_has n tid r s h
 
-call_has : (s : State) (tid : ℕ) (answer : Answer) (r : CallRecord) (after : State) (p : Calls s tid answer r after) → Has (number p.thread) (thread_at after tid)
+call_has : (s : State) (tid : ℕ) (answer : Answer) (r : CallRecord) (after : State) (p : Calls s tid answer r after) →
+    Has (number p.thread) (thread_at after tid)
 call_has s tid answer r after p =
     let n = number p.thread in
     let there : Has n (thread_at s tid) = subst (λ (o : Option Thread). Has n o) (sym p.there) refl in

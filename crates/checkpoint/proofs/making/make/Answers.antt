@@ -20,8 +20,10 @@ loop-left-init c =
     let P = λ (n : ℕ). DifferOn n before m in
     record {
       listed = subst (λ (ps : List Part). HasListed before m ps c.as_slice-left.result.now) (sym c.new-parts.ensures.items)
-          (subst (λ (ns : List ℕ). HasListed before m [] ns) (sym c.as_slice-left.ensures.value) (lists_none before m numbers c.in_ok-numbers.ensures));
-      differ = subst (λ (ns : List ℕ). AllByRecursion P ns) (sym c.as_slice-left.ensures.value) (of_contained P numbers c.in_ok-numbers.ensures.differ);
+          (subst (λ (ns : List ℕ). HasListed before m [] ns) (sym c.as_slice-left.ensures.value)
+          (lists_none before m numbers c.in_ok-numbers.ensures));
+      differ = subst (λ (ns : List ℕ). AllByRecursion P ns) (sym c.as_slice-left.ensures.value)
+          (of_contained P numbers c.in_ok-numbers.ensures.differ);
     }
 
 pub list_pages-requires-clause-differ : goal.list_pages-requires-clause-differ
@@ -42,10 +44,12 @@ loop-left-preserved c =
     let pages = c.in_ok-pages.pages.items in
     let whole = split_of left front behind c.split_at.ensures.front c.split_at.ensures.back in
     let these = c.in_ok-pages.ensures.numbers in
-    let few : length pages ≤ 1024 = omega (arith, length-map pages (λ (p : PagePart). p.number), ap (λ (ns : List ℕ). length ns) these, c.split_at.ensures.front_len) in
+    let few : length pages ≤ 1024 =
+    omega (arith, length-map pages (λ (p : PagePart). p.number), ap (λ (ns : List ℕ). length ns) these, c.split_at.ensures.front_len) in
     record {
       listed = subst (λ (ps : List Part). HasListed before m ps behind) (sym c.in_ok-add_part.ensures)
-          (lists_more before m c.loop-left.parts.items left behind pages c.loop-left.invariant.listed (ap (λ (ns : List ℕ). ns ++ behind) these ∙ whole) c.in_ok-pages.ensures.made few);
+          (lists_more before m c.loop-left.parts.items left behind pages c.loop-left.invariant.listed
+          (ap (λ (ns : List ℕ). ns ++ behind) these ∙ whole) c.in_ok-pages.ensures.made few);
       differ = of_back (λ (n : ℕ). DifferOn n before m) left front behind whole c.loop-left.invariant.differ;
     }
 
@@ -53,22 +57,28 @@ pub returns-clause-texts : goal.returns-clause-texts
 returns-clause-texts c =
     let s = state_of c.args.guest.now in
     let before = kept_memory c.args.guest.now c.args.base.now in
-    let all = has_all before s c.loop-left.parts.items c.loop-left.left.now c.in_ok-pages-2.pages.items c.in_ok-rest.rest c.loop-left.invariant.listed c.in_ok-pages-2.ensures.numbers
+    let all = has_all before s c.loop-left.parts.items c.loop-left.left.now c.in_ok-pages-2.pages.items c.in_ok-rest.rest
+    c.loop-left.invariant.listed c.in_ok-pages-2.ensures.numbers
     c.in_ok-pages-2.ensures.made c.loop-left-test.false c.in_ok-rest.ensures.rest c.rest_of.ensures.is_state in
-    subst (λ (ps : List Part). AllByRecursion HasPartText ps) (sym c.in_ok-add_part-2.ensures) (all_texts before s c.loop-left.parts.items c.in_ok-pages-2.pages.items c.in_ok-rest.rest all)
+    subst (λ (ps : List Part). AllByRecursion HasPartText ps) (sym c.in_ok-add_part-2.ensures)
+    (all_texts before s c.loop-left.parts.items c.in_ok-pages-2.pages.items c.in_ok-rest.rest all)
 
 pub returns-clause-describes : goal.returns-clause-describes
 returns-clause-describes c old base =
     let s = state_of c.args.guest.now in
     let before = kept_memory c.args.guest.now c.args.base.now in
-    let all = has_all before s c.loop-left.parts.items c.loop-left.left.now c.in_ok-pages-2.pages.items c.in_ok-rest.rest c.loop-left.invariant.listed c.in_ok-pages-2.ensures.numbers
+    let all = has_all before s c.loop-left.parts.items c.loop-left.left.now c.in_ok-pages-2.pages.items c.in_ok-rest.rest
+    c.loop-left.invariant.listed c.in_ok-pages-2.ensures.numbers
     c.in_ok-pages-2.ensures.made c.loop-left-test.false c.in_ok-rest.ensures.rest c.rest_of.ensures.is_state in
-    subst (λ (ps : List Part). Describes old ps s) (sym c.in_ok-add_part-2.ensures) (described before s c.loop-left.parts.items c.in_ok-pages-2.pages.items c.in_ok-rest.rest all old base)
+    subst (λ (ps : List Part). Describes old ps s) (sym c.in_ok-add_part-2.ensures)
+    (described before s c.loop-left.parts.items c.in_ok-pages-2.pages.items c.in_ok-rest.rest all old base)
 
 pub returns-clause-changes : goal.returns-clause-changes
 returns-clause-changes c =
     let s = state_of c.args.guest.now in
     let before = kept_memory c.args.guest.now c.args.base.now in
-    let all = has_all before s c.loop-left.parts.items c.loop-left.left.now c.in_ok-pages-2.pages.items c.in_ok-rest.rest c.loop-left.invariant.listed c.in_ok-pages-2.ensures.numbers
+    let all = has_all before s c.loop-left.parts.items c.loop-left.left.now c.in_ok-pages-2.pages.items c.in_ok-rest.rest
+    c.loop-left.invariant.listed c.in_ok-pages-2.ensures.numbers
     c.in_ok-pages-2.ensures.made c.loop-left-test.false c.in_ok-rest.ensures.rest c.rest_of.ensures.is_state in
-    subst (λ (ps : List Part). NamesChanges before s.memory (all_pages ps)) (sym c.in_ok-add_part-2.ensures) (names_changes before s c.loop-left.parts.items c.in_ok-pages-2.pages.items c.in_ok-rest.rest all)
+    subst (λ (ps : List Part). NamesChanges before s.memory (all_pages ps)) (sym c.in_ok-add_part-2.ensures)
+    (names_changes before s c.loop-left.parts.items c.in_ok-pages-2.pages.items c.in_ok-rest.rest all)

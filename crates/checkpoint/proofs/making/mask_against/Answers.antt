@@ -11,4 +11,5 @@ returns-in-None c =
     let a = slice_index c.args.bytes.now in
     let mask = c.changed-in-None.result in
     subst (λ (o : Option PageView). IsLineMask a (bytes_of o) mask) (sym c.in-None.is)
-    (mask_by a (slice_index c.zero_page.result) a (λ k. zero_byte) mask (λ k low. refl) (λ k low. sym (c.zero_page.ensures k low)) c.changed-in-None.ensures)
+    (mask_by a (slice_index c.zero_page.result) a (λ k. zero_byte) mask (λ k low. refl) (λ k low. sym (c.zero_page.ensures k low))
+    c.changed-in-None.ensures)

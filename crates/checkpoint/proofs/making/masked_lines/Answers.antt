@@ -22,7 +22,8 @@ loop-line-preserved c =
       | then-mask-line-eq1+in-Ok w ↦
           let items = ap (λ v. v.items) w.lines-is ∙ w.in-Ok.ensures.items in
           subst (λ (ls : List Line). AreLinesBelow bytes mask (line + 1) ls) (sym items)
-          (line_more bytes mask line lines w.line_at.result c.loop-line.invariant (sym bit ∙ w.if-mask-line-eq1.true) w.line_at.ensures.bytes w.line_at.ensures.text)
+          (line_more bytes mask line lines w.line_at.result c.loop-line.invariant (sym bit ∙ w.if-mask-line-eq1.true)
+          w.line_at.ensures.bytes w.line_at.ensures.text)
       | else-mask-line-eq1 w ↦
           subst (λ (ls : List Line). AreLinesBelow bytes mask (line + 1) ls) (sym (ap (λ v. v.items) w.lines-is))
           (line_skipped bytes mask line lines c.loop-line.invariant (λ set. w.if-mask-line-eq1.false (bit ∙ set)))
@@ -33,7 +34,8 @@ returns-clause-lines c =
     let bytes = c.args.bytes.now in
     let end : c.loop-line.line ≡ 64 = omega (arith, c.loop-line-test.false, c.loop-line.auto.line-end) in
     subst (λ (ls : List Line). AreLinesOf bytes c.args.mask ls) (sym c.from_vec.ensures)
-    (all_lines bytes c.args.mask c.loop-line.lines.items c.ranges.mask.fits (subst (λ n. AreLinesBelow bytes c.args.mask n c.loop-line.lines.items) end c.loop-line.invariant))
+    (all_lines bytes c.args.mask c.loop-line.lines.items c.ranges.mask.fits
+    (subst (λ n. AreLinesBelow bytes c.args.mask n c.loop-line.lines.items) end c.loop-line.invariant))
 
 pub returns-clause-texts : goal.returns-clause-texts
 returns-clause-texts c = subst (λ (ls : List Line). AllByRecursion HasLineText ls) (sym c.from_vec.ensures) c.loop-line.invariant.texts

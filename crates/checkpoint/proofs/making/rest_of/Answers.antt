@@ -12,4 +12,6 @@ returns-clause-rest c =
     c.threads-threads.ensures.value (c.in_ok-waiting.ensures ∙ c.waiting.ensures) c.next_tid.ensures c.program_break.ensures.value
     (omega (arith, c.program_break.ensures.value, c.program_break.ensures.high))
     c.in_ok-parts.ensures.rules c.in_ok-parts.ensures.told in
-    subst (λ (ps : List ThreadPart). IsRestOf (state_of c.args.guest.now) (record { program_break = c.program_break.result; next_tid = c.next_tid.result; threads = ps; waiting = c.in_ok-waiting.waiting })) (sym c.from_vec.ensures) rest
+    subst (λ (ps : List ThreadPart). IsRestOf (state_of c.args.guest.now)
+    (record { program_break = c.program_break.result; next_tid = c.next_tid.result; threads = ps; waiting = c.in_ok-waiting.waiting }))
+    (sym c.from_vec.ensures) rest

@@ -11,5 +11,6 @@ returns-in_err-set_pages-clause-refused c =
     let p = err_from_is_err_and c.from_residual.result c.from_residual.ensures.1 in
     if_err _ c.from_residual.result p.0 c.in_err-set_pages.field-0.0 p.1 p.2
     (subst (RefusesPages c.in_err-set_pages.field-0.0) (ap (λ (s : State). s.memory) c.loop-left.invariant.state)
-    (refuses_part c.in_err-set_pages.field-0.0 c.loop-left.left.now c.first-item.result (state_of c.loop-left.guest) c.as_slice.result.now c.in-len1-up.len_at_least c.first-item.is c.as_slice.ensures
+    (refuses_part c.in_err-set_pages.field-0.0 c.loop-left.left.now c.first-item.result (state_of c.loop-left.guest) c.as_slice.result.now
+    c.in-len1-up.len_at_least c.first-item.is c.as_slice.ensures
     c.in_err-set_pages.ensures.refused))

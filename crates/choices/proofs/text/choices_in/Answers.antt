@@ -19,8 +19,16 @@ returns-in_err-said-clause-bad c = λ number is.
 
 pub loop-index-preserved : goal.loop-index-preserved
 loop-index-preserved c =
-    let so_far = turn c.deref-line-items.result.now c.loop-index.index _ c.loop-index.choices.items (option_to_list c.in_ok-said.said) c.loop-index-test.true refl c.loop-index.invariant c.in_ok-said.ensures.said in
+    let so_far =
+    turn c.deref-line-items.result.now c.loop-index.index _ c.loop-index.choices.items (option_to_list c.in_ok-said.said)
+    c.loop-index-test.true refl c.loop-index.invariant c.in_ok-said.ensures.said in
     elim c.match-said.branch [
-      | in-Some+in_ok-push w ↦ so_far ∙ ap Some (ap (λ (o : Option Choice). c.loop-index.choices.items ++ option_to_list o) w.in-Some.is ∙ sym w.in_ok-push.ensures.items ∙ sym (ap (λ v. v.items) w.choices-is))
-      | in_default w ↦ so_far ∙ ap Some (ap (λ (o : Option Choice). c.loop-index.choices.items ++ option_to_list o) w.in_default.is ∙ append-nil _ ∙ sym (ap (λ v. v.items) w.choices-is))
+      | in-Some+in_ok-push w ↦
+          so_far ∙ ap Some
+          (ap (λ (o : Option Choice). c.loop-index.choices.items ++ option_to_list o) w.in-Some.is ∙ sym w.in_ok-push.ensures.items
+          ∙ sym (ap (λ v. v.items) w.choices-is))
+      | in_default w ↦
+          so_far ∙ ap Some
+          (ap (λ (o : Option Choice). c.loop-index.choices.items ++ option_to_list o) w.in_default.is ∙ append-nil _
+          ∙ sym (ap (λ v. v.items) w.choices-is))
     ]

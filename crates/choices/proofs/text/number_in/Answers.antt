@@ -9,4 +9,5 @@ returns-in_default-3 c =
     (sym c.has_only_digits.ensures ∙ c.if-not-has_only_digits.false) c.parse.ensures.value.0 c.in_default.is
 
 pub returns-in-Err : goal.returns-in-Err
-returns-in-Err c = absurd (c.in-Err.ensures.cases.0 (digits_utf8 c.args.field.now (sym c.has_only_digits.ensures ∙ c.if-not-has_only_digits.false)))
+returns-in-Err c =
+    absurd (c.in-Err.ensures.cases.0 (digits_utf8 c.args.field.now (sym c.has_only_digits.ensures ∙ c.if-not-has_only_digits.false)))

@@ -15,6 +15,9 @@ or_end p xs = by (length xs) (position_or_len p xs) (prefix_len-le-length _ xs) 
 pub returns : goal.returns
 returns c =
     let line = c.without_return-line.result.now in
-    let found : c.position.result ≡ position (λ b. b == 35) line = position_from_yields_List (λ b. b == 35) _ _ c.position.result c.position.ensures.ran (YieldsList-from_slice line c.iter.ensures.rest) (λ x r q k. search (rules, tests)) in
-    let end : c.unwrap_or-end.result ≡ position_or_len (λ b. b == 35) line = c.unwrap_or-end.ensures ∙ ap (λ (o : Option ℕ). unwrap_or o (length line)) found ∙ or_end (λ b. b == 35) line in
+    let found : c.position.result ≡ position (λ b. b == 35) line =
+    position_from_yields_List (λ b. b == 35) _ _ c.position.result c.position.ensures.ran
+    (YieldsList-from_slice line c.iter.ensures.rest) (λ x r q k. search (rules, tests)) in
+    let end : c.unwrap_or-end.result ≡ position_or_len (λ b. b == 35) line =
+    c.unwrap_or-end.ensures ∙ ap (λ (o : Option ℕ). unwrap_or o (length line)) found ∙ or_end (λ b. b == 35) line in
     ap (λ (n : ℕ). take n line) end ∙ ap (before_first (λ b. b == 35)) c.without_return-line.ensures

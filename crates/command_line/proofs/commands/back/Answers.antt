@@ -7,4 +7,5 @@ pub returns : goal.returns
 returns c =
     let bare = of_guest_from (codes "back") in
     let count = needed (codes "N") in
-    c.with_memory.ensures (with_rule bare count) (c.with_argument.ensures bare count c.of_guest_from-command.ensures c.needed-count.ensures.rule)
+    c.with_memory.ensures (with_rule bare count)
+    (c.with_argument.ensures bare count c.of_guest_from-command.ensures c.needed-count.ensures.rule)

@@ -7,4 +7,5 @@ pub returns : goal.returns
 returns c =
     let bare = of_guest_from (codes "last") in
     let address = needed (codes "ADDR") in
-    c.with_memory.ensures (with_rule bare address) (c.with_argument.ensures bare address c.of_guest_from-command.ensures c.needed-address.ensures.rule)
+    c.with_memory.ensures (with_rule bare address)
+    (c.with_argument.ensures bare address c.of_guest_from-command.ensures c.needed-address.ensures.rule)

@@ -7,4 +7,5 @@ pub returns : goal.returns
 returns c =
     let choices = repeated (codes "choices") in
     let with_choices = c.with_argument.ensures record_inputs choices c.record_inputs.ensures c.repeated-choices.ensures.rule in
-    c.with_argument-2.ensures (with_rule record_inputs choices) (option_or (codes "then") (codes "turns")) with_choices c.option_or-then.ensures.rule
+    c.with_argument-2.ensures (with_rule record_inputs choices) (option_or (codes "then") (codes "turns")) with_choices
+    c.option_or-then.ensures.rule

@@ -8,4 +8,5 @@ returns c =
     let bare = of_store (codes "record") in
     let quantum = option_or (codes "quantum") (codes "50000") in
     let with_quantum = c.with_argument.ensures bare quantum c.of_store-command.ensures c.option_or-quantum.ensures.rule in
-    c.with_argument-2.ensures (with_rule bare quantum) (option_or (codes "every") (codes "1048576")) with_quantum c.option_or-every.ensures.rule
+    c.with_argument-2.ensures (with_rule bare quantum) (option_or (codes "every") (codes "1048576")) with_quantum
+    c.option_or-every.ensures.rule

@@ -10,11 +10,13 @@ text_of s = s.now
 
 pub returns-in-None-clause-none : goal.returns-in-None-clause-none
 returns-in-None-clause-none c = λ ranges all.
-    let found = one_of_all text_of IsMemoryRange c.args.texts.now ranges c.loop-text.text-index (record { ref_ptr = (0, 0); now = [] }) (search rules) all in
+    let found = one_of_all text_of IsMemoryRange c.args.texts.now ranges c.loop-text.text-index (record { ref_ptr = (0, 0); now = [] })
+    (search rules) all in
     c.in-None.ensures.none refl found.0 found.1
 
 pub loop-text-preserved : goal.loop-text-preserved
 loop-text-preserved c =
     let pushed : c.push.new.self.items ≡ c.loop-text.ranges.items ++ c.in-Some.range ∷ [] = search rules in
-    rw pushed (next text_of IsMemoryRange c.args.texts.now c.loop-text.ranges.items c.loop-text.text-index (record { ref_ptr = (0, 0); now = [] }) c.in-Some.range
+    rw pushed (next text_of IsMemoryRange c.args.texts.now c.loop-text.ranges.items c.loop-text.text-index
+    (record { ref_ptr = (0, 0); now = [] }) c.in-Some.range
     (search rules) c.loop-text.invariant c.in-Some.ensures.some)

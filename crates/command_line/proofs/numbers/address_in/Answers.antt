@@ -24,7 +24,8 @@ power (suc n) zero h = absurd (omega (arith, h))
 power (suc n) (suc k) h = let below = power n k (omega (arith, h)) in omega (arith, below)
 
 within : (text : List ℕ) → AllDigits 16 text → length text ≤ 8 → digits_value 16 text < 2 ^ 32
-within text digits few = let below = digits_value-lt 16 text digits in let most : 16 ^ length text ≤ 16 ^ 8 = power (length text) 8 few in omega (arith, below, most)
+within text digits few = let below = digits_value-lt 16 text digits in let most : 16 ^ length text ≤ 16 ^ 8 =
+    power (length text) 8 few in omega (arith, below, most)
 
 pub returns-in-Err-clause-none : goal.returns-in-Err-clause-none
 returns-in-Err-clause-none c = λ none n is.

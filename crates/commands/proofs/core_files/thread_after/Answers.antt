@@ -9,4 +9,5 @@ returns-then-left-count-clause-next c =
     let i = c.loop-frame.frame-index in
     let f = c.frame-item.result in
     let low : c.loop-frame.left < f.count = omega (arith, c.if-left-count.true, c.from-count.ensures) in
-    runs_next frames i c.args.t c.loop-frame.left f (slice_get-get_or frames i f c.loop-frame-test.true ∙ ap Some (sym c.frame-item.is)) c.loop-frame.invariant low
+    runs_next frames i c.args.t c.loop-frame.left f (slice_get-get_or frames i f c.loop-frame-test.true ∙ ap Some (sym c.frame-item.is))
+    c.loop-frame.invariant low

@@ -14,7 +14,8 @@ loop-guest-preserved g c =
     let guests = c.guests-guest-items.result.now in
     let i = c.loop-guest.guest-index in
     let before = c.loop-guest.invariant in (
-      λ on. printed_on (λ guest. with_newline (guest_line guest (of_guest guest (records_of c.args.lists.now)))) guests i (get_or guests i 0) _ _ _
+      λ on. printed_on (λ guest. with_newline (guest_line guest (of_guest guest (records_of c.args.lists.now)))) guests i
+          (get_or guests i 0) _ _ _
           (slice_get-get_or guests i 0 c.loop-guest-test.true) (before.0 on) (c.in_ok-print_guest.ensures.printed (before.1 on)),
       λ on. c.in_ok-print_guest.ensures.on (before.1 on),
     )

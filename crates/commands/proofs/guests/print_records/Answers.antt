@@ -12,8 +12,10 @@ pub loop-index-preserved : goal.loop-index-preserved
 loop-index-preserved g c =
     let before = c.loop-index.invariant in
     let contents = g.W.Write.contents in
-    let now = subst (λ (r : Record). Appends (contents c.loop-index.out) (contents c.print_line.new.out) (with_newline (record_line r))) c.new.ensures c.in_ok-print_line.ensures.printed in (
+    let now = subst (λ (r : Record). Appends (contents c.loop-index.out) (contents c.print_line.new.out) (with_newline (record_line r)))
+    c.new.ensures c.in_ok-print_line.ensures.printed in (
       before.0,
-      λ on. printed_on (λ (r : Record). with_newline (record_line r)) (of_guest c.in_ok-guest.guest (records_of c.args.lists.now)) c.loop-index.index c.in_ok-entry.entry _ _ _ (c.in_ok-entry.ensures.record (before.2 on)) (before.1 on) now,
+      λ on. printed_on (λ (r : Record). with_newline (record_line r)) (of_guest c.in_ok-guest.guest (records_of c.args.lists.now))
+          c.loop-index.index c.in_ok-entry.entry _ _ _ (c.in_ok-entry.ensures.record (before.2 on)) (before.1 on) now,
       λ on. c.in_ok-entry.ensures.on (before.2 on),
     )

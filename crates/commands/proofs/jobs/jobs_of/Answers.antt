@@ -8,8 +8,10 @@ use Rattle.commands.proofs.jobs.jobs_of.Goals as goal
 pub returns-in_default-clause-refused : goal.returns-in_default-clause-refused
 returns-in_default-clause-refused g c =
     let shared = c.args.shared.now in
-    let t = YieldsList-turn (YieldsList-from_vec {s = c.into_iter-image-iterator.result} c.args.images.items (search rules) (search rules)) c.loop-image.yielded _ c.loop-image.yielded_by _ c.next.new.self c.in-Some.image c.in-Some.is c.next.ensures.steps in
-    let many = as_many (terms_of shared.input.now shared.seed shared.quantum shared.every shared.choices.now shared.then) 0 c.loop-image.yielded c.loop-image.jobs.items c.loop-image.invariant.2 in
+    let t = YieldsList-turn (YieldsList-from_vec {s = c.into_iter-image-iterator.result} c.args.images.items (search rules) (search rules))
+    c.loop-image.yielded _ c.loop-image.yielded_by _ c.next.new.self c.in-Some.image c.in-Some.is c.next.ensures.steps in
+    let many = as_many (terms_of shared.input.now shared.seed shared.quantum shared.every shared.choices.now shared.then) 0
+    c.loop-image.yielded c.loop-image.jobs.items c.loop-image.invariant.2 in
     let past = c.in_default.ensures in
     let len = c.len.ensures in
     λ other. (c.from.ensures, omega (arith, t.0, many, past, len))
@@ -24,5 +26,6 @@ loop-image-preserved g c =
       tt,
       tt,
       subst (λ js. AreJobs terms 0 (c.loop-image.yielded ++ c.in-Some.image ∷ []) js) (sym c.in_ok-push.ensures.items)
-          (jobs_on terms 0 c.in-Ok.place c.loop-image.yielded c.loop-image.jobs.items c.in-Some.image c.in_ok-job_of.field-0 c.loop-image.invariant.2 at c.in_ok-job_of.ensures.job),
+          (jobs_on terms 0 c.in-Ok.place c.loop-image.yielded c.loop-image.jobs.items c.in-Some.image c.in_ok-job_of.field-0
+          c.loop-image.invariant.2 at c.in_ok-job_of.ensures.job),
     )

@@ -8,7 +8,8 @@ returns-then-place-lists c =
     let lists = c.args.lists.now in
     let own = c.index-lists-place.result in
     c.as_slice.ensures.value
-    ∙ list_there lists c.args.place own (slice_get-get_or lists c.args.place own c.if-place-lists.true ∙ ap Some (sym c.index-lists-place.is))
+    ∙ list_there lists c.args.place own
+    (slice_get-get_or lists c.args.place own c.if-place-lists.true ∙ ap Some (sym c.index-lists-place.is))
 
 pub returns : goal.returns
 returns c = no_list c.args.lists.now c.args.place c.if-place-lists.false

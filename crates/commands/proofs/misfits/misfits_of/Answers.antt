@@ -15,10 +15,16 @@ loop-place-preserved g c =
     let job = get_or jobs i c.index-jobs-place.result in
     let within = c.loop-place-test.true in
     let before = c.loop-place.invariant in
-    let on = misfits_on jobs i job (slice_get-get_or jobs i c.index-jobs-place.result within) (length-take-le i jobs (omega (arith, within))) in (
+    let on = misfits_on jobs i job (slice_get-get_or jobs i c.index-jobs-place.result within)
+    (length-take-le i jobs (omega (arith, within))) in (
       before.0,
       elim c.match-misfit.branch [
-        | in-Some+in_ok-push w ↦ misfits_more jobs i job w.in-Some.misfit c.loop-place.misfits.items _ (ap (λ (v : Vec GuestMisfit Global). vec_items v) w.misfits-is ∙ w.in_ok-push.ensures.items) before.1 (sym c.misfit.ensures ∙ w.in-Some.is) on
-        | in_default w ↦ misfits_same jobs i job c.loop-place.misfits.items _ (ap (λ (v : Vec GuestMisfit Global). vec_items v) w.misfits-is) before.1 (sym c.misfit.ensures ∙ w.in_default.is) on
+        | in-Some+in_ok-push w ↦
+            misfits_more jobs i job w.in-Some.misfit c.loop-place.misfits.items _
+            (ap (λ (v : Vec GuestMisfit Global). vec_items v) w.misfits-is ∙ w.in_ok-push.ensures.items) before.1
+            (sym c.misfit.ensures ∙ w.in-Some.is) on
+        | in_default w ↦
+            misfits_same jobs i job c.loop-place.misfits.items _ (ap (λ (v : Vec GuestMisfit Global). vec_items v) w.misfits-is) before.1
+            (sym c.misfit.ensures ∙ w.in_default.is) on
       ],
     )

@@ -3,4 +3,5 @@ use Rattle.commands.proofs.Texts.{end_printed}
 use Rattle.commands.proofs.replaying.print_end.Goals as goal
 
 pub returns-clause-printed : goal.returns-clause-printed
-returns-clause-printed g c = end_printed c.print_line.result _ _ _ _ _ _ _ _ (search rules) (search rules) (search rules) c.print_line.ensures.printed
+returns-clause-printed g c =
+    end_printed c.print_line.result _ _ _ _ _ _ _ _ (search rules) (search rules) (search rules) c.print_line.ensures.printed

@@ -5,11 +5,14 @@ use Rattle.commands.proofs.reports.print_report.Goals as goal
 pub returns-then-has_left-clause-printed : goal.returns-then-has_left-clause-printed
 returns-then-has_left-clause-printed g c =
     report_alone c.has_left.result c.args.place c.args.report.now c.args.guest.now c.args.last _ _ _ _ _ (search rules) c.has_left.ensures
-    (c.new-line.ensures.name ∙ c.as_slice.ensures.value ∙ c.in_ok-name.ensures.name) c.new-line.ensures.end (c.new-line.ensures.records ∙ c.from.ensures) c.in_ok-print_line.ensures.printed
+    (c.new-line.ensures.name ∙ c.as_slice.ensures.value ∙ c.in_ok-name.ensures.name) c.new-line.ensures.end
+    (c.new-line.ensures.records ∙ c.from.ensures) c.in_ok-print_line.ensures.printed
 
 pub returns-clause-printed : goal.returns-clause-printed
 returns-clause-printed g c =
     let lines = c.new-lines.result in
-    report_long c.print_text.result c.has_left.result c.args.place c.args.report.now c.args.guest.now lines.guest.now c.args.last lines.last lines.place _ _ _ _ _ _ (search rules) c.has_left.ensures
-    (c.new-line.ensures.name ∙ c.as_slice.ensures.value ∙ c.in_ok-name.ensures.name) c.new-line.ensures.end (c.new-line.ensures.records ∙ c.from.ensures)
+    report_long c.print_text.result c.has_left.result c.args.place c.args.report.now c.args.guest.now lines.guest.now c.args.last lines.last
+    lines.place _ _ _ _ _ _ (search rules) c.has_left.ensures
+    (c.new-line.ensures.name ∙ c.as_slice.ensures.value ∙ c.in_ok-name.ensures.name) c.new-line.ensures.end
+    (c.new-line.ensures.records ∙ c.from.ensures)
     (search rules) (search rules) (search rules) c.in_ok-print_line.ensures.printed c.print_text.ensures.printed

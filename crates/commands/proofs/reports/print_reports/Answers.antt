@@ -10,6 +10,8 @@ loop-place-preserved g c =
     let i = c.loop-place.place in
     let within = c.loop-place-test.true in (
       before.0,
-      guests_on i c.args.reports.now c.args.guests.now c.args.lasts.now _ _ _ _ _ _ (slice_get-get_or _ i (record { number = 0; records = 0; end = None }) within)
-          (get_is _ i _ (omega (arith, within, c.requires.guests)) c.index-guests-place.is) (slice_get-get_or _ i 0 (omega (arith, within, c.requires.lasts))) before.1 c.in_ok-print_report.ensures.printed,
+      guests_on i c.args.reports.now c.args.guests.now c.args.lasts.now _ _ _ _ _ _
+          (slice_get-get_or _ i (record { number = 0; records = 0; end = None }) within)
+          (get_is _ i _ (omega (arith, within, c.requires.guests)) c.index-guests-place.is)
+          (slice_get-get_or _ i 0 (omega (arith, within, c.requires.lasts))) before.1 c.in_ok-print_report.ensures.printed,
     )

@@ -7,4 +7,5 @@ use Rattle.commands.proofs.reports.print_reports.Given as goal
 abbrev pub invariant-loop-place : goal.invariant-loop-place
 invariant-loop-place g l =
     (l.place-end ≡ length l.reports)
-    × Appends (g.W.Write.contents l.initial.out) (g.W.Write.contents l.out) (guests_told 0 (take l.place l.reports) (take l.place l.guests) (take l.place l.lasts))
+    × Appends (g.W.Write.contents l.initial.out) (g.W.Write.contents l.out)
+    (guests_told 0 (take l.place l.reports) (take l.place l.guests) (take l.place l.lasts))

@@ -23,10 +23,13 @@ returns-in-Some-clause-printed g c =
     let moved = c.in_ok-last_change.ensures in
     let new = c.last_change.new.self in
     let contents = g.W.Write.contents in
-    change_printed c.print_state.result v.opening v.frames c.args.ranges.now c.args.address (place_in (total v.frames) c.args.from) c.in-Some.field-0 new.place _ _
+    change_printed c.print_state.result v.opening v.frames c.args.ranges.now c.args.address (place_in (total v.frames) c.args.from)
+    c.in-Some.field-0 new.place _ _
     (last_change _ v c.args.address _ _ _ _ made.verified (made.at ∙ c.place_in.ensures) c.in-Some.is moved.change)
     (subst (λ (o : Option ℕ). IfSome o (λ t. new.place ≡ t)) c.in-Some.is moved.at)
-    (subst (λ (x : VerifiedValue). OnOk c.print_state.result ((text : List ℕ) × IsStateText x.opening x.frames c.args.ranges.now new.place text × Appends (contents c.args.out.now) (contents c.print_state.new.out) text))
+    (subst (λ (x : VerifiedValue). OnOk c.print_state.result
+    ((text : List ℕ) × IsStateText x.opening x.frames c.args.ranges.now new.place text ×
+    Appends (contents c.args.out.now) (contents c.print_state.new.out) text))
     (moved.verified ∙ made.verified) c.print_state.ensures.printed)
 
 pub returns-clause-printed : goal.returns-clause-printed
@@ -34,4 +37,5 @@ returns-clause-printed g c =
     let v = c.args.verified.now in
     let made = c.in_ok-cursor.ensures in
     unchanged_printed c.print_line.result v.opening v.frames c.args.ranges.now c.args.address (place_in (total v.frames) c.args.from) _ _
-    (last_change _ v c.args.address _ _ _ _ made.verified (made.at ∙ c.place_in.ensures) c.in-None.is c.in_ok-last_change.ensures.change) c.print_line.ensures.printed
+    (last_change _ v c.args.address _ _ _ _ made.verified (made.at ∙ c.place_in.ensures) c.in-None.is c.in_ok-last_change.ensures.change)
+    c.print_line.ensures.printed

@@ -6,4 +6,5 @@ use Rattle.commands.proofs.states.print_ranges.Given as goal
 
 abbrev pub invariant-loop-range : goal.invariant-loop-range
 invariant-loop-range g l =
-    Appends (g.W.Write.contents l.initial.out) (g.W.Write.contents l.out) (ranges_lines (state_of l.guest).memory (take l.range-index l.ranges))
+    Appends (g.W.Write.contents l.initial.out) (g.W.Write.contents l.out)
+    (ranges_lines (state_of l.guest).memory (take l.range-index l.ranges))

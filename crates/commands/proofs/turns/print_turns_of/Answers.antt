@@ -14,7 +14,8 @@ loop-index-init g c = (
   omega arith,
   λ on.
       let records = of_guest c.args.guest (records_of c.args.lists.now) in
-      let first = first_printed c.args.form records c.in_ok-first.first c.in_ok-following.following _ _ (c.in_ok-first.ensures.record on) c.in_ok-following.ensures.behind c.in_ok-print_turn.ensures.printed in
+      let first = first_printed c.args.form records c.in_ok-first.first c.in_ok-following.following _ _ (c.in_ok-first.ensures.record on)
+      c.in_ok-following.ensures.behind c.in_ok-print_turn.ensures.printed in
       (first.0, first.1, c.in_ok-first.ensures.on on),
 )
 
@@ -29,7 +30,8 @@ returns-in_err-follow-clause-refused g c = λ on.
     let some : 1 ≤ length records = c.requires in
     let fault = c.in_err-follow.field-0.0 in
     passed_up c.from_residual-in_err-follow.result (verify_told fault) (λ e. RefusesTurns e records) c.from_residual-in_err-follow.ensures.1
-    (next_refused (verify_told fault) fault records index c.in_ok-entry.entry c.loop-index.following there some refl behind (sym (behind.len ∙ take_length records index few))
+    (next_refused (verify_told fault) fault records index c.in_ok-entry.entry c.loop-index.following there some refl behind
+    (sym (behind.len ∙ take_length records index few))
     c.in_err-follow.ensures.named (c.in_err-follow.ensures.refused (take index records) behind))
 
 pub loop-index-preserved : goal.loop-index-preserved
@@ -40,7 +42,9 @@ loop-index-preserved g c =
       omega arith,
       λ on.
           let at = before.2 on in
-          let next = turn_printed c.args.form records c.loop-index.index c.in_ok-entry.entry c.total-from.result c.follow.new.self _ _ _ (c.in_ok-entry.ensures.record at.2)
-          (c.total-from.ensures ∙ at.0.total) (c.in_ok-follow.ensures.behind (take c.loop-index.index records) at.0) at.1 c.in_ok-print_turn-2.ensures.printed in
+          let next = turn_printed c.args.form records c.loop-index.index c.in_ok-entry.entry c.total-from.result c.follow.new.self _ _ _
+          (c.in_ok-entry.ensures.record at.2)
+          (c.total-from.ensures ∙ at.0.total) (c.in_ok-follow.ensures.behind (take c.loop-index.index records) at.0) at.1
+          c.in_ok-print_turn-2.ensures.printed in
           (next.0, next.1, c.in_ok-entry.ensures.on at.2),
     )

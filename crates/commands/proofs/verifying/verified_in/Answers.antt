@@ -8,9 +8,11 @@ use Rattle.commands.proofs.verifying.verified_in.Goals as goal
 
 pub returns-clause-keeps : goal.returns-clause-keeps
 returns-clause-keeps g c = λ on.
-    subst (λ n. IfOk c.verified.result (λ v. Keeps v (of_guest n (records_of c.args.store.lists)))) c.in_ok-guest.ensures.there.0 (c.verified.ensures.keeps on)
+    subst (λ n. IfOk c.verified.result (λ v. Keeps v (of_guest n (records_of c.args.store.lists)))) c.in_ok-guest.ensures.there.0
+    (c.verified.ensures.keeps on)
 
 pub returns-clause-refused : goal.returns-clause-refused
 returns-clause-refused g c = λ on.
     subst (λ n. IfErr c.verified.result (λ e. RefusesGuest e (of_guest n (records_of c.args.store.lists)))) c.in_ok-guest.ensures.there.0
-    (guest_refused c.verified.result (of_guest c.in_ok-guest.guest (records_of c.args.store.lists)) c.in_ok-guest.ensures.there.1 (c.verified.ensures.refused on))
+    (guest_refused c.verified.result (of_guest c.in_ok-guest.guest (records_of c.args.store.lists)) c.in_ok-guest.ensures.there.1
+    (c.verified.ensures.refused on))

@@ -25,8 +25,10 @@ returns-clause-each c k r e =
     let count = i.counted r.guest (subst (λ (q : ℕ). q < 16) (sym is) here') in
     let told = i.told r.guest (subst (λ (q : ℕ). q < f.group.value.guests) (sym is) here) in
     let at : slice_index f.counts r.guest ≡ slice_index f.counts k = ap (λ (q : ℕ). slice_index f.counts q) is in
-    subst (λ (x : FlusherValue). HasEnded x (slice_index c.join_all.result.0 k) (slice_index f.counts k) (slice_index c.join_all.result.1 k) r) c.flusher.view_is
-    (ended _ (received_of (view f.pass)) (flusher_of f.seat.me.0) _ _ _ r i.parts (sym at ∙ count) (subst (λ (q : ℕ). slice_index (flusher_of f.seat.me.0).told r.guest ≤ q) at told)
+    subst (λ (x : FlusherValue). HasEnded x (slice_index c.join_all.result.0 k) (slice_index f.counts k) (slice_index c.join_all.result.1 k)
+    r) c.flusher.view_is
+    (ended _ (received_of (view f.pass)) (flusher_of f.seat.me.0) _ _ _ r i.parts (sym at ∙ count)
+    (subst (λ (q : ℕ). slice_index (flusher_of f.seat.me.0).told r.guest ≤ q) at told)
     refl i.halt refl (c.join_all.ensures.joined k r e))
 
 pub returns-clause-zeros : goal.returns-clause-zeros

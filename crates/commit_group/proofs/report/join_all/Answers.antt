@@ -29,7 +29,8 @@ loop-recorder-preserved c =
     let x = c.in-Some.recorder in
     let j = c.join-counts.ensures in
     let sizes : length c.loop-recorder.recorders.items ≡ length xs + 1 = ap length last ∙ length-append xs (x ∷ []) in
-    let whole : length all ≡ length c.loop-recorder.recorders.items + length i.rest.0 = ap length i.rest.1 ∙ length-append c.loop-recorder.recorders.items i.rest.0 in
+    let whole : length all ≡ length c.loop-recorder.recorders.items + length i.rest.0 =
+    ap length i.rest.1 ∙ length-append c.loop-recorder.recorders.items i.rest.0 in
     let few = c.args.group.now.some.1 in
     let n = c.requires.count in
     let low : length xs < 16 = omega arith in
@@ -38,12 +39,22 @@ loop-recorder-preserved c =
     let ln = i.sizes.1 in
     record {
       flusher = j.flusher;
-      same = record { received = j.same.received ∙ i.same.received; told = j.same.told ∙ i.same.told; halted = j.same.halted ∙ i.same.halted; totals = j.same.totals ∙ i.same.totals };
+      same = record {
+        received = j.same.received ∙ i.same.received;
+        told = j.same.told ∙ i.same.told;
+        halted = j.same.halted ∙ i.same.halted;
+        totals = j.same.totals ∙ i.same.totals;
+      };
       rest = (x ∷ i.rest.0, i.rest.1 ∙ ap (λ (l : List RecorderValue). l ++ i.rest.0) last ∙ append_assoc xs (x ∷ []) i.rest.0);
       sizes = (length-set c.loop-recorder.sent _ _ ∙ ls, length-set c.loop-recorder.seen _ _ ∙ ln);
-      joined = taken_more all xs c.loop-recorder.recorders.items i.rest.0 x _ _ c.loop-recorder.sent c.loop-recorder.seen _ _ _ i.rest.1 last at (omega arith) (omega arith)
+      joined = taken_more all xs c.loop-recorder.recorders.items i.rest.0 x _ _ c.loop-recorder.sent c.loop-recorder.seen _ _ _ i.rest.1
+          last at (omega arith) (omega arith)
           record { sent_is = j.counts.0; seen_is = j.counts.1; joined = same_joined _ _ _ _ x i.same j.joined } i.joined;
-      zeros = λ k le. let z = i.zeros k le in (get_or-set_other c.loop-recorder.sent _ k _ 0 (omega arith) ∙ z.0, get_or-set_other c.loop-recorder.seen _ k _ 0 (omega arith) ∙ z.1);
+      zeros = λ k le. let z =
+          i.zeros k le in (
+            get_or-set_other c.loop-recorder.sent _ k _ 0 (omega arith) ∙ z.0,
+            get_or-set_other c.loop-recorder.seen _ k _ 0 (omega arith) ∙ z.1,
+          );
     }
 
 pub loop-recorder-init : goal.loop-recorder-init
@@ -57,4 +68,7 @@ loop-recorder-init c = record {
 }
   where
     zero : (k : ℕ) → slice_index (replicate 16 0) k ≡ 0
-    zero k = dite (dec_le 16 k) (λ h. get_or_past (replicate 16 0) k 0 (let n : length (replicate {A = ℕ} 16 0) ≡ 16 = length-replicate {A = ℕ} 16 0 in omega arith)) (λ h. get_or-replicate 16 k 0 0 (omega arith))
+    zero k = dite (dec_le 16 k)
+        (λ h. get_or_past (replicate 16 0) k 0
+        (let n : length (replicate {A = ℕ} 16 0) ≡ 16 = length-replicate {A = ℕ} 16 0 in omega arith))
+        (λ h. get_or-replicate 16 k 0 0 (omega arith))

@@ -20,5 +20,14 @@ returns c =
     let told : entries (thread_map c.args.threads.now.threads) ≡ entries_of parts =
     threads_told c.args.threads.now parts c.in_ok-parts.ensures.told c.in_ok-parts.ensures.rules in
     let count : c.len.result ≡ length (entries_of parts) = omega (arith, c.len.ensures, count_told parts) in
-    rw (told, c.in_ok-put_padding.ensures, c.in_ok-put_notes.ensures, c.in_ok-put_headers.ensures, c.in_ok-put_elf_header.ensures, c.new-out.ensures.items, c.as_slice.ensures.value, count)
+    rw (
+      told,
+      c.in_ok-put_padding.ensures,
+      c.in_ok-put_notes.ensures,
+      c.in_ok-put_headers.ensures,
+      c.in_ok-put_elf_header.ensures,
+      c.new-out.ensures.items,
+      c.as_slice.ensures.value,
+      count,
+    )
     (simp append_assoc)

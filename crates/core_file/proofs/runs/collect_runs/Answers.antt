@@ -15,7 +15,8 @@ loop-number-init c = record {
 pub add_page-requires : goal.add_page-requires
 add_page-requires c =
     subst (λ (rs : List Run). All Fits rs) (sym c.loop-number.invariant.runs)
-    (all_fit c.loop-number.least (memory_of c.args.space.now) (omega (arith, c.loop-number.invariant.low)) c.page_count.ensures.is_memory.limit)
+    (all_fit c.loop-number.least (memory_of c.args.space.now) (omega (arith, c.loop-number.invariant.low))
+    c.page_count.ensures.is_memory.limit)
 
 pub loop-number-preserved : goal.loop-number-preserved
 loop-number-preserved c =
@@ -23,7 +24,8 @@ loop-number-preserved c =
     let n = c.in-Some.number in
     let flags = c.flags_of-flags.result in
     let blank = c.is_blank-is_blank.result in
-    let next = runs_next m c.loop-number.least n c.in-Some-page.page c.in-Some.ensures c.is_blank-is_blank.ensures.full c.in-Some-page.ensures in
+    let next = runs_next m c.loop-number.least n c.in-Some-page.page c.in-Some.ensures c.is_blank-is_blank.ensures.full
+    c.in-Some-page.ensures in
     let low = c.in-Some.ensures.1 in record {
       low = omega (arith, low);
       runs = c.in_ok-add_page.ensures

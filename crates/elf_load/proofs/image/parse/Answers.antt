@@ -21,12 +21,14 @@ pub returns-in_err-check_loads-clause-refused : goal.returns-in_err-check_loads-
 returns-in_err-check_loads-clause-refused c =
     let p = err_from_is_err_and c.from_residual-in_err-check_loads.result c.from_residual-in_err-check_loads.ensures.1 in
     let interp : list_any is_interp (headers c.args.elf.now) ≡ false = cc c.in_ok-file.ensures.file in
-    let load : load_refusal c.args.elf.now ≡ Some (refusal_number c.in_err-check_loads.field-0.0) = ap load_refusal (sym c.in_ok-file.ensures.file) ∙ c.in_err-check_loads.ensures.refused in
+    let load : load_refusal c.args.elf.now ≡ Some (refusal_number c.in_err-check_loads.field-0.0) =
+    ap load_refusal (sym c.in_ok-file.ensures.file) ∙ c.in_err-check_loads.ensures.refused in
     rw (p.1, p.2) (λ _. refused_by_loads c.args.elf.now _ c.in_ok-file.ensures.passes interp load)
 
 pub refusal_without_memory-requires : goal.refusal_without_memory-requires
 refusal_without_memory-requires c =
-    let tests : c.any_load.result ≡ list_any has_memory (loads c.args.elf.now) = c.any_load.ensures ∙ ap (λ (file : List ℕ). list_any has_memory (loads file)) c.in_ok-file.ensures.file in
+    let tests : c.any_load.result ≡ list_any has_memory (loads c.args.elf.now) =
+    c.any_load.ensures ∙ ap (λ (file : List ℕ). list_any has_memory (loads file)) c.in_ok-file.ensures.file in
     let none : c.any_load.result ≡ false = grind arith in
     sym tests ∙ none
 
@@ -47,7 +49,8 @@ pub keep-requires-clause-accepted : goal.keep-requires-clause-accepted
 keep-requires-clause-accepted c =
     let interp : list_any is_interp (headers c.args.elf.now) ≡ false = cc c.in_ok-file.ensures.file in
     let load : load_refusal c.args.elf.now ≡ None = ap load_refusal (sym c.in_ok-file.ensures.file) ∙ c.in_ok-check_loads.ensures.passes in
-    ap refusal c.in_ok-file.ensures.file ∙ past_loads c.args.elf.now c.in_ok-file.ensures.passes interp load ∙ c.in_ok-check_limits.ensures.passes
+    ap refusal c.in_ok-file.ensures.file ∙ past_loads c.args.elf.now c.in_ok-file.ensures.passes interp load
+    ∙ c.in_ok-check_limits.ensures.passes
 
 pub returns-clause-accepted : goal.returns-clause-accepted
 returns-clause-accepted c =

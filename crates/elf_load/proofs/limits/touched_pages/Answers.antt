@@ -9,5 +9,6 @@ use Rattle.elf_load.proofs.limits.touched_pages.Goals as goal
 pub returns : goal.returns
 returns c =
     let marked = count_by-all_marks c.args.found.now c.loop-load.marks.items c.args.pages c.loop-load.invariant.all_pages
-    (λ page low. c.loop-load.invariant.marked page low ∙ ap (list_any (touches page)) (take_all c.loop-load.load-index c.args.found.now (omega arith))) in
+    (λ page low. c.loop-load.invariant.marked page low
+    ∙ ap (list_any (touches page)) (take_all c.loop-load.load-index c.args.found.now (omega arith))) in
     c.count_marks.ensures ∙ ap (count_by (λ mark. mark)) c.deref.ensures.value ∙ marked

@@ -7,13 +7,16 @@ use Rattle.elf_load.proofs.overlap.any_share.Goals as goal
 
 pub any_neighbours_share-requires-clause-rising : goal.any_neighbours_share-requires-clause-rising
 any_neighbours_share-requires-clause-rising c =
-    rw c.deref.ensures.value (IsNonDecreasingBy-from_sort_by_key (λ (h : Header). h.address) _ c.in_ok-sort_by_key.ensures.sorted (λ a r q k. search rules))
+    rw c.deref.ensures.value
+    (IsNonDecreasingBy-from_sort_by_key (λ (h : Header). h.address) _ c.in_ok-sort_by_key.ensures.sorted (λ a r q k. search rules))
 
 pub any_neighbours_share-requires-clause-memory : goal.any_neighbours_share-requires-clause-memory
 any_neighbours_share-requires-clause-memory c =
-    let kept : All (λ (h : Header). 0 < h.memory_len) c.in_ok-ordered.ordered.items = rw c.in_ok-ordered.ensures (All-has_memory c.args.found.now) in
+    let kept : All (λ (h : Header). 0 < h.memory_len) c.in_ok-ordered.ordered.items =
+    rw c.in_ok-ordered.ensures (All-has_memory c.args.found.now) in
     rw c.deref.ensures.value
-    (All-permutation (λ (h : Header). 0 < h.memory_len) c.in_ok-ordered.ordered.items c.sort_by_key.new.self.items c.in_ok-sort_by_key.ensures.permutation kept)
+    (All-permutation (λ (h : Header). 0 < h.memory_len) c.in_ok-ordered.ordered.items c.sort_by_key.new.self.items
+    c.in_ok-sort_by_key.ensures.permutation kept)
 
 pub returns : goal.returns
 returns c =

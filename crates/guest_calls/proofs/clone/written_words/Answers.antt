@@ -25,4 +25,6 @@ loop-place-preserved c =
 
 pub returns-clause-words : goal.returns-clause-words
 returns-clause-words c =
-    c.from_vec.ensures ∙ all_listed c.args.places.now c.loop-place.place-index c.args.word c.loop-place.written.items c.loop-place-test.false c.loop-place.invariant.words
+    c.from_vec.ensures
+    ∙ all_listed c.args.places.now c.loop-place.place-index c.args.word c.loop-place.written.items c.loop-place-test.false
+    c.loop-place.invariant.words

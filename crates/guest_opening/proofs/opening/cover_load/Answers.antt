@@ -6,8 +6,11 @@ use Rattle.guest_opening.proofs.opening.cover_load.Goals as goal
 
 pub loop-page-init : goal.loop-page-init
 loop-page-init c =
-    let load = c.args.load.now in
-    (walk_begins (load.address / 4096) (c.address-page.result / 4096) c.load_permissions-permissions.result (memory_of c.args.space.now) (ap (λ a. a / 4096) c.address-page.ensures), refl)
+    let load = c.args.load.now in (
+      walk_begins (load.address / 4096) (c.address-page.result / 4096) c.load_permissions-permissions.result (memory_of c.args.space.now)
+          (ap (λ a. a / 4096) c.address-page.ensures),
+      refl,
+    )
 
 pub want_of_memory-requires : goal.want_of_memory-requires
 want_of_memory-requires c =
@@ -17,14 +20,18 @@ want_of_memory-requires c =
     let some : 0 < load.memory_len = omega arith in
     let low : load.address / 4096 ≤ page = omega arith in
     let below : page < (load.address + load.memory_len - 1) / 4096 + 1 = omega arith in
-    let room = walk_has_room load page permissions (memory_of c.args.space.now) (memory_of c.loop-page.space) some c.load_permissions-permissions.ensures low c.loop-page.invariant.0 below c.requires.room in
+    let room = walk_has_room load page permissions (memory_of c.args.space.now) (memory_of c.loop-page.space) some
+    c.load_permissions-permissions.ensures low c.loop-page.invariant.0 below c.requires.room in
     only_memory (covered page permissions (memory_of c.loop-page.space)) c.in-Err.fault room c.in-Err.ensures.refused
 
 pub loop-page-preserved : goal.loop-page-preserved
 loop-page-preserved c =
     let load = c.args.load.now in
-    let low : load.address / 4096 ≤ c.loop-page.page = omega arith in
-    (walk_goes_on (load.address / 4096) c.loop-page.page c.load_permissions-permissions.result (memory_of c.args.space.now) (memory_of c.loop-page.space) (memory_of c.cover.new.self) low c.loop-page.invariant.0 c.in_default.ensures.covered, c.cover.ensures.snapshots ∙ c.loop-page.invariant.1)
+    let low : load.address / 4096 ≤ c.loop-page.page = omega arith in (
+      walk_goes_on (load.address / 4096) c.loop-page.page c.load_permissions-permissions.result (memory_of c.args.space.now)
+          (memory_of c.loop-page.space) (memory_of c.cover.new.self) low c.loop-page.invariant.0 c.in_default.ensures.covered,
+      c.cover.ensures.snapshots ∙ c.loop-page.invariant.1,
+    )
 
 pub returns-then-memory_len-eq0-clause-memory : goal.returns-then-memory_len-eq0-clause-memory
 returns-then-memory_len-eq0-clause-memory c = covered_empty c.args.load.now (memory_of c.args.space.now) (omega arith)
@@ -34,4 +41,5 @@ returns-clause-memory c =
     let load = c.args.load.now in
     let some : 0 < load.memory_len = omega arith in
     let last : c.loop-page.page ≡ (load.address + load.memory_len - 1) / 4096 + 1 = omega arith in
-    walk_ends load c.loop-page.page c.load_permissions-permissions.result (memory_of c.args.space.now) (memory_of c.loop-page.space) some c.load_permissions-permissions.ensures c.loop-page.invariant.0 last
+    walk_ends load c.loop-page.page c.load_permissions-permissions.result (memory_of c.args.space.now) (memory_of c.loop-page.space) some
+    c.load_permissions-permissions.ensures c.loop-page.invariant.0 last

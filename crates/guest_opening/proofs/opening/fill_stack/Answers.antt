@@ -17,7 +17,8 @@ fill_words-requires c =
     record {
       high = omega (arith, place, len, sp, top);
       there = present_on_stack (memory_of c.args.space.now) c.stack_pointer.result (4 * length c.stack_words.result)
-          (has_bare c.args.image.now (memory_of c.args.space.now) c.requires.bare) (omega (arith, place, sp)) (omega (arith, place, len, sp, top));
+          (has_bare c.args.image.now (memory_of c.args.space.now) c.requires.bare) (omega (arith, place, sp))
+          (omega (arith, place, len, sp, top));
       alone = c.requires.alone;
     }
 
@@ -54,5 +55,7 @@ fill_unshared-requires-3-clause-there c =
 pub returns-clause-memory : goal.returns-clause-memory
 returns-clause-memory c =
     stack_filled c.args.image.now c.args.name.now c.args.random.now c.stack_pointer.result c.name_at.result c.stack_words.result
-    (memory_of c.args.space.now) (memory_of c.fill_words.new.space) (memory_of c.fill_unshared.new.self) (memory_of c.fill_unshared-2.new.self) (memory_of c.fill_unshared-3.new.self)
-    c.requires.name c.requires.bare c.stack_pointer.ensures c.stack_words.ensures c.name_at.ensures c.fill_words.ensures.memory c.fill_unshared.ensures.memory c.fill_unshared-2.ensures.memory c.fill_unshared-3.ensures.memory
+    (memory_of c.args.space.now) (memory_of c.fill_words.new.space) (memory_of c.fill_unshared.new.self)
+    (memory_of c.fill_unshared-2.new.self) (memory_of c.fill_unshared-3.new.self)
+    c.requires.name c.requires.bare c.stack_pointer.ensures c.stack_words.ensures c.name_at.ensures c.fill_words.ensures.memory
+    c.fill_unshared.ensures.memory c.fill_unshared-2.ensures.memory c.fill_unshared-3.ensures.memory

@@ -8,15 +8,19 @@ loop-place-init c = (words_begin c.args.address c.args.words.now (memory_of c.ar
 
 pub fill_unshared-requires-clause-there : goal.fill_unshared-requires-clause-there
 fill_unshared-requires-clause-there c =
-    word_is_there c.args.address c.args.words.now c.loop-place.place (length c.to_le_bytes.result) (memory_of c.args.space.now) (memory_of c.loop-place.space)
+    word_is_there c.args.address c.args.words.now c.loop-place.place (length c.to_le_bytes.result) (memory_of c.args.space.now)
+    (memory_of c.loop-place.space)
     c.requires.there c.loop-place.invariant.0 c.loop-place-test.true (ap length c.to_le_bytes.ensures)
 
 pub loop-place-preserved : goal.loop-place-preserved
 loop-place-preserved c = (
-  words_go_on c.args.address c.args.words.now c.loop-place.place _ c.to_le_bytes.result (memory_of c.args.space.now) (memory_of c.loop-place.space) (memory_of c.fill_unshared.new.self)
+  words_go_on c.args.address c.args.words.now c.loop-place.place _ c.to_le_bytes.result (memory_of c.args.space.now)
+      (memory_of c.loop-place.space) (memory_of c.fill_unshared.new.self)
       c.loop-place-test.true refl c.to_le_bytes.ensures c.loop-place.invariant.0 c.fill_unshared.ensures.memory,
   c.fill_unshared.ensures.snapshots ∙ c.loop-place.invariant.1,
 )
 
 pub returns-clause-memory : goal.returns-clause-memory
-returns-clause-memory c = words_end c.args.address c.args.words.now c.loop-place.place (memory_of c.args.space.now) (memory_of c.loop-place.space) (omega arith) c.loop-place.invariant.0
+returns-clause-memory c =
+    words_end c.args.address c.args.words.now c.loop-place.place (memory_of c.args.space.now) (memory_of c.loop-place.space) (omega arith)
+    c.loop-place.invariant.0

@@ -8,4 +8,5 @@ use Rattle.guest_opening.proofs.opening.open_space.Goals as goal
 pub map_stack-requires : goal.map_stack-requires
 map_stack-requires c =
     let accepted = is_accepted c.args.image.now c.in_ok-load_image.ensures.accepted in
-    subst (λ (m : Memory). page_count (with_stack m) ≤ 16_384) (sym c.in_ok-load_image.ensures.memory) (bare_pages c.args.image.now accepted)
+    subst (λ (m : Memory). page_count (with_stack m) ≤ 16_384) (sym c.in_ok-load_image.ensures.memory)
+    (bare_pages c.args.image.now accepted)

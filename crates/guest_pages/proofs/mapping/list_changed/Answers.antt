@@ -17,10 +17,14 @@ loop-number-preserved c =
     elim c.if-not-same_as_kept.branch [
       | then-not-same_as_kept+in_ok-push w ↦
           rw w.numbers-is
-          (subst (λ (xs : List ℕ). IsSomeAnd kept (λ before. ListsOthers (SameAt before pages) next.result xs)) (sym w.in_ok-push.ensures.items)
-          (differ_then_on kept pages n next.result c.loop-number.numbers.items on listed (w.if-not-same_as_kept.ensures.differ refl) next.ensures.same))
+          (subst (λ (xs : List ℕ). IsSomeAnd kept (λ before. ListsOthers (SameAt before pages) next.result xs))
+          (sym w.in_ok-push.ensures.items)
+          (differ_then_on kept pages n next.result c.loop-number.numbers.items on listed (w.if-not-same_as_kept.ensures.differ refl)
+          next.ensures.same))
       | else-not-same_as_kept w ↦
-          rw w.numbers-is (same_then_on kept pages n next.result c.loop-number.numbers.items on listed (w.if-not-same_as_kept.ensures.same refl) next.ensures.same)
+          rw w.numbers-is
+          (same_then_on kept pages n next.result c.loop-number.numbers.items on listed (w.if-not-same_as_kept.ensures.same refl)
+          next.ensures.same)
     ] in
     (next.ensures.high, after)
 
@@ -29,4 +33,5 @@ returns-clause-listed c =
     let kept = (contents_of c.args.tables.now).kept c.args.snapshot in
     let pages = (contents_of c.args.tables.now).pages in
     let end : c.loop-number.number ≡ 0x80000 = omega (arith, c.loop-number.invariant.0, c.loop-number-test.false) in
-    subst (λ (n : ℕ). IsSomeAnd kept (λ before. ListsOthers (SameAt before pages) n c.loop-number.numbers.items)) end c.loop-number.invariant.1
+    subst (λ (n : ℕ). IsSomeAnd kept (λ before. ListsOthers (SameAt before pages) n c.loop-number.numbers.items)) end
+    c.loop-number.invariant.1

@@ -10,7 +10,8 @@ loop-place-preserved c =
     let i = c.loop-place.place-index in
     let rest = word_pages (drop (i + 1) places) in
     let xs = c.loop-place.numbers.items in
-    two_more xs c.push.new.self.items c.push-in-loop-place.new.self.items rest (get_or places i 0 / 4096) ((get_or places i 0 + 3) / 4096) c.in_ok-push.ensures.items
+    two_more xs c.push.new.self.items c.push-in-loop-place.new.self.items rest (get_or places i 0 / 4096) ((get_or places i 0 + 3) / 4096)
+    c.in_ok-push.ensures.items
     (c.in_ok-push-2.ensures.items ∙ ap (λ (x : ℕ). c.push.new.self.items ++ (x + 3) / 4096 ∷ []) c.from.ensures)
     ∙ ap (λ (l : List ℕ). xs ++ l) (sym (next_pages places i c.loop-place-test.true))
     ∙ c.loop-place.invariant
@@ -18,5 +19,8 @@ loop-place-preserved c =
 pub returns-clause-listed : goal.returns-clause-listed
 returns-clause-listed c =
     let xs = c.loop-place.numbers.items in
-    sym (append-nil xs) ∙ ap (λ (l : List ℕ). xs ++ l) (sym (no_pages (drop c.loop-place.place-index c.args.places.now) (drop_all c.loop-place.place-index c.args.places.now c.loop-place-test.false)))
+    sym (append-nil xs)
+    ∙ ap (λ (l : List ℕ). xs ++ l)
+    (sym (no_pages (drop c.loop-place.place-index c.args.places.now)
+    (drop_all c.loop-place.place-index c.args.places.now c.loop-place-test.false)))
     ∙ c.loop-place.invariant

@@ -7,7 +7,8 @@ use Rattle.guest_pages.proofs.mapping.protect_range.Given as goal
 
 abbrev pub invariant-loop-number : goal.invariant-loop-number
 invariant-loop-number l = record {
-  protected : (q : ℕ) → l.first ≤ q → q < l.number → (contents_of l.tables).pages q ≡ option_map (with_permissions l.permissions) ((contents_of l.initial.tables).pages q);
+  protected : (q : ℕ) → l.first ≤ q → q < l.number →
+      (contents_of l.tables).pages q ≡ option_map (with_permissions l.permissions) ((contents_of l.initial.tables).pages q);
   below : (q : ℕ) → q < l.first → (contents_of l.tables).pages q ≡ (contents_of l.initial.tables).pages q;
   above : (q : ℕ) → l.number ≤ q → (contents_of l.tables).pages q ≡ (contents_of l.initial.tables).pages q;
   kept : (contents_of l.tables).kept ≡ (contents_of l.initial.tables).kept;

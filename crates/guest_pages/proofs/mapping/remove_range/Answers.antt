@@ -63,10 +63,17 @@ loop-number-preserved c =
       count = omega (arith, count, held.count);
       few = omega (arith, held.few, c.loop-number.auto.number);
       counts = λ q l. gone.rest.counts q (λ e. absurd (omega (arith, e, l))) ∙ held.counts q (omega (arith, l));
-      live = omega (arith, freed_more c.args.tables.now c.args.first n c.loop-number.auto.number, ap freed (held.counts n (omega arith)), gone.live, held.live);
+      live = omega (
+        arith,
+        freed_more c.args.tables.now c.args.first n c.loop-number.auto.number,
+        ap freed (held.counts n (omega arith)),
+        gone.live,
+        held.live,
+      );
     }
 
 pub returns-clause-live : goal.returns-clause-live
 returns-clause-live c =
     let end : c.loop-number.number - c.args.first ≡ c.args.count = omega arith in
-    subst (λ (k : ℕ). live_of c.loop-number.tables + freed_in c.args.tables.now c.args.first k ≡ live_of c.args.tables.now) end c.loop-number.invariant.live
+    subst (λ (k : ℕ). live_of c.loop-number.tables + freed_in c.args.tables.now c.args.first k ≡ live_of c.args.tables.now) end
+    c.loop-number.invariant.live

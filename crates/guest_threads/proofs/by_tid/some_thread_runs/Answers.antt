@@ -8,6 +8,8 @@ pub returns : goal.returns
 returns c =
     let es = c.args.threads.now.entries in
     let any = c.any_without_wait.ensures in (
-      λ t. let p = some_runs es c.len-ordered.ensures.ordered (sym any ∙ t) in (p.0, subst (λ (o : Option Thread). IsRunning o) (sym (get_thread es p.0)) p.1),
+      λ t. let p =
+          some_runs es c.len-ordered.ensures.ordered (sym any ∙ t) in
+          (p.0, subst (λ (o : Option Thread). IsRunning o) (sym (get_thread es p.0)) p.1),
       λ p. any ∙ runs_some es p.0 (subst (λ (o : Option Thread). IsRunning o) (get_thread es p.0) p.1),
     )

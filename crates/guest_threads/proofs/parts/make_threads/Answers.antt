@@ -30,6 +30,7 @@ returns-then-not-threads_fit c = (
 pub returns : goal.returns
 returns c = (
   λ t. makes c.args.threads.now c.args.waiting.now c.args.next_tid c.if-threads.false c.if-next_tid-lt1.false c.if-next_tid.false
-      (sym c.tids_rise.ensures ∙ c.if-not-tids_rise.false) (c.threads_fit.ensures.0 c.if-not-threads_fit.false) (sym c.order_fits.ensures ∙ t),
+      (sym c.tids_rise.ensures ∙ c.if-not-tids_rise.false) (c.threads_fit.ensures.0 c.if-not-threads_fit.false)
+      (sym c.order_fits.ensures ∙ t),
   λ h. c.order_fits.ensures ∙ ordered c.args.threads.now c.args.waiting.now c.args.next_tid h,
 )

@@ -30,9 +30,13 @@ loop-number-preserved-then-is_own c =
     let more : take (i + 1) numbers ≡ take i numbers ++ m ∷ [] = (take_at_read numbers i 0 c.loop-number-test.true).1 in
     let counts = counts_in (get c.args.pool.now) (entry_at c.args.table.now) in
     record {
-      copies = subst (λ (ns : List ℕ). AreCopies ns (pages_in (get c.args.pool.now) (entry_at c.args.table.now)) counts c.loop-number.copies.items) (sym more)
-          (one_is_own (take i numbers) m _ _ c.loop-number.copies.items c.loop-number.invariant.copies (c.is_own.ensures.own c.if-is_own.true));
-      none = λ own. c.loop-number.invariant.none (λ n a. own n (ap (λ (ns : List ℕ). is_listed ns n) more ∙ still_listed (take i numbers) m n a));
+      copies = subst
+          (λ (ns : List ℕ). AreCopies ns (pages_in (get c.args.pool.now) (entry_at c.args.table.now)) counts c.loop-number.copies.items)
+          (sym more)
+          (one_is_own (take i numbers) m _ _ c.loop-number.copies.items c.loop-number.invariant.copies
+          (c.is_own.ensures.own c.if-is_own.true));
+      none = λ own. c.loop-number.invariant.none
+          (λ n a. own n (ap (λ (ns : List ℕ). is_listed ns n) more ∙ still_listed (take i numbers) m n a));
     }
 
 pub loop-number-preserved : goal.loop-number-preserved
@@ -43,28 +47,38 @@ loop-number-preserved c =
     let more : take (i + 1) numbers ≡ take i numbers ++ m ∷ [] = (take_at_read numbers i 0 c.loop-number-test.true).1 in
     let counts = counts_in (get c.args.pool.now) (entry_at c.args.table.now) in
     record {
-      copies = subst (λ (ns : List ℕ). AreCopies ns (pages_in (get c.args.pool.now) (entry_at c.args.table.now)) counts c.push.new.self.items) (sym more)
-          (one_copied (take i numbers) m _ _ c.loop-number.copies.items c.loop-number.invariant.copies _ c.in_ok-copy.copy c.in_ok-push.ensures.items c.in_ok-copy.ensures.number c.in_ok-copy.ensures.value);
-      none = λ own. absurd (c.is_own.ensures.shared c.if-is_own.false (own m (ap (λ (ns : List ℕ). is_listed ns m) more ∙ last_listed (take i numbers) m)));
+      copies = subst
+          (λ (ns : List ℕ). AreCopies ns (pages_in (get c.args.pool.now) (entry_at c.args.table.now)) counts c.push.new.self.items)
+          (sym more)
+          (one_copied (take i numbers) m _ _ c.loop-number.copies.items c.loop-number.invariant.copies _ c.in_ok-copy.copy
+          c.in_ok-push.ensures.items c.in_ok-copy.ensures.number c.in_ok-copy.ensures.value);
+      none = λ own. absurd
+          (c.is_own.ensures.shared c.if-is_own.false (own m (ap (λ (ns : List ℕ). is_listed ns m) more ∙ last_listed (take i numbers) m)));
     }
 
 pub returns-in_err-copy-clause-grows : goal.returns-in_err-copy-clause-grows
 returns-in_err-copy-clause-grows c =
     let not : AreUnshared c.args.numbers.now (counts_in (get c.args.pool.now) (entry_at c.args.table.now)) → ⊥ = λ own.
-    c.is_own.ensures.shared c.if-is_own.false (own (get_or c.args.numbers.now c.loop-number.number-index 0) (listed_taken c.args.numbers.now c.loop-number.number-index c.loop-number-test.true)) in
+    c.is_own.ensures.shared c.if-is_own.false
+    (own (get_or c.args.numbers.now c.loop-number.number-index 0)
+    (listed_taken c.args.numbers.now c.loop-number.number-index c.loop-number-test.true)) in
     on_err _ _ not
 
 pub returns-in_err-push-clause-grows : goal.returns-in_err-push-clause-grows
 returns-in_err-push-clause-grows c =
     let not : AreUnshared c.args.numbers.now (counts_in (get c.args.pool.now) (entry_at c.args.table.now)) → ⊥ = λ own.
-    c.is_own.ensures.shared c.if-is_own.false (own (get_or c.args.numbers.now c.loop-number.number-index 0) (listed_taken c.args.numbers.now c.loop-number.number-index c.loop-number-test.true)) in
+    c.is_own.ensures.shared c.if-is_own.false
+    (own (get_or c.args.numbers.now c.loop-number.number-index 0)
+    (listed_taken c.args.numbers.now c.loop-number.number-index c.loop-number-test.true)) in
     on_err _ _ not
 
 pub returns-clause-copies : goal.returns-clause-copies
 returns-clause-copies c =
-    subst (λ (ns : List ℕ). AreCopies ns (pages_in (get c.args.pool.now) (entry_at c.args.table.now)) (counts_in (get c.args.pool.now) (entry_at c.args.table.now)) c.loop-number.copies.items)
+    subst (λ (ns : List ℕ). AreCopies ns (pages_in (get c.args.pool.now) (entry_at c.args.table.now))
+    (counts_in (get c.args.pool.now) (entry_at c.args.table.now)) c.loop-number.copies.items)
     (take_all c.loop-number.number-index c.args.numbers.now c.loop-number-test.false) c.loop-number.invariant.copies
 
 pub returns-clause-none : goal.returns-clause-none
 returns-clause-none c = λ own. c.loop-number.invariant.none
-    (λ n a. own n (ap (λ (ns : List ℕ). is_listed ns n) (sym (take_all c.loop-number.number-index c.args.numbers.now c.loop-number-test.false)) ∙ a))
+    (λ n a. own n
+    (ap (λ (ns : List ℕ). is_listed ns n) (sym (take_all c.loop-number.number-index c.args.numbers.now c.loop-number-test.false)) ∙ a))

@@ -12,5 +12,7 @@ nothing bytes = record { permissions = record { read = false; write = false; exe
 
 pub returns-then-not-entry-clause-value : goal.returns-then-not-entry-clause-value
 returns-then-not-entry-clause-value c =
-    let unmapped : (entry_at c.args.table.now c.args.number).mapped ≡ false = ap (λ (e : Entry). e.mapped) (sym c.entry-entry.ensures) ∙ not_true c.entry-entry.result.mapped c.if-not-entry.true in
-    ap nothing c.in_ok-bytes.ensures ∙ sym (ap page_or_zeros (page_unmapped (get c.args.pool.now) (entry_at c.args.table.now) c.args.number unmapped))
+    let unmapped : (entry_at c.args.table.now c.args.number).mapped ≡ false =
+    ap (λ (e : Entry). e.mapped) (sym c.entry-entry.ensures) ∙ not_true c.entry-entry.result.mapped c.if-not-entry.true in
+    ap nothing c.in_ok-bytes.ensures
+    ∙ sym (ap page_or_zeros (page_unmapped (get c.args.pool.now) (entry_at c.args.table.now) c.args.number unmapped))

@@ -12,8 +12,11 @@ returns-clause-shared c =
     let kept = c.args.kept.now.items in
     let e : Entry = record { key = c.attach.result; mapped = true; permissions = c.args.page.permissions } in
     let p : Page = record { number = n; count = 1; bytes = c.args.page.bytes } in
-    let gone = removed_shared c.args.pool.now c.detach.new.pool c.args.table.now c.detach.new.table kept n c.requires.shared c.detach.ensures.gone c.detach.ensures.none c.detach.ensures.others c.detach.ensures.pages in
-    placed_shared c.detach.new.pool c.attach.new.pool c.detach.new.table c.attach.new.table kept n c.attach.result gone c.requires.low c.detach.ensures.gone c.attach.ensures.free e p c.attach.ensures.here refl refl refl refl c.attach.ensures.filled c.attach.ensures.others c.attach.ensures.page c.attach.ensures.rest
+    let gone = removed_shared c.args.pool.now c.detach.new.pool c.args.table.now c.detach.new.table kept n c.requires.shared
+    c.detach.ensures.gone c.detach.ensures.none c.detach.ensures.others c.detach.ensures.pages in
+    placed_shared c.detach.new.pool c.attach.new.pool c.detach.new.table c.attach.new.table kept n c.attach.result gone c.requires.low
+    c.detach.ensures.gone c.attach.ensures.free e p c.attach.ensures.here refl refl refl refl c.attach.ensures.filled
+    c.attach.ensures.others c.attach.ensures.page c.attach.ensures.rest
 
 pub returns-clause-placed : goal.returns-clause-placed
 returns-clause-placed c =
@@ -21,7 +24,12 @@ returns-clause-placed c =
     let kept = c.args.kept.now.items in
     let e : Entry = record { key = c.attach.result; mapped = true; permissions = c.args.page.permissions } in
     let p : Page = record { number = n; count = 1; bytes = c.args.page.bytes } in
-    let gone = removed_shared c.args.pool.now c.detach.new.pool c.args.table.now c.detach.new.table kept n c.requires.shared c.detach.ensures.gone c.detach.ensures.none c.detach.ensures.others c.detach.ensures.pages in
-    placed n (new_value c.args.page) (contents_in c.args.pool.now c.args.table.now kept) (contents_in c.detach.new.pool c.detach.new.table kept) (contents_in c.attach.new.pool c.attach.new.table kept)
-    (removed_contents c.args.pool.now c.detach.new.pool c.args.table.now c.detach.new.table kept n c.requires.shared c.detach.ensures.gone c.detach.ensures.none c.detach.ensures.others c.detach.ensures.pages c.detach.ensures.len)
-    (attached_contents c.detach.new.pool c.attach.new.pool c.detach.new.table c.attach.new.table kept n c.attach.result gone c.requires.low c.detach.ensures.gone c.attach.ensures.free e p c.attach.ensures.here refl refl refl refl c.attach.ensures.filled c.attach.ensures.others c.attach.ensures.page c.attach.ensures.rest c.attach.ensures.len)
+    let gone = removed_shared c.args.pool.now c.detach.new.pool c.args.table.now c.detach.new.table kept n c.requires.shared
+    c.detach.ensures.gone c.detach.ensures.none c.detach.ensures.others c.detach.ensures.pages in
+    placed n (new_value c.args.page) (contents_in c.args.pool.now c.args.table.now kept)
+    (contents_in c.detach.new.pool c.detach.new.table kept) (contents_in c.attach.new.pool c.attach.new.table kept)
+    (removed_contents c.args.pool.now c.detach.new.pool c.args.table.now c.detach.new.table kept n c.requires.shared c.detach.ensures.gone
+    c.detach.ensures.none c.detach.ensures.others c.detach.ensures.pages c.detach.ensures.len)
+    (attached_contents c.detach.new.pool c.attach.new.pool c.detach.new.table c.attach.new.table kept n c.attach.result gone c.requires.low
+    c.detach.ensures.gone c.attach.ensures.free e p c.attach.ensures.here refl refl refl refl c.attach.ensures.filled
+    c.attach.ensures.others c.attach.ensures.page c.attach.ensures.rest c.attach.ensures.len)

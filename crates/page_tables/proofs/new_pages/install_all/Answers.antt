@@ -34,12 +34,14 @@ loop-page-preserved c =
       room = omega (arith, i.room, sizes, p.len, p.room);
       small = omega (arith, i.small, p.room);
       low = low.0;
-      leaves = All-weaker (λ q. has_leaf c.loop-page.table q.number ≡ true) (λ q. has_leaf c.install.new.table q.number ≡ true) (λ q e. p.leaves q.number ∙ e) rest leaves.0;
+      leaves = All-weaker (λ q. has_leaf c.loop-page.table q.number ≡ true) (λ q. has_leaf c.install.new.table q.number ≡ true)
+          (λ q e. p.leaves q.number ∙ e) rest leaves.0;
       owned = λ numbers copies.
           let o = i.owned numbers copies in
           let each = All-pop (IsCopy numbers before.pages) c.loop-page.pages.items rest (Some x) is o.0.each in (
             one_comes numbers before after c.loop-page.pages.items rest x is o.0 p.placed,
-            one_step numbers x.number (new_value x) (contents_in c.args.pool.now c.args.table.now c.args.kept.now.items) before after o.1 p.placed each.1.value each.1.listed low.1,
+            one_step numbers x.number (new_value x) (contents_in c.args.pool.now c.args.table.now c.args.kept.now.items) before after o.1
+                p.placed each.1.value each.1.listed low.1,
           );
     }
 

@@ -14,7 +14,8 @@ invariant-loop-page l = record {
   small : l.pool.capacity ≤ 2 ^ 32;
   low : All (λ p. p.number < 0x80000) l.pages.items;
   leaves : All (λ p. has_leaf l.table p.number ≡ true) l.pages.items;
-  owned : (numbers : List ℕ) → AreCopies numbers (pages_in (get l.fn.pool) (entry_at l.fn.table)) (counts_in (get l.fn.pool) (entry_at l.fn.table)) l.fn.pages.items
+  owned : (numbers : List ℕ) →
+      AreCopies numbers (pages_in (get l.fn.pool) (entry_at l.fn.table)) (counts_in (get l.fn.pool) (entry_at l.fn.table)) l.fn.pages.items
       → AreCopies numbers (pages_in (get l.pool) (entry_at l.table)) (counts_in (get l.pool) (entry_at l.table)) l.pages.items
       × AreNearer numbers (contents_in l.fn.pool l.fn.table l.kept.items) (contents_in l.pool l.table l.kept.items);
 }

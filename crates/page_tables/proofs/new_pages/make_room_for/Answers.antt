@@ -16,8 +16,10 @@ loop-page-preserved c =
     let pages = c.args.pages.now in
     record {
       same = record { at = λ n. m.same.at n ∙ i.same.at n };
-      room = All-more (λ p. has_leaf c.make_room.new.self p.number ≡ true) pages c.loop-page.page-index c.page-item.result (omega (arith, c.loop-page-test.true))
-          (All-weaker (λ p. has_leaf c.loop-page.table p.number ≡ true) (λ p. has_leaf c.make_room.new.self p.number ≡ true) (λ p e. m.kept p.number e) (take c.loop-page.page-index pages) i.room)
+      room = All-more (λ p. has_leaf c.make_room.new.self p.number ≡ true) pages c.loop-page.page-index c.page-item.result
+          (omega (arith, c.loop-page-test.true))
+          (All-weaker (λ p. has_leaf c.loop-page.table p.number ≡ true) (λ p. has_leaf c.make_room.new.self p.number ≡ true)
+          (λ p e. m.kept p.number e) (take c.loop-page.page-index pages) i.room)
           (subst (λ (p : NewPage). has_leaf c.make_room.new.self p.number ≡ true) c.page-item.is c.in_ok-make_room.ensures.room);
     }
 
@@ -27,4 +29,5 @@ returns-in_err-make_room-clause-same c = record { at = λ n. c.make_room.ensures
 pub returns-clause-room : goal.returns-clause-room
 returns-clause-room c =
     let pages = c.args.pages.now in
-    subst (All (λ p. has_leaf c.loop-page.table p.number ≡ true)) (take_all c.loop-page.page-index pages (omega (arith, c.loop-page-test.false))) c.loop-page.invariant.room
+    subst (All (λ p. has_leaf c.loop-page.table p.number ≡ true))
+    (take_all c.loop-page.page-index pages (omega (arith, c.loop-page-test.false))) c.loop-page.invariant.room

@@ -10,6 +10,7 @@ returns-clause-filled c = c.fill_page.ensures
 pub returns-clause-put : goal.returns-clause-put
 returns-clause-put c =
     let from = c.args.from.now in
-    put_mid-paste c.args.at (c.args.at + length from - c.args.at) c.args.bytes.now c.copy_from_slice.new.self from (length from) c.copy_from_slice.ensures.after (omega arith) refl
+    put_mid-paste c.args.at (c.args.at + length from - c.args.at) c.args.bytes.now c.copy_from_slice.new.self from (length from)
+    c.copy_from_slice.ensures.after (omega arith) refl
     ∙ paste_all c.args.bytes.now c.args.at from (length from) refl
     ∙ sym (written_is from c.args.bytes.now c.args.at (omega (arith, c.told-bytes)))

@@ -6,5 +6,7 @@ use Rattle.page_tables.proofs.snapshots.store.Goals as goal
 
 pub returns-clause-stored : goal.returns-clause-stored
 returns-clause-stored c =
-    subst (λ (later : List (Option Table)). IsSlotSet c.args.number (Some c.args.table) c.args.kept.now.items later) (sym c.in_ok-push.ensures.items)
-    (slot_pushed c.args.kept.now.items c.args.number (Some c.args.table) (omega (arith, c.len.ensures, c.args.kept.now.ok, c.if-number-len.false)))
+    subst (λ (later : List (Option Table)). IsSlotSet c.args.number (Some c.args.table) c.args.kept.now.items later)
+    (sym c.in_ok-push.ensures.items)
+    (slot_pushed c.args.kept.now.items c.args.number (Some c.args.table)
+    (omega (arith, c.len.ensures, c.args.kept.now.ok, c.if-number-len.false)))

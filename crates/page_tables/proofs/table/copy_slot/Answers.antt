@@ -6,4 +6,5 @@ use Rattle.page_tables.specs.Table.{entry_in}
 use Rattle.page_tables.proofs.table.copy_slot.Goals as goal
 
 pub returns : goal.returns
-returns c = λ at. ap (λ (es : List Entry). get_or es at NO_PAGE) (c.in_ok-entries.ensures.ok ∙ c.deref.ensures) ∙ sym (ap (λ (o : Option Leaf). entry_in o at) c.in-Some.is)
+returns c = λ at. ap (λ (es : List Entry). get_or es at NO_PAGE) (c.in_ok-entries.ensures.ok ∙ c.deref.ensures)
+    ∙ sym (ap (λ (o : Option Leaf). entry_in o at) c.in-Some.is)

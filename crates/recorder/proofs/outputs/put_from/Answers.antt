@@ -12,7 +12,11 @@ loop-at-preserved g c =
     let low = i.range in
     record {
       range = omega arith;
-      put = λ tells. e.took (i.tells.1 tells) ∙ ap (λ (l : List ℕ). g.S.Sink.taken c.loop-at.sink ++ to_descriptor c.args.descriptor (take c.in-Ok.count l)) (take_rest c.args.bytes.now c.loop-at.at) ∙ ap (λ (l : List (ℕ × ℕ)). l ++ to_descriptor c.args.descriptor (take c.in-Ok.count (drop c.loop-at.at c.args.bytes.now))) (i.put tells)
+      put = λ tells. e.took (i.tells.1 tells)
+          ∙ ap (λ (l : List ℕ). g.S.Sink.taken c.loop-at.sink ++ to_descriptor c.args.descriptor (take c.in-Ok.count l))
+          (take_rest c.args.bytes.now c.loop-at.at)
+          ∙ ap (λ (l : List (ℕ × ℕ)). l ++ to_descriptor c.args.descriptor (take c.in-Ok.count (drop c.loop-at.at c.args.bytes.now)))
+          (i.put tells)
           ∙ more_put c.args.descriptor c.args.offset c.loop-at.at c.in-Ok.count c.args.bytes.now _ low.0;
       counted = e.counted ∙ i.counted;
       tells = ((λ t. i.tells.0 (e.tells.0 t)), (λ t. e.tells.1 (i.tells.1 t)));

@@ -13,7 +13,9 @@ loop-at-preserved g c =
     let low = i.range in
     record {
       range = omega arith;
-      put = λ tells. e.took (i.tells.1 tells) ∙ ap (λ (l : List ℕ). g.S.Sink.taken c.loop-at.sink ++ to_descriptor c.args.descriptor (take count l)) (take_rest c.args.bytes.now c.loop-at.at)
+      put = λ tells. e.took (i.tells.1 tells)
+          ∙ ap (λ (l : List ℕ). g.S.Sink.taken c.loop-at.sink ++ to_descriptor c.args.descriptor (take count l))
+          (take_rest c.args.bytes.now c.loop-at.at)
           ∙ ap (λ (l : List (ℕ × ℕ)). l ++ to_descriptor c.args.descriptor (take count (drop c.loop-at.at c.args.bytes.now))) (i.put tells)
           ∙ bytes_more c.args.descriptor c.loop-at.at count c.args.bytes.now _;
       counted = e.counted ∙ i.counted;

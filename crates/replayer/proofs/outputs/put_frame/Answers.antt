@@ -9,6 +9,7 @@ returns-in-Some-clause-part g c = on_err_weaker c.put_bytes.result
     (λ part tells. let some = part tells in (
       some.0,
       some.1 ∙ ap (λ (l : List (ℕ × ℕ)). g.S.Sink.taken c.args.sink.now ++ l)
-          (call_part c.args.frame.now.end c.in-Call.field-0 (chunks_of c.args.guest.now.put) c.in-Some.descriptor some.0 c.in-Some.bytes.now c.in-Call.is c.in-Some.ensures),
+          (call_part c.args.frame.now.end c.in-Call.field-0 (chunks_of c.args.guest.now.put) c.in-Some.descriptor some.0 c.in-Some.bytes.now
+          c.in-Call.is c.in-Some.ensures),
     ))
     c.put_bytes.ensures.part

@@ -15,7 +15,8 @@ loop-index-init g c =
     let w = c.in_ok-walk.walk in
     record {
       read = first ∷ [];
-      followed = followed_first first w c.in_ok-walk.ensures.stands c.in_ok-walk.ensures.row c.in_ok-walk.ensures.frames c.in_ok-walk.ensures.marks c.in_ok-walk.ensures.total c.in_ok-walk.ensures.last c.in_ok-walk.ensures.ends;
+      followed = followed_first first w c.in_ok-walk.ensures.stands c.in_ok-walk.ensures.row c.in_ok-walk.ensures.frames
+          c.in_ok-walk.ensures.marks c.in_ok-walk.ensures.total c.in_ok-walk.ensures.last c.in_ok-walk.ensures.ends;
       count = refl;
       few = omega (arith, c.len-len.ensures, c.requires);
       keeping = c.in_ok-walk.ensures.keeps;
@@ -35,8 +36,10 @@ loop-index-preserved g c =
     let some : 1 ≤ length inv.read = omega (arith, inv.count, c.loop-index.auto.index) in
     record {
       read = inv.read ++ next.entry ∷ [];
-      followed = followed_next c.args.first.now inv.read next.entry old new some inv.followed next.keeps next.row next.goes_on next.counted next.last
-          (subst (λ n. LeadsOn c.args.first.now.guest n next.entry (state_of old.base) old.row.items (state_of old.guest) (state_of new.base) new.row.items (state_of new.guest)) (sym inv.count) next.leads);
+      followed = followed_next c.args.first.now inv.read next.entry old new some inv.followed next.keeps next.row next.goes_on next.counted
+          next.last
+          (subst (λ n. LeadsOn c.args.first.now.guest n next.entry (state_of old.base) old.row.items (state_of old.guest)
+          (state_of new.base) new.row.items (state_of new.guest)) (sym inv.count) next.leads);
       count = omega (arith, inv.count, length-append inv.read (next.entry ∷ []));
       few = omega (arith, c.loop-index-test.true);
       keeping = next.goes_on ∙ inv.keeping;
@@ -52,15 +55,20 @@ loop-index-preserved g c =
 pub returns-in_err-walk-clause-refused : goal.returns-in_err-walk-clause-refused
 returns-in_err-walk-clause-refused g c = λ h there.
     let p = err_from_is_err_and c.from_residual.result c.from_residual.ensures.1 in
-    rw (p.1, p.2) (first_refused c.in_err-walk.field-0.0 (g.S.Source.records c.args.source.now) c.args.first.now there c.in_err-walk.ensures.refused)
+    rw (p.1, p.2)
+    (first_refused c.in_err-walk.field-0.0 (g.S.Source.records c.args.source.now) c.args.first.now there c.in_err-walk.ensures.refused)
 
 pub returns-in_err-follow_given-clause-refused : goal.returns-in_err-follow_given-clause-refused
 returns-in_err-follow_given-clause-refused g c = λ h there.
     let inv = c.loop-index.invariant in
     let p = err_from_is_err_and c.from_residual-in_err-follow_given.result c.from_residual-in_err-follow_given.ensures.1 in
-    rw (p.1, p.2) (given_refused c.in_err-follow_given.field-0.0 c.args.first.now.guest (g.S.Source.records c.args.source.now) c.loop-index.index c.args.first.now inv.read
-    (state_of c.loop-index.walk.base) c.loop-index.walk.row.items (state_of c.loop-index.walk.guest) (omega (arith, c.loop-index-test.true, c.len-len.ensures)) there c.in_ok-walk.ensures.opened (inv.is h there) inv.followed.stands
-    (subst (λ (l : List Record). RefusesGiven c.in_err-follow_given.field-0.0 c.args.first.now.guest c.loop-index.index l (state_of c.loop-index.walk.base) c.loop-index.walk.row.items (state_of c.loop-index.walk.guest))
+    rw (p.1, p.2)
+    (given_refused c.in_err-follow_given.field-0.0 c.args.first.now.guest (g.S.Source.records c.args.source.now) c.loop-index.index
+    c.args.first.now inv.read
+    (state_of c.loop-index.walk.base) c.loop-index.walk.row.items (state_of c.loop-index.walk.guest)
+    (omega (arith, c.loop-index-test.true, c.len-len.ensures)) there c.in_ok-walk.ensures.opened (inv.is h there) inv.followed.stands
+    (subst (λ (l : List Record). RefusesGiven c.in_err-follow_given.field-0.0 c.args.first.now.guest c.loop-index.index l
+    (state_of c.loop-index.walk.base) c.loop-index.walk.row.items (state_of c.loop-index.walk.guest))
     inv.records (c.in_err-follow_given.ensures.refused (inv.honest.1 h))))
 
 pub returns-clause-follows : goal.returns-clause-follows
@@ -70,5 +78,6 @@ returns-clause-follows g c =
       read = inv.read;
       followed = inv.followed;
       all = omega (arith, inv.count, inv.few, c.loop-index-test.false, c.len-len.ensures);
-      are = λ h there. all_read inv.read (g.S.Source.records c.args.source.now) c.loop-index.index (inv.is h there) (omega (arith, c.loop-index-test.false, c.len-len.ensures));
+      are = λ h there. all_read inv.read (g.S.Source.records c.args.source.now) c.loop-index.index (inv.is h there)
+          (omega (arith, c.loop-index-test.false, c.len-len.ensures));
     }

@@ -12,7 +12,8 @@ invariant-loop-index g l = record {
   few : l.index ≤ l.len;
   keeping : l.walk.keeps ≡ l.keeps;
   total : l.walk.total ≤ l.index * 2 ^ 20;
-  is : g.S.Source.honest l.fn.source → slice_get (g.S.Source.records l.fn.source) 0 ≡ Some l.first → read ≡ take l.index (g.S.Source.records l.fn.source);
+  is : g.S.Source.honest l.fn.source → slice_get (g.S.Source.records l.fn.source) 0 ≡ Some l.first →
+      read ≡ take l.index (g.S.Source.records l.fn.source);
   records : g.S.Source.records l.source ≡ g.S.Source.records l.fn.source;
   honest : g.S.Source.honest l.source ↔ g.S.Source.honest l.fn.source;
   withheld : g.S.Source.withheld l.source ≡ g.S.Source.withheld l.fn.source;

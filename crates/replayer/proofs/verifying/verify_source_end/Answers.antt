@@ -9,5 +9,7 @@ returns-clause-ends g c = λ h.
     let all = c.in_ok-guest.ensures.follows in
     let first = c.in_ok-first.first in
     let same = c.given.ensures.records in
-    let are = all.are (c.given.ensures.honest.1 h) (subst (λ (rs : List Record). slice_get rs 0 ≡ Some first) (sym same) (c.in_ok-first.ensures.record h)) ∙ same in
-    end_of first all.read (g.S.Source.records c.args.source.now) c.in_ok-guest.field-0 _ all.followed are refl refl (omega (arith, c.len-len.ensures, ap (λ (rs : List Record). length rs) are)) refl
+    let are = all.are (c.given.ensures.honest.1 h)
+    (subst (λ (rs : List Record). slice_get rs 0 ≡ Some first) (sym same) (c.in_ok-first.ensures.record h)) ∙ same in
+    end_of first all.read (g.S.Source.records c.args.source.now) c.in_ok-guest.field-0 _ all.followed are refl refl
+    (omega (arith, c.len-len.ensures, ap (λ (rs : List Record). length rs) are)) refl

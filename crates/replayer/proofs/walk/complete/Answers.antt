@@ -13,7 +13,9 @@ returns-then-not-same-clause-refused c = (
       let base = state_of c.args.walk.now.base in
       let new = state_of c.put_parts.new.guest in
       let found = subst (λ (ps : List Part). Describes base ps new) c.as_slice.ensures.value c.in-Ok.ensures.put in
-      absurd (false≢true (sym c.if-not-same.true ∙ c.same.ensures.1 (one_described base new (state_of c.args.walk.now.guest) c.args.walk.now.row.items found described))),
+      absurd (false≢true
+      (sym c.if-not-same.true
+      ∙ c.same.ensures.1 (one_described base new (state_of c.args.walk.now.guest) c.args.walk.now.row.items found described))),
 )
 
 pub returns-in-Err-BadPart-clause-refused : goal.returns-in-Err-BadPart-clause-refused
@@ -22,7 +24,8 @@ returns-in-Err-BadPart-clause-refused c = (
   λ described.
       let base = state_of c.args.walk.now.base in
       let guest = state_of c.args.walk.now.guest in
-      c.in-Err-BadPart.ensures.bad (ap Err c.in-Err-BadPart.field-0-is) guest (subst (λ (ps : List Part). Describes base ps guest) (sym c.as_slice.ensures.value) described),
+      c.in-Err-BadPart.ensures.bad (ap Err c.in-Err-BadPart.field-0-is) guest
+      (subst (λ (ps : List Part). Describes base ps guest) (sym c.as_slice.ensures.value) described),
 )
 
 pub returns-in-Err-TooManyPages-clause-refused : goal.returns-in-Err-TooManyPages-clause-refused
@@ -31,5 +34,6 @@ returns-in-Err-TooManyPages-clause-refused c = (
   λ described.
       let base = state_of c.args.walk.now.base in
       let guest = state_of c.args.walk.now.guest in
-      c.in-Err-TooManyPages.ensures.many (ap Err c.in-Err-TooManyPages.field-0-is) guest (subst (λ (ps : List Part). Describes base ps guest) (sym c.as_slice.ensures.value) described),
+      c.in-Err-TooManyPages.ensures.many (ap Err c.in-Err-TooManyPages.field-0-is) guest
+      (subst (λ (ps : List Part). Describes base ps guest) (sym c.as_slice.ensures.value) described),
 )

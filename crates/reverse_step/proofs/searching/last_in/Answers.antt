@@ -21,7 +21,8 @@ loop-alloc-init c =
     let at = c.in_ok-place.ensures.at in
     record {
       same = c.in_ok-place.ensures.verified;
-      state = state_there c.args.verified.now c.in_ok-place.place c.guest.result.now c.in_ok-place.ensures.verified c.guest.ensures.guest c.guest.ensures.state;
+      state = state_there c.args.verified.now c.in_ok-place.place c.guest.result.now c.in_ok-place.ensures.verified c.guest.ensures.guest
+          c.guest.ensures.state;
       last = λ t low high change. omega (arith, low, high, at);
       before = c.byte_of-before.ensures ∙ ap (λ (g : GuestValue). byte_at (state_of g) c.args.address) c.guest.ensures.guest;
       low = omega (arith, at);
@@ -43,12 +44,14 @@ loop-alloc-preserved c =
     let guest = c.guest-in-loop-alloc.ensures in
     let state = state_there c.args.verified.now next c.guest-in-loop-alloc.result.now same guest.guest guest.state in
     let there : StateAt o frames (t + 1) new = subst (λ n. StateAt o frames n new) more state in
-    let after : c.byte_of-after.result ≡ byte_at new a = c.byte_of-after.ensures ∙ ap (λ (g : GuestValue). byte_at (state_of g) a) guest.guest in
+    let after : c.byte_of-after.result ≡ byte_at new a =
+    c.byte_of-after.ensures ∙ ap (λ (g : GuestValue). byte_at (state_of g) a) guest.guest in
     let last : IsLastIn o frames a c.args.start (t + 1) c.if-not-is_same.found = elim c.if-not-is_same.branch [
       | then-not-is_same w ↦
           let changed = change_more o frames a c.args.start t s new i.low i.state there
           (λ e. false≢true (sym w.if-not-is_same.true ∙ c.is_same.ensures.1 (i.before ∙ e ∙ sym after))) in
-          subst (λ (f : Option ℕ). IsLastIn o frames a c.args.start (t + 1) f) (sym (w.found-is ∙ ap (λ n. Some n) c.at-t.ensures.at)) changed
+          subst (λ (f : Option ℕ). IsLastIn o frames a c.args.start (t + 1) f) (sym (w.found-is ∙ ap (λ n. Some n) c.at-t.ensures.at))
+          changed
       | else-not-is_same w ↦
           let kept = same_more o frames a c.args.start t c.loop-alloc.found s new i.last i.state there
           (sym i.before ∙ c.is_same.ensures.0 w.if-not-is_same.false ∙ after) in
@@ -68,4 +71,5 @@ returns c =
     let i = c.loop-alloc.invariant in
     let high = i.high in
     let there : c.loop-alloc.place.at ≡ c.args.end = omega (arith, c.at.ensures.at, c.loop-alloc-test.false, high) in
-    subst (λ n. IsLastIn c.args.verified.now.opening c.args.verified.now.frames c.args.address c.args.start n c.loop-alloc.found) there i.last
+    subst (λ n. IsLastIn c.args.verified.now.opening c.args.verified.now.frames c.args.address c.args.start n c.loop-alloc.found) there
+    i.last

@@ -21,6 +21,7 @@ returns-in_ok-op-in_default c =
     let width : funct3 w ≡ 0b010 = grind (arith, nat_tests) in
     let no_lr : (funct5 w == 2) ≡ false = grind (arith, nat_tests) in
     let no_sc : (funct5 w == 3) ≡ false = grind (arith, nat_tests) in
-    let found : amo_of (funct5 w) ≡ Some c.in_ok-op-in_default.op = ap amo_of (sym c.funct5_of.ensures) ∙ sym c.amo_op.ensures ∙ c.in_ok-op-in_default.was in
+    let found : amo_of (funct5 w) ≡ Some c.in_ok-op-in_default.op =
+    ap amo_of (sym c.funct5_of.ensures) ∙ sym c.amo_op.ensures ∙ c.in_ok-op-in_default.was in
     rw (c.ordering-in_default.ensures, c.rd-in_default.ensures, c.rs1-in_default.ensures, c.rs2-in_default.ensures)
     (amo_read w c.in_ok-op-in_default.op c.requires width no_lr no_sc found)

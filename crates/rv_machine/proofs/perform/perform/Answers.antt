@@ -35,7 +35,8 @@ pub returns-in-Sc-clause-performs : goal.returns-in-Sc-clause-performs
 returns-in-Sc-clause-performs c = rw c.in-Sc.is (c.store_conditional.ensures.executes c.in-Sc.ordering)
 
 pub returns-in-Sc-clause-takes : goal.returns-in-Sc-clause-takes
-returns-in-Sc-clause-takes c = rw c.in-Sc.is (both _ _ _ c.store_conditional.ensures.reserved (c.store_conditional.ensures.goes c.in-Sc.ordering))
+returns-in-Sc-clause-takes c =
+    rw c.in-Sc.is (both _ _ _ c.store_conditional.ensures.reserved (c.store_conditional.ensures.goes c.in-Sc.ordering))
 
 pub returns-in-Amo-clause-performs : goal.returns-in-Amo-clause-performs
 returns-in-Amo-clause-performs c = rw c.in-Amo.is (c.change.ensures.executes c.in-Amo.ordering _)

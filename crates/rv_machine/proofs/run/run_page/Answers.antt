@@ -11,10 +11,13 @@ loop-count-init c = (c.requires.regs, no_steps _, refl, (λ _. refl), c.requires
 pub loop-count-preserved : goal.loop-count-preserved
 loop-count-preserved c =
     let does = rw c.in-Ok-Next.field-0-is at c.in-Ok-Next.ensures.performs in
-    let are = decoded_there c.loop-count.count (hart c.args.regs.now (memory_of c.args.space.now) c.args.reservation.now) (hart c.loop-count.regs (memory_of c.loop-count.space) c.loop-count.reservation) c.args.page.now c.index-instrs-pc.result
+    let are = decoded_there c.loop-count.count (hart c.args.regs.now (memory_of c.args.space.now) c.args.reservation.now)
+    (hart c.loop-count.regs (memory_of c.loop-count.space) c.loop-count.reservation) c.args.page.now c.index-instrs-pc.result
     c.requires.decoded c.loop-count.invariant.1 c.if-pc-number.false c.loop-count.invariant.4
     (rw c.as_slice-instrs.ensures.value at c.index-instrs-pc.is) in
-    let step = performs_step (hart c.loop-count.regs (memory_of c.loop-count.space) c.loop-count.reservation) (hart c.perform.new.regs (memory_of c.perform.new.space) c.perform.new.reservation) c.index-instrs-pc.result _ c.loop-count.invariant.4 are does in (
+    let step = performs_step (hart c.loop-count.regs (memory_of c.loop-count.space) c.loop-count.reservation)
+    (hart c.perform.new.regs (memory_of c.perform.new.space) c.perform.new.reservation) c.index-instrs-pc.result _
+    c.loop-count.invariant.4 are does in (
       c.perform.ensures.regs,
       one_more _ _ _ _ c.loop-count.invariant.1 step,
       c.perform.ensures.snapshots ∙ c.loop-count.invariant.2,
@@ -25,7 +28,8 @@ loop-count-preserved c =
 pub returns-in-Ok-Call-clause-runs : goal.returns-in-Ok-Call-clause-runs
 returns-in-Ok-Call-clause-runs c =
     let does = rw c.in-Ok-Call.field-0-is at c.in-Ok-Call.ensures.performs in
-    let are = decoded_there c.loop-count.count (hart c.args.regs.now (memory_of c.args.space.now) c.args.reservation.now) (hart c.loop-count.regs (memory_of c.loop-count.space) c.loop-count.reservation) c.args.page.now c.index-instrs-pc.result
+    let are = decoded_there c.loop-count.count (hart c.args.regs.now (memory_of c.args.space.now) c.args.reservation.now)
+    (hart c.loop-count.regs (memory_of c.loop-count.space) c.loop-count.reservation) c.args.page.now c.index-instrs-pc.result
     c.requires.decoded c.loop-count.invariant.1 c.if-pc-number.false c.loop-count.invariant.4
     (rw c.as_slice-instrs.ensures.value at c.index-instrs-pc.is) in
     to_call _ _ _ _ _ c.loop-count-test.true c.loop-count.invariant.0 c.loop-count.invariant.1
@@ -34,7 +38,8 @@ returns-in-Ok-Call-clause-runs c =
 pub returns-in-Ok-Fault-clause-runs : goal.returns-in-Ok-Fault-clause-runs
 returns-in-Ok-Fault-clause-runs c =
     let does = rw c.in-Ok-Fault.field-0-is at c.in-Ok-Fault.ensures.performs in
-    let are = decoded_there c.loop-count.count (hart c.args.regs.now (memory_of c.args.space.now) c.args.reservation.now) (hart c.loop-count.regs (memory_of c.loop-count.space) c.loop-count.reservation) c.args.page.now c.index-instrs-pc.result
+    let are = decoded_there c.loop-count.count (hart c.args.regs.now (memory_of c.args.space.now) c.args.reservation.now)
+    (hart c.loop-count.regs (memory_of c.loop-count.space) c.loop-count.reservation) c.args.page.now c.index-instrs-pc.result
     c.requires.decoded c.loop-count.invariant.1 c.if-pc-number.false c.loop-count.invariant.4
     (rw c.as_slice-instrs.ensures.value at c.index-instrs-pc.is) in
     to_fault _ _ _ _ _ _ c.loop-count-test.true c.loop-count.invariant.1
@@ -43,9 +48,11 @@ returns-in-Ok-Fault-clause-runs c =
 
 pub returns-in-Err-clause-runs : goal.returns-in-Err-clause-runs
 returns-in-Err-clause-runs c =
-    let are = decoded_there c.loop-count.count (hart c.args.regs.now (memory_of c.args.space.now) c.args.reservation.now) (hart c.loop-count.regs (memory_of c.loop-count.space) c.loop-count.reservation) c.args.page.now c.index-instrs-pc.result
+    let are = decoded_there c.loop-count.count (hart c.args.regs.now (memory_of c.args.space.now) c.args.reservation.now)
+    (hart c.loop-count.regs (memory_of c.loop-count.space) c.loop-count.reservation) c.args.page.now c.index-instrs-pc.result
     c.requires.decoded c.loop-count.invariant.1 c.if-pc-number.false c.loop-count.invariant.4
     (rw c.as_slice-instrs.ensures.value at c.index-instrs-pc.is) in
     to_memory _ _ _ _ _ c.loop-count-test.true c.loop-count.invariant.1
-    (stores_may (hart c.loop-count.regs (memory_of c.loop-count.space) c.loop-count.reservation) c.index-instrs-pc.result c.loop-count.invariant.4 are c.in-Err.ensures.takes)
+    (stores_may (hart c.loop-count.regs (memory_of c.loop-count.space) c.loop-count.reservation) c.index-instrs-pc.result
+    c.loop-count.invariant.4 are c.in-Err.ensures.takes)
     c.in-Err.ensures.refused

@@ -10,12 +10,16 @@ use Rattle.serial_sched.proofs.following.follow_fault.Goals as goal
 
 pub returns-in_err-found-clause-follows : goal.returns-in_err-found-clause-follows
 returns-in_err-found-clause-follows c =
-    refused c.from_residual.result c.in_err-found.field-0.0 (ends.Fault c.args.kind) c.args.tid c.args.count (state_of c.args.guest.now) (state_of c.run_whole.new.guest)
-    c.from_residual.ensures.1 (λ e. no_fault (state_of c.args.guest.now) c.args.tid c.args.count c.args.kind (c.in_err-found.ensures.nowhere e)) c.in_err-found.ensures.memory
+    refused c.from_residual.result c.in_err-found.field-0.0 (ends.Fault c.args.kind) c.args.tid c.args.count (state_of c.args.guest.now)
+    (state_of c.run_whole.new.guest)
+    c.from_residual.ensures.1
+    (λ e. no_fault (state_of c.args.guest.now) c.args.tid c.args.count c.args.kind (c.in_err-found.ensures.nowhere e))
+    c.in_err-found.ensures.memory
 
 pub returns-then-ne-clause-follows : goal.returns-then-ne-clause-follows
 returns-then-ne-clause-follows c =
-    λ new p. other_than_fault c.in_ok-found.field-0 c.args.tid c.args.count c.args.kind (state_of c.args.guest.now) (state_of c.run_whole.new.guest)
+    λ new p. other_than_fault c.in_ok-found.field-0 c.args.tid c.args.count c.args.kind (state_of c.args.guest.now)
+    (state_of c.run_whole.new.guest)
     (λ k. differs_true the_type c.in-Fault.found c.args.kind (sym c.ne.ensures ∙ c.if-ne.true)
     (same_kinds c.in_ok-found.field-0 c.in-Fault.found c.args.kind c.in-Fault.is k)) c.in_ok-found.ensures.runs new p
 
@@ -33,5 +37,6 @@ returns-else-ne-clause-follows c =
 
 pub returns-in_default-clause-follows : goal.returns-in_default-clause-follows
 returns-in_default-clause-follows c =
-    λ new p. other_than_fault c.in_ok-found.field-0 c.args.tid c.args.count c.args.kind (state_of c.args.guest.now) (state_of c.run_whole.new.guest)
+    λ new p. other_than_fault c.in_ok-found.field-0 c.args.tid c.args.count c.args.kind (state_of c.args.guest.now)
+    (state_of c.run_whole.new.guest)
     (λ k. c.in_default.not-Fault c.args.kind k) c.in_ok-found.ensures.runs new p

@@ -6,7 +6,8 @@ use Rattle.serial_sched.proofs.following.follow_preempt.Goals as goal
 
 pub returns-in_err-steps-clause-follows : goal.returns-in_err-steps-clause-follows
 returns-in_err-steps-clause-follows c =
-    refused c.from_residual.result c.in_err-steps.field-0.0 ends.Preempt c.args.tid c.args.count (state_of c.args.guest.now) (state_of c.steps.new.guest) c.from_residual.ensures.1
+    refused c.from_residual.result c.in_err-steps.field-0.0 ends.Preempt c.args.tid c.args.count (state_of c.args.guest.now)
+    (state_of c.steps.new.guest) c.from_residual.ensures.1
     (λ e other p. c.in_err-steps.ensures.nowhere e p.last p.steps) c.in_err-steps.ensures.memory
 
 pub returns-clause-follows : goal.returns-clause-follows

@@ -13,5 +13,6 @@ returns-in_err-run_whole-clause-nowhere c =
 
 pub returns-in_default-clause-nowhere : goal.returns-in_default-clause-nowhere
 returns-in_default-clause-nowhere c =
-    λ e new p. other_than_steps c.in_ok-run_whole.field-0 c.args.tid c.args.count (state_of c.args.guest.now) (state_of c.run_whole.new.guest)
+    λ e new p. other_than_steps c.in_ok-run_whole.field-0 c.args.tid c.args.count (state_of c.args.guest.now)
+    (state_of c.run_whole.new.guest)
     c.in_default.not-Limit c.in_ok-run_whole.ensures.runs new p

@@ -8,18 +8,21 @@ use Rattle.serial_sched.proofs.slices.run_slice.Goals as goal
 pub call-requires-clause-running : goal.call-requires-clause-running
 call-requires-clause-running g c =
     let p = rw c.in-Call.is at c.run_thread-run.ensures.runs in
-    call_running c.args.choice.quantum c.args.choice.tid c.run_thread-run.result.count (state_of c.args.guest.now) (state_of c.run_thread-run.new.self) p
+    call_running c.args.choice.quantum c.args.choice.tid c.run_thread-run.result.count (state_of c.args.guest.now)
+    (state_of c.run_thread-run.new.self) p
 
 pub call-requires-clause-runs : goal.call-requires-clause-runs
 call-requires-clause-runs g c =
     let p = rw c.in-Call.is at c.run_thread-run.ensures.runs in
-    call_runs_on c.args.choice.quantum c.args.choice.tid c.run_thread-run.result.count (state_of c.args.guest.now) (state_of c.run_thread-run.new.self) p c.requires.runs
+    call_runs_on c.args.choice.quantum c.args.choice.tid c.run_thread-run.result.count (state_of c.args.guest.now)
+    (state_of c.run_thread-run.new.self) p c.requires.runs
 
 pub take_back-requires : goal.take_back-requires
 take_back-requires g c =
     let p = rw c.in-Call.is at c.run_thread-run.ensures.runs in
     subst (λ (v : GuestValue). IsRunning (thread_at (state_of v) c.args.choice.tid)) (sym c.in-Err.ensures.refused)
-    (call_running c.args.choice.quantum c.args.choice.tid c.run_thread-run.result.count (state_of c.args.guest.now) (state_of c.run_thread-run.new.self) p)
+    (call_running c.args.choice.quantum c.args.choice.tid c.run_thread-run.result.count (state_of c.args.guest.now)
+    (state_of c.run_thread-run.new.self) p)
 
 -- ---- slices
 
@@ -27,7 +30,8 @@ pub returns-in-Limit-clause-is_slice : goal.returns-in-Limit-clause-is_slice
 returns-in-Limit-clause-is_slice g c =
     let p = rw c.in-Limit.is at c.run_thread-run.ensures.runs in
     limit_slice g.O.Outside.gives c.args.guest.now c.closed_frame.new.guest c.args.choice c.args.outside.now c.args.outside.now c.requires
-    c.closed_frame.result c.run_thread-run.result.count (state_of c.run_thread-run.new.self) c.closed_frame.ensures.frame p.0 p.1 c.closed_frame.ensures.closes
+    c.closed_frame.result c.run_thread-run.result.count (state_of c.run_thread-run.new.self) c.closed_frame.ensures.frame p.0 p.1
+    c.closed_frame.ensures.closes
     (record {
       ran = c.closed_frame.ensures.ran ∙ c.run_thread-run.ensures.ran;
       put = c.closed_frame.ensures.put ∙ c.run_thread-run.ensures.put;
@@ -38,9 +42,12 @@ returns-in-Limit-clause-is_slice g c =
 pub returns-in-Ok-clause-is_slice : goal.returns-in-Ok-clause-is_slice
 returns-in-Ok-clause-is_slice g c =
     let p = rw c.in-Call.is at c.run_thread-run.ensures.runs in
-    call_slice g.O.Outside.gives c.args.guest.now c.closed_frame-in-Ok.new.guest c.args.choice c.args.outside.now c.call.new.outside c.requires
-    c.closed_frame-in-Ok.result c.run_thread-run.result.count (state_of c.run_thread-run.new.self) (state_of c.call.new.self) c.in-Ok.ensures.calls.0 c.in-Ok.told
-    c.closed_frame-in-Ok.ensures.frame p c.in-Ok.ensures.calls.1 c.in-Ok.ensures.text (ap chunks_of c.closed_frame-in-Ok.ensures.put ∙ c.in-Ok.ensures.puts)
+    call_slice g.O.Outside.gives c.args.guest.now c.closed_frame-in-Ok.new.guest c.args.choice c.args.outside.now c.call.new.outside
+    c.requires
+    c.closed_frame-in-Ok.result c.run_thread-run.result.count (state_of c.run_thread-run.new.self) (state_of c.call.new.self)
+    c.in-Ok.ensures.calls.0 c.in-Ok.told
+    c.closed_frame-in-Ok.ensures.frame p c.in-Ok.ensures.calls.1 c.in-Ok.ensures.text
+    (ap chunks_of c.closed_frame-in-Ok.ensures.put ∙ c.in-Ok.ensures.puts)
     c.in-Ok.ensures.answered c.in-Ok.ensures.unasked c.closed_frame-in-Ok.ensures.closes
     (c.closed_frame-in-Ok.ensures.ran ∙ c.in-Ok.ensures.keeps.ran ∙ c.run_thread-run.ensures.ran)
     (c.closed_frame-in-Ok.ensures.snapshots ∙ c.in-Ok.ensures.keeps.snapshots ∙ c.run_thread-run.ensures.snapshots)
@@ -63,9 +70,11 @@ pub returns-in-Memory : goal.returns-in-Memory
 returns-in-Memory g c =
     let p = rw c.in-Memory.is at c.run_thread-run.ensures.runs in
     let short =
-    stops_short g.O.Outside.gives c.args.guest.now c.stop_short-in-Memory.new.guest c.args.choice c.args.outside.now c.args.outside.now c.requires
+    stops_short g.O.Outside.gives c.args.guest.now c.stop_short-in-Memory.new.guest c.args.choice c.args.outside.now c.args.outside.now
+    c.requires
     c.stop_short-in-Memory.result c.run_thread-run.result.count (state_of c.run_thread-run.new.self) (omega (arith, c.ran-ran.ensures))
-    p.within p.steps (inl p.takes) c.stop_short-in-Memory.ensures.some c.stop_short-in-Memory.ensures.frame c.stop_short-in-Memory.ensures.closes
+    p.within p.steps (inl p.takes) c.stop_short-in-Memory.ensures.some c.stop_short-in-Memory.ensures.frame
+    c.stop_short-in-Memory.ensures.closes
     c.stop_short-in-Memory.ensures.none c.stop_short-in-Memory.ensures.refused
     (record {
       ran = c.stop_short-in-Memory.ensures.ran ∙ c.run_thread-run.ensures.ran;
@@ -79,7 +88,8 @@ pub returns-in-Err : goal.returns-in-Err
 returns-in-Err g c =
     let p = rw c.in-Call.is at c.run_thread-run.ensures.runs in
     let short =
-    call_stops_short g.O.Outside.gives c.args.guest.now c.stop_short.new.guest c.args.choice c.args.outside.now c.call.new.outside c.requires
+    call_stops_short g.O.Outside.gives c.args.guest.now c.stop_short.new.guest c.args.choice c.args.outside.now c.call.new.outside
+    c.requires
     c.stop_short.result c.run_thread-run.result.count (state_of c.run_thread-run.new.self) (state_of c.take_back.new.self)
     (omega (arith, c.ran-ran.ensures)) p c.in-Err.ensures.memory
     (c.take_back.ensures.state ∙ ap (λ (v : GuestValue). before_call c.args.choice.tid (state_of v)) c.in-Err.ensures.refused)
@@ -87,8 +97,10 @@ returns-in-Err g c =
     (record {
       ran = c.stop_short.ensures.ran ∙ c.take_back.ensures.ran ∙ ap (λ (v : GuestValue). v.ran_before_call) c.in-Err.ensures.refused
           ∙ c.run_thread-run.ensures.ran_before_call c.in-Call.is;
-      put = c.stop_short.ensures.put ∙ c.take_back.ensures.put ∙ ap (λ (v : GuestValue). v.put) c.in-Err.ensures.refused ∙ c.run_thread-run.ensures.put;
-      snapshots = c.stop_short.ensures.snapshots ∙ c.take_back.ensures.snapshots ∙ c.in-Err.ensures.keeps.snapshots ∙ c.run_thread-run.ensures.snapshots;
+      put = c.stop_short.ensures.put ∙ c.take_back.ensures.put ∙ ap (λ (v : GuestValue). v.put) c.in-Err.ensures.refused
+          ∙ c.run_thread-run.ensures.put;
+      snapshots = c.stop_short.ensures.snapshots ∙ c.take_back.ensures.snapshots ∙ c.in-Err.ensures.keeps.snapshots
+          ∙ c.run_thread-run.ensures.snapshots;
       environment = c.in-Err.ensures.refused_unasked;
     }) in
     record { is_slice = short.slice; memory = short.memory; grows = short.grows; refused = short.refused }

@@ -23,26 +23,30 @@ pub returns-in_err-make_frames-clause-chosen : goal.returns-in_err-make_frames-c
 returns-in_err-make_frames-clause-chosen g c =
     let p = err_from_is_err_and c.from_residual.result c.from_residual.ensures.1 in
     rw p.1 (subst (λ (e : WorkFault). MakesChosen g.C.Chooser.chooses c.args.recorder.now c.args.chooser.now c.make_frames.new.recorder
-    (WorkLeaves g.C.Chooser.chooses (Err e) c.make_frames.new.chooser (state_of c.make_frames.new.recorder.guest))) (sym p.2) c.in_err-make_frames.ensures.chosen)
+    (WorkLeaves g.C.Chooser.chooses (Err e) c.make_frames.new.chooser (state_of c.make_frames.new.recorder.guest))) (sym p.2)
+    c.in_err-make_frames.ensures.chosen)
 
 pub returns-in_err-settle-clause-chosen : goal.returns-in_err-settle-clause-chosen
 returns-in_err-settle-clause-chosen g c =
     let p = err_from_is_err_and c.from_residual-in_err-settle.result c.from_residual-in_err-settle.ensures.1 in
     let kept : KeepsMade c.make_frames.new.recorder c.settle.new.self = c.settle.ensures.keeps in
     rw p.1 (makes_settled g.C.Chooser.chooses _ _ _ _ _ p.0 p.2
-    (subst (λ (v : GuestValue). MakesChosen g.C.Chooser.chooses c.args.recorder.now c.args.chooser.now c.settle.new.self (IsLeftWith g.C.Chooser.chooses c.make_frames.new.chooser (state_of v))) (sym kept.guest)
+    (subst (λ (v : GuestValue). MakesChosen g.C.Chooser.chooses c.args.recorder.now c.args.chooser.now c.settle.new.self
+    (IsLeftWith g.C.Chooser.chooses c.make_frames.new.chooser (state_of v))) (sym kept.guest)
     (makes_kept g.C.Chooser.chooses _ _ _ _ _ kept c.in_ok-make_frames.ensures.chosen)))
 
 pub returns-clause-chosen : goal.returns-clause-chosen
 returns-clause-chosen g c =
     let kept : KeepsMade c.make_frames.new.recorder c.settle.new.self = c.settle.ensures.keeps in
-    subst (λ (v : GuestValue). MakesChosen g.C.Chooser.chooses c.args.recorder.now c.args.chooser.now c.settle.new.self (IsLeftWith g.C.Chooser.chooses c.make_frames.new.chooser (state_of v))) (sym kept.guest)
+    subst (λ (v : GuestValue). MakesChosen g.C.Chooser.chooses c.args.recorder.now c.args.chooser.now c.settle.new.self
+    (IsLeftWith g.C.Chooser.chooses c.make_frames.new.chooser (state_of v))) (sym kept.guest)
     (makes_kept g.C.Chooser.chooses _ _ _ _ _ kept c.in_ok-make_frames.ensures.chosen)
 
 pub returns-in_err-settle-clause-sink : goal.returns-in_err-settle-clause-sink
 returns-in_err-settle-clause-sink g c =
     let p = err_from_is_err_and c.from_residual-in_err-settle.result c.from_residual-in_err-settle.ensures.1 in
-    rw p.1 (work_tells _ _ _ _ _ (call_tells_settled c.settle.new.self _ _ _ c.in_err-settle.ensures.refused) c.in_ok-make_frames.ensures.sink p.2)
+    rw p.1 (work_tells _ _ _ _ _ (call_tells_settled c.settle.new.self _ _ _ c.in_err-settle.ensures.refused)
+    c.in_ok-make_frames.ensures.sink p.2)
 
 pub returns-clause-sink : goal.returns-clause-sink
 returns-clause-sink g c = c.in_ok-settle.ensures.steady ∙ c.in_ok-make_frames.ensures.sink

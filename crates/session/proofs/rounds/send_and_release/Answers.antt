@@ -21,7 +21,8 @@ returns-clause-drives g c =
 pub returns-in_err-release-clause-halted : goal.returns-in_err-release-clause-halted
 returns-in_err-release-clause-halted g c e =
     let p = err_from_is_err_and c.from_residual.result c.from_residual.ensures.1 in
-    absurd (subst (λ f. RefusesRelease f (g.S.Sink.faults c.args.sink.now) (g.S.Sink.faults c.release.new.sink)) {y = faults.Halted} (sym p.2 ∙ halted_is p.0 _ p.1 e) c.in_err-release.ensures.refused)
+    absurd (subst (λ f. RefusesRelease f (g.S.Sink.faults c.args.sink.now) (g.S.Sink.faults c.release.new.sink)) {y = faults.Halted}
+    (sym p.2 ∙ halted_is p.0 _ p.1 e) c.in_err-release.ensures.refused)
 
 pub returns-in_err-release-clause-keeps : goal.returns-in_err-release-clause-keeps
 returns-in_err-release-clause-keeps g c =

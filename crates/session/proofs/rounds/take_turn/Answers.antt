@@ -16,7 +16,8 @@ returns-clause-goes g c = goes_stepped g.O.Outside.gives _ _ _ _ _ _ c.in_ok-ste
 
 pub returns-clause-turn : goal.returns-clause-turn
 returns-clause-turn g c = makes_one g.C.Chooser.chooses g.O.Outside.gives _ _ _ _ _ _ _ _ c.in_ok-step.ensures.stepped
-    (subst (λ (x : GuestValue × Option Choice). Picks g.C.Chooser.chooses (state_of x.0) c.args.chooser.now x.1 c.choose.new.chooser) (λ i. (c.guest.ensures i, c.in-Some.is i)) c.in_ok-choice.ensures.picks)
+    (subst (λ (x : GuestValue × Option Choice). Picks g.C.Chooser.chooses (state_of x.0) c.args.chooser.now x.1 c.choose.new.chooser)
+    (λ i. (c.guest.ensures i, c.in-Some.is i)) c.in_ok-choice.ensures.picks)
 
 pub returns-in_err-step-clause-memory : goal.returns-in_err-step-clause-memory
 returns-in_err-step-clause-memory g c =
@@ -26,10 +27,12 @@ returns-in_err-step-clause-memory g c =
 pub returns-in_err-choice-clause-chosen : goal.returns-in_err-choice-clause-chosen
 returns-in_err-choice-clause-chosen g c =
     let p = err_from_is_err_and c.from_residual.result c.from_residual.ensures.1 in
-    rw p.1 (makes_none g.C.Chooser.chooses _ _ (IsAskedOnce g.C.Chooser.chooses c.choose.new.chooser (state_of c.args.recorder.now.guest)) (inl c.in_err-choice.ensures.same))
+    rw p.1 (makes_none g.C.Chooser.chooses _ _ (IsAskedOnce g.C.Chooser.chooses c.choose.new.chooser (state_of c.args.recorder.now.guest))
+    (inl c.in_err-choice.ensures.same))
 
 pub returns-in_err-step-clause-chosen : goal.returns-in_err-step-clause-chosen
 returns-in_err-step-clause-chosen g c =
     let p = err_from_is_err_and c.from_residual-in_err-step.result c.from_residual-in_err-step.ensures.1 in
     rw p.1 (makes_lost g.C.Chooser.chooses _ _ _ _ _ _ _ c.in_err-step.ensures.unmoved
-    (subst (λ (x : GuestValue × Option Choice). Picks g.C.Chooser.chooses (state_of x.0) c.args.chooser.now x.1 c.choose.new.chooser) (λ i. (c.guest.ensures i, c.in-Some.is i)) c.in_ok-choice.ensures.picks))
+    (subst (λ (x : GuestValue × Option Choice). Picks g.C.Chooser.chooses (state_of x.0) c.args.chooser.now x.1 c.choose.new.chooser)
+    (λ i. (c.guest.ensures i, c.in-Some.is i)) c.in_ok-choice.ensures.picks))

@@ -22,10 +22,13 @@ returns-then-count-eq0-clause-recorded g c = (
   [],
   nothing_ran g.D.Disk g.C.Chooser g.S.Sink c.args.log c.args.jobs.items,
   (
-    none_reported g.C.Chooser g.S.Sink c.args.log.next_guest c.args.jobs.items c.new.result.items (none_left c.args.jobs.items (search rules)) c.new.ensures.items,
-    none_left_behind c.args.log.next_guest c.args.jobs.items c.new-then-count-eq0.result.items (none_left c.args.jobs.items (search rules)) c.new-then-count-eq0.ensures.items,
+    none_reported g.C.Chooser g.S.Sink c.args.log.next_guest c.args.jobs.items c.new.result.items
+        (none_left c.args.jobs.items (search rules)) c.new.ensures.items,
+    none_left_behind c.args.log.next_guest c.args.jobs.items c.new-then-count-eq0.result.items (none_left c.args.jobs.items (search rules))
+        c.new-then-count-eq0.ensures.items,
   ),
-  tells_none g.D.Disk g.C.Chooser g.S.Sink SessionReport _ c.args.log.next_guest c.args.jobs.items (none_left c.args.jobs.items (search rules)),
+  tells_none g.D.Disk g.C.Chooser g.S.Sink SessionReport _ c.args.log.next_guest c.args.jobs.items
+      (none_left c.args.jobs.items (search rules)),
 )
 
 pub returns-in-Err-clause-recorded : goal.returns-in-Err-clause-recorded
@@ -33,11 +36,14 @@ returns-in-Err-clause-recorded g c = (
   [],
   nothing_ran g.D.Disk g.C.Chooser g.S.Sink c.args.log c.args.jobs.items,
   tt,
-  tells_alone g.D.Disk g.C.Chooser g.S.Sink SessionReport c.in-Err.fault (job_is_sessions _ _ c.in-Err.ensures.refused) c.args.log.next_guest c.args.jobs.items,
+  tells_alone g.D.Disk g.C.Chooser g.S.Sink SessionReport c.in-Err.fault (job_is_sessions _ _ c.in-Err.ensures.refused)
+      c.args.log.next_guest c.args.jobs.items,
 )
 
 pub returns-in-Err-clause-refused : goal.returns-in-Err-clause-refused
-returns-in-Err-clause-refused g c = job_tells c.args.log c.args.jobs c.in-Err.fault c.requires.whole (subst (λ l. RefusesJobs l c.in-Err.fault) c.deref.ensures.value c.in-Err.ensures.refused)
+returns-in-Err-clause-refused g c =
+    job_tells c.args.log c.args.jobs c.in-Err.fault c.requires.whole
+    (subst (λ l. RefusesJobs l c.in-Err.fault) c.deref.ensures.value c.in-Err.ensures.refused)
 
 pub returns-then-count-clause-sinks : goal.returns-then-count-clause-sinks
 returns-then-count-clause-sinks g c = sinks_rest g.S.Sink _ c.args.jobs.items (other_than_sink faults.TooManyGuests (λ e. omega (arith, e)))
@@ -52,11 +58,16 @@ pub returns-in-Err-clause-disk : goal.returns-in-Err-clause-disk
 returns-in-Err-clause-disk g c = steady_told SessionReport c.in-Err.fault _ _ (job_is_no_device _ _ c.in-Err.ensures.refused) refl
 
 pub returns-then-count-eq0-clause-bad : goal.returns-then-count-eq0-clause-bad
-returns-then-count-eq0-clause-bad g c guest bad = absurd (none_there guest bad.job (subst (λ l. slice_get l guest ≡ Some bad.job) (none_left c.args.jobs.items (search rules)) bad.is_there))
+returns-then-count-eq0-clause-bad g c guest bad =
+    absurd (none_there guest bad.job
+    (subst (λ l. slice_get l guest ≡ Some bad.job) (none_left c.args.jobs.items (search rules)) bad.is_there))
 
 pub returns-in-Err-clause-bad : goal.returns-in-Err-clause-bad
-returns-in-Err-clause-bad g c guest bad =
-    ((refl, refl), bad_told SessionReport c.args.log c.args.jobs.items guest c.in-Err.fault (subst (λ l. RefusesJobs l c.in-Err.fault) c.deref.ensures.value c.in-Err.ensures.refused) bad)
+returns-in-Err-clause-bad g c guest bad = (
+  (refl, refl),
+  bad_told SessionReport c.args.log c.args.jobs.items guest c.in-Err.fault
+      (subst (λ l. RefusesJobs l c.in-Err.fault) c.deref.ensures.value c.in-Err.ensures.refused) bad,
+)
 
 pub returns-clause-bad : goal.returns-clause-bad
 returns-clause-bad g c guest bad = absurd (none_is_bad c.args.jobs.items guest (search rules) bad)

@@ -28,9 +28,12 @@ returns-in_default-clause-recorded g c = (
 pub run-done-requires-after_bounds : goal.run-done-requires-after_bounds
 run-done-requires-after_bounds g c κs within =
     let h = c.in-Ok.ensures in
-    let len : length c.give.new.tasks.items ≡ length c.in-Ok.room.seats.items = sym (seats_length c.give.new.tasks.items) ∙ ap length c.give.ensures.seats in
+    let len : length c.give.new.tasks.items ≡ length c.in-Ok.room.seats.items =
+    sym (seats_length c.give.new.tasks.items) ∙ ap length c.give.ensures.seats in
     let count = h.count in record {
-      fresh = all_fresh c.in-Ok.room.flusher.group c.give.new.tasks.items (subst (λ l. AllNew c.in-Ok.room.flusher.group l) (sym c.give.ensures.seats) h.seats) (subst (λ l. AllByRecursion StartsGuest l) (sym c.give.ensures.jobs) c.requires.starts);
+      fresh = all_fresh c.in-Ok.room.flusher.group c.give.new.tasks.items
+          (subst (λ l. AllNew c.in-Ok.room.flusher.group l) (sym c.give.ensures.seats) h.seats)
+          (subst (λ l. AllByRecursion StartsGuest l) (sym c.give.ensures.jobs) c.requires.starts);
       no_workers = h.workers.0;
       room = (let r = h.workers.1 in omega arith);
       none_done = h.done.0;
@@ -42,7 +45,8 @@ run-done-requires-after_bounds g c κs within =
 pub take_back-requires-clause-seats : goal.take_back-requires-clause-seats
 take_back-requires-clause-seats g c =
     let h = c.in-Ok.ensures in
-    let len : length c.give.new.tasks.items ≡ length c.in-Ok.room.seats.items = sym (seats_length c.give.new.tasks.items) ∙ ap length c.give.ensures.seats in
+    let len : length c.give.new.tasks.items ≡ length c.in-Ok.room.seats.items =
+    sym (seats_length c.give.new.tasks.items) ∙ ap length c.give.ensures.seats in
     let same = pairs_length (HasWorked g.C.Chooser g.S.Sink) c.give.new.tasks.items c.run-done.result.0.items c.run-done.ensures.works in
     let count = h.count in
     (h.seats_back.0, (let r = h.seats_back.1 in omega arith))
@@ -50,7 +54,8 @@ take_back-requires-clause-seats g c =
 pub take_back-requires-clause-jobs : goal.take_back-requires-clause-jobs
 take_back-requires-clause-jobs g c =
     let h = c.in-Ok.ensures in
-    let len : length c.give.new.tasks.items ≡ length c.in-Ok.room.seats.items = sym (seats_length c.give.new.tasks.items) ∙ ap length c.give.ensures.seats in
+    let len : length c.give.new.tasks.items ≡ length c.in-Ok.room.seats.items =
+    sym (seats_length c.give.new.tasks.items) ∙ ap length c.give.ensures.seats in
     let same = pairs_length (HasWorked g.C.Chooser g.S.Sink) c.give.new.tasks.items c.run-done.result.0.items c.run-done.ensures.works in
     let count = h.count in
     (h.jobs_back.0, (let r = h.jobs_back.1 in omega arith))
@@ -58,7 +63,8 @@ take_back-requires-clause-jobs g c =
 pub take_back-requires-clause-reports : goal.take_back-requires-clause-reports
 take_back-requires-clause-reports g c =
     let h = c.in-Ok.ensures in
-    let len : length c.give.new.tasks.items ≡ length c.in-Ok.room.seats.items = sym (seats_length c.give.new.tasks.items) ∙ ap length c.give.ensures.seats in
+    let len : length c.give.new.tasks.items ≡ length c.in-Ok.room.seats.items =
+    sym (seats_length c.give.new.tasks.items) ∙ ap length c.give.ensures.seats in
     let same = pairs_length (HasWorked g.C.Chooser g.S.Sink) c.give.new.tasks.items c.run-done.result.0.items c.run-done.ensures.works in
     let count = h.count in
     (h.reports.0, (let r = h.reports.1 in omega arith))
@@ -66,7 +72,8 @@ take_back-requires-clause-reports g c =
 pub take_back-requires-clause-states : goal.take_back-requires-clause-states
 take_back-requires-clause-states g c =
     let h = c.in-Ok.ensures in
-    let len : length c.give.new.tasks.items ≡ length c.in-Ok.room.seats.items = sym (seats_length c.give.new.tasks.items) ∙ ap length c.give.ensures.seats in
+    let len : length c.give.new.tasks.items ≡ length c.in-Ok.room.seats.items =
+    sym (seats_length c.give.new.tasks.items) ∙ ap length c.give.ensures.seats in
     let same = pairs_length (HasWorked g.C.Chooser g.S.Sink) c.give.new.tasks.items c.run-done.result.0.items c.run-done.ensures.works in
     let count = h.count in
     (h.states.0, (let r = h.states.1 in omega arith))
@@ -81,22 +88,28 @@ take_back-requires-clause-numbers g c =
     let jobs : length T ≡ length c.args.jobs.items = sym (jobs_length T) ∙ ap length c.give.ensures.jobs in
     let r = c.requires.numbers in
     let first = c.next_guest-first.ensures in
-    all_numbered c.next_guest-first.result 0 Z (λ k r at. (all_of g.C.Chooser g.S.Sink c.in-Ok.room.flusher.group T Z new c.run-done.ensures.works k r at).1 ∙ omega arith) (omega arith)
+    all_numbered c.next_guest-first.result 0 Z
+    (λ k r at. (all_of g.C.Chooser g.S.Sink c.in-Ok.room.flusher.group T Z new c.run-done.ensures.works k r at).1 ∙ omega arith)
+    (omega arith)
 
 pub end-requires-clause-count : goal.end-requires-clause-count
 end-requires-clause-count g c =
     let h = c.in-Ok.ensures in
-    let len : length c.give.new.tasks.items ≡ length c.in-Ok.room.seats.items = sym (seats_length c.give.new.tasks.items) ∙ ap length c.give.ensures.seats in
+    let len : length c.give.new.tasks.items ≡ length c.in-Ok.room.seats.items =
+    sym (seats_length c.give.new.tasks.items) ∙ ap length c.give.ensures.seats in
     let same = pairs_length (HasWorked g.C.Chooser g.S.Sink) c.give.new.tasks.items c.run-done.result.0.items c.run-done.ensures.works in
     let count = h.count in
-    ap length c.take_back.ensures.seats ∙ worked_length c.run-done.result.0.items ∙ sym same ∙ len ∙ h.count ∙ sym h.guests_are ∙ ap (λ (gr : GroupId). gr.guests) (sym c.run-done.ensures.flushed.group)
+    ap length c.take_back.ensures.seats ∙ worked_length c.run-done.result.0.items ∙ sym same ∙ len ∙ h.count ∙ sym h.guests_are
+    ∙ ap (λ (gr : GroupId). gr.guests) (sym c.run-done.ensures.flushed.group)
 
 pub end-requires-clause-of_group : goal.end-requires-clause-of_group
 end-requires-clause-of_group g c =
     let h = c.in-Ok.ensures in
     let new = subst (λ l. AllNew c.in-Ok.room.flusher.group l) (sym c.give.ensures.seats) h.seats in
-    let all = all_of g.C.Chooser g.S.Sink c.in-Ok.room.flusher.group c.give.new.tasks.items c.run-done.result.0.items new c.run-done.ensures.works in
-    subst (λ gr. AllOf gr c.take_back.new.seats.items) (sym c.run-done.ensures.flushed.group) (subst (λ l. AllOf c.in-Ok.room.flusher.group l) (sym c.take_back.ensures.seats) all)
+    let all = all_of g.C.Chooser g.S.Sink c.in-Ok.room.flusher.group c.give.new.tasks.items c.run-done.result.0.items new
+    c.run-done.ensures.works in
+    subst (λ gr. AllOf gr c.take_back.new.seats.items) (sym c.run-done.ensures.flushed.group)
+    (subst (λ l. AllOf c.in-Ok.room.flusher.group l) (sym c.take_back.ensures.seats) all)
 
 pub returns-in-Some-clause-recorded : goal.returns-in-Some-clause-recorded
 returns-in-Some-clause-recorded g c =
@@ -106,24 +119,31 @@ returns-in-Some-clause-recorded g c =
     let group = c.in-Ok.room.flusher.group in
     let same = pairs_length (HasWorked g.C.Chooser g.S.Sink) T Z c.run-done.ensures.works in
     let len : length T ≡ length c.in-Ok.room.seats.items = sym (seats_length T) ∙ ap length c.give.ensures.seats in
-    let joined : AreJoined g.C.Chooser g.S.Sink g.D.Disk group c.in-Ok.room.flusher c.run-done.result.1 c.args.log c.run-done.result.2 c.run-done.result.3 T Z = record {
+    let joined : AreJoined g.C.Chooser g.S.Sink g.D.Disk group c.in-Ok.room.flusher c.run-done.result.1 c.args.log c.run-done.result.2
+    c.run-done.result.3 T Z = record {
       new = h.flusher;
       seats = subst (λ l. AllNew group l) (sym c.give.ensures.seats) h.seats;
       works = c.run-done.ensures.works;
       flusher = c.run-done.ensures.flushed;
-      count = worked_length Z ∙ sym same ∙ len ∙ h.count ∙ sym h.guests_are ∙ ap (λ (gr : GroupId). gr.guests) (sym c.run-done.ensures.flushed.group);
+      count = worked_length Z ∙ sym same ∙ len ∙ h.count ∙ sym h.guests_are
+          ∙ ap (λ (gr : GroupId). gr.guests) (sym c.run-done.ensures.flushed.group);
       placed = c.end.ensures.placed;
       each = λ k r at. (_, _, _, c.end.ensures.each k r (ap (λ l. slice_get l k) c.take_back.ensures.seats ∙ at));
     } in
-    let run = has_run g.C.Chooser g.S.Sink g.D.Disk group c.in-Ok.room.flusher c.run-done.result.1 c.args.log c.run-done.result.2 c.run-done.result.3 T Z c.args.jobs.items c.take_back.new.jobs.items joined c.give.ensures.jobs c.take_back.ensures.jobs in
+    let run = has_run g.C.Chooser g.S.Sink g.D.Disk group c.in-Ok.room.flusher c.run-done.result.1 c.args.log c.run-done.result.2
+    c.run-done.result.3 T Z c.args.jobs.items c.take_back.new.jobs.items joined c.give.ensures.jobs c.take_back.ensures.jobs in
     let jobs : length T ≡ length c.args.jobs.items = sym (jobs_length T) ∙ ap length c.give.ensures.jobs in
     let r = c.requires.numbers in
     let met = flusher_met c.run-done.result.3 in
-    let lowest = subst (λ l. IsLowest (met ++ faults_met l) (Some c.in-Some.fault)) c.deref.ensures.value (subst (λ (o : Option SessionFault). IsLowest (met ++ faults_met c.deref.result.now) o) c.in-Some.is c.lowest_fault-lowest.ensures) in (
+    let lowest =
+    subst (λ l. IsLowest (met ++ faults_met l) (Some c.in-Some.fault)) c.deref.ensures.value
+    (subst (λ (o : Option SessionFault). IsLowest (met ++ faults_met c.deref.result.now) o) c.in-Some.is
+    c.lowest_fault-lowest.ensures) in (
       c.run-done.result.1.committed,
       run,
       tt,
-      tells_first g.C.Chooser g.S.Sink g.D.Disk group c.in-Ok.room.flusher c.run-done.result.1 c.args.log c.run-done.result.2 c.run-done.result.3 T Z SessionReport (Err c.in-Some.fault) c.args.jobs.items
+      tells_first g.C.Chooser g.S.Sink g.D.Disk group c.in-Ok.room.flusher c.run-done.result.1 c.args.log c.run-done.result.2
+          c.run-done.result.3 T Z SessionReport (Err c.in-Some.fault) c.args.jobs.items
           c.take_back.new.jobs.items joined c.give.ensures.jobs c.take_back.ensures.jobs (omega arith) lowest,
     )
 
@@ -135,30 +155,38 @@ returns-clause-recorded g c =
     let group = c.in-Ok.room.flusher.group in
     let same = pairs_length (HasWorked g.C.Chooser g.S.Sink) T Z c.run-done.ensures.works in
     let len : length T ≡ length c.in-Ok.room.seats.items = sym (seats_length T) ∙ ap length c.give.ensures.seats in
-    let joined : AreJoined g.C.Chooser g.S.Sink g.D.Disk group c.in-Ok.room.flusher c.run-done.result.1 c.args.log c.run-done.result.2 c.run-done.result.3 T Z = record {
+    let joined : AreJoined g.C.Chooser g.S.Sink g.D.Disk group c.in-Ok.room.flusher c.run-done.result.1 c.args.log c.run-done.result.2
+    c.run-done.result.3 T Z = record {
       new = h.flusher;
       seats = subst (λ l. AllNew group l) (sym c.give.ensures.seats) h.seats;
       works = c.run-done.ensures.works;
       flusher = c.run-done.ensures.flushed;
-      count = worked_length Z ∙ sym same ∙ len ∙ h.count ∙ sym h.guests_are ∙ ap (λ (gr : GroupId). gr.guests) (sym c.run-done.ensures.flushed.group);
+      count = worked_length Z ∙ sym same ∙ len ∙ h.count ∙ sym h.guests_are
+          ∙ ap (λ (gr : GroupId). gr.guests) (sym c.run-done.ensures.flushed.group);
       placed = c.end.ensures.placed;
       each = λ k r at. (_, _, _, c.end.ensures.each k r (ap (λ l. slice_get l k) c.take_back.ensures.seats ∙ at));
     } in
-    let run = has_run g.C.Chooser g.S.Sink g.D.Disk group c.in-Ok.room.flusher c.run-done.result.1 c.args.log c.run-done.result.2 c.run-done.result.3 T Z c.args.jobs.items c.take_back.new.jobs.items joined c.give.ensures.jobs c.take_back.ensures.jobs in
+    let run = has_run g.C.Chooser g.S.Sink g.D.Disk group c.in-Ok.room.flusher c.run-done.result.1 c.args.log c.run-done.result.2
+    c.run-done.result.3 T Z c.args.jobs.items c.take_back.new.jobs.items joined c.give.ensures.jobs c.take_back.ensures.jobs in
     let jobs : length T ≡ length c.args.jobs.items = sym (jobs_length T) ∙ ap length c.give.ensures.jobs in
     let r = c.requires.numbers in
     let met = flusher_met c.run-done.result.3 in
     let none : met ++ faults_met Z ≡ [] = ap (λ l. met ++ faults_met l) (sym c.deref.ensures.value)
-    ∙ subst (λ (o : Option SessionFault). IsLowest (met ++ faults_met c.deref.result.now) o) c.in_default-lowest.is c.lowest_fault-lowest.ensures in (
+    ∙ subst (λ (o : Option SessionFault). IsLowest (met ++ faults_met c.deref.result.now) o) c.in_default-lowest.is
+    c.lowest_fault-lowest.ensures in (
       c.run-done.result.1.committed,
       run,
       (
-        has_reported g.C.Chooser g.S.Sink g.D.Disk group c.in-Ok.room.flusher c.run-done.result.1 c.args.log c.run-done.result.2 c.run-done.result.3 T Z c.args.jobs.items c.take_back.new.jobs.items
-            c.next_guest-first.result c.take_back.new.reports.items joined c.give.ensures.jobs c.take_back.ensures.jobs c.next_guest-first.ensures c.take_back.ensures.reports none (omega arith),
-        has_left g.C.Chooser g.S.Sink g.D.Disk group c.in-Ok.room.flusher c.run-done.result.1 c.args.log c.run-done.result.2 c.run-done.result.3 T Z c.take_back.new.jobs.items c.take_back.new.states.items
+        has_reported g.C.Chooser g.S.Sink g.D.Disk group c.in-Ok.room.flusher c.run-done.result.1 c.args.log c.run-done.result.2
+            c.run-done.result.3 T Z c.args.jobs.items c.take_back.new.jobs.items
+            c.next_guest-first.result c.take_back.new.reports.items joined c.give.ensures.jobs c.take_back.ensures.jobs
+            c.next_guest-first.ensures c.take_back.ensures.reports none (omega arith),
+        has_left g.C.Chooser g.S.Sink g.D.Disk group c.in-Ok.room.flusher c.run-done.result.1 c.args.log c.run-done.result.2
+            c.run-done.result.3 T Z c.take_back.new.jobs.items c.take_back.new.states.items
             joined c.take_back.ensures.jobs c.take_back.ensures.states none,
       ),
-      tells_first g.C.Chooser g.S.Sink g.D.Disk group c.in-Ok.room.flusher c.run-done.result.1 c.args.log c.run-done.result.2 c.run-done.result.3 T Z SessionReport _ c.args.jobs.items
+      tells_first g.C.Chooser g.S.Sink g.D.Disk group c.in-Ok.room.flusher c.run-done.result.1 c.args.log c.run-done.result.2
+          c.run-done.result.3 T Z SessionReport _ c.args.jobs.items
           c.take_back.new.jobs.items joined c.give.ensures.jobs c.take_back.ensures.jobs (omega arith) none,
     )
 
@@ -168,14 +196,18 @@ returns-in-Some-clause-refused g c =
     let Z = c.run-done.result.0.items in
     let f = c.run-done.ensures.flushed in
     let met = flusher_met c.run-done.result.3 in
-    lowest_tells g.C.Chooser g.S.Sink c.args.log c.run-done.result.2 c.args.jobs c.take_back.new.jobs c.in-Ok.room.flusher.group c.run-done.result.3 T Z c.in-Some.fault f.refused f.whole
-    (subst (λ l. AllNew c.in-Ok.room.flusher.group l) (sym c.give.ensures.seats) c.in-Ok.ensures.seats) c.run-done.ensures.works (sym (jobs_length T) ∙ ap length c.give.ensures.jobs)
-    (subst (λ l. IsLowest (met ++ faults_met l) (Some c.in-Some.fault)) c.deref.ensures.value (subst (λ (o : Option SessionFault). IsLowest (met ++ faults_met c.deref.result.now) o) c.in-Some.is c.lowest_fault-lowest.ensures))
+    lowest_tells g.C.Chooser g.S.Sink c.args.log c.run-done.result.2 c.args.jobs c.take_back.new.jobs c.in-Ok.room.flusher.group
+    c.run-done.result.3 T Z c.in-Some.fault f.refused f.whole
+    (subst (λ l. AllNew c.in-Ok.room.flusher.group l) (sym c.give.ensures.seats) c.in-Ok.ensures.seats) c.run-done.ensures.works
+    (sym (jobs_length T) ∙ ap length c.give.ensures.jobs)
+    (subst (λ l. IsLowest (met ++ faults_met l) (Some c.in-Some.fault)) c.deref.ensures.value
+    (subst (λ (o : Option SessionFault). IsLowest (met ++ faults_met c.deref.result.now) o) c.in-Some.is c.lowest_fault-lowest.ensures))
 
 pub returns-clause-whole : goal.returns-clause-whole
 returns-clause-whole g c =
     let rest = faults_met c.deref.result.now in
-    let none = subst (λ (o : Option SessionFault). IsLowest (flusher_met c.run-done.result.3 ++ rest) o) c.in_default-lowest.is c.lowest_fault-lowest.ensures in
+    let none = subst (λ (o : Option SessionFault). IsLowest (flusher_met c.run-done.result.3 ++ rest) o) c.in_default-lowest.is
+    c.lowest_fault-lowest.ensures in
     (flusher_met_none c.run-done.result.3 rest _ none c.run-done.ensures.flushed.whole).0
 
 pub returns-in_default-clause-sinks : goal.returns-in_default-clause-sinks
@@ -184,21 +216,31 @@ returns-in_default-clause-sinks g c = sinks_rest g.S.Sink _ c.args.jobs.items (o
 pub returns-in-Some-clause-disk : goal.returns-in-Some-clause-disk
 returns-in-Some-clause-disk g c =
     let met = flusher_met c.run-done.result.3 in
-    let lowest = subst (λ l. IsLowest (met ++ faults_met l) (Some c.in-Some.fault)) c.deref.ensures.value (subst (λ (o : Option SessionFault). IsLowest (met ++ faults_met c.deref.result.now) o) c.in-Some.is c.lowest_fault-lowest.ensures) in
-    device_told c.run-done.result.3 (faults_met c.run-done.result.0.items) _ _ c.run-done.ensures.flushed.disk (none_meets g.C.Chooser g.S.Sink c.give.new.tasks.items c.run-done.result.0.items c.run-done.ensures.works) SessionReport c.in-Some.fault lowest
+    let lowest =
+    subst (λ l. IsLowest (met ++ faults_met l) (Some c.in-Some.fault)) c.deref.ensures.value
+    (subst (λ (o : Option SessionFault). IsLowest (met ++ faults_met c.deref.result.now) o) c.in-Some.is
+    c.lowest_fault-lowest.ensures) in
+    device_told c.run-done.result.3 (faults_met c.run-done.result.0.items) _ _ c.run-done.ensures.flushed.disk
+    (none_meets g.C.Chooser g.S.Sink c.give.new.tasks.items c.run-done.result.0.items c.run-done.ensures.works) SessionReport
+    c.in-Some.fault lowest
 
 pub returns-clause-disk : goal.returns-clause-disk
 returns-clause-disk g c =
     let rest = faults_met c.deref.result.now in
-    let none = subst (λ (o : Option SessionFault). IsLowest (flusher_met c.run-done.result.3 ++ rest) o) c.in_default-lowest.is c.lowest_fault-lowest.ensures in
+    let none = subst (λ (o : Option SessionFault). IsLowest (flusher_met c.run-done.result.3 ++ rest) o) c.in_default-lowest.is
+    c.lowest_fault-lowest.ensures in
     steady_where_none c.run-done.result.3 rest _ _ c.run-done.ensures.flushed.disk none
 
 pub returns-in-Some-clause-sinks : goal.returns-in-Some-clause-sinks
 returns-in-Some-clause-sinks g c =
     let met = flusher_met c.run-done.result.3 in
     let group = c.in-Ok.room.flusher.group in
-    let lowest = subst (λ l. IsLowest (met ++ faults_met l) (Some c.in-Some.fault)) c.deref.ensures.value (subst (λ (o : Option SessionFault). IsLowest (met ++ faults_met c.deref.result.now) o) c.in-Some.is c.lowest_fault-lowest.ensures) in
-    sinks_err g.C.Chooser g.S.Sink group c.give.new.tasks.items c.run-done.result.0.items (subst (λ l. AllNew group l) (sym c.give.ensures.seats) c.in-Ok.ensures.seats) c.run-done.ensures.works
+    let lowest =
+    subst (λ l. IsLowest (met ++ faults_met l) (Some c.in-Some.fault)) c.deref.ensures.value
+    (subst (λ (o : Option SessionFault). IsLowest (met ++ faults_met c.deref.result.now) o) c.in-Some.is
+    c.lowest_fault-lowest.ensures) in
+    sinks_err g.C.Chooser g.S.Sink group c.give.new.tasks.items c.run-done.result.0.items
+    (subst (λ l. AllNew group l) (sym c.give.ensures.seats) c.in-Ok.ensures.seats) c.run-done.ensures.works
     c.run-done.result.3 c.args.jobs.items c.take_back.new.jobs.items c.give.ensures.jobs c.take_back.ensures.jobs c.in-Some.fault lowest _
 
 pub returns-clause-sinks : goal.returns-clause-sinks
@@ -207,6 +249,8 @@ returns-clause-sinks g c =
     let met = flusher_met c.run-done.result.3 in
     let group = c.in-Ok.room.flusher.group in
     let none : met ++ faults_met Z ≡ [] = ap (λ l. met ++ faults_met l) (sym c.deref.ensures.value)
-    ∙ subst (λ (o : Option SessionFault). IsLowest (met ++ faults_met c.deref.result.now) o) c.in_default-lowest.is c.lowest_fault-lowest.ensures in
-    sinks_ok g.C.Chooser g.S.Sink group c.give.new.tasks.items Z (subst (λ l. AllNew group l) (sym c.give.ensures.seats) c.in-Ok.ensures.seats) c.run-done.ensures.works
+    ∙ subst (λ (o : Option SessionFault). IsLowest (met ++ faults_met c.deref.result.now) o) c.in_default-lowest.is
+    c.lowest_fault-lowest.ensures in
+    sinks_ok g.C.Chooser g.S.Sink group c.give.new.tasks.items Z
+    (subst (λ l. AllNew group l) (sym c.give.ensures.seats) c.in-Ok.ensures.seats) c.run-done.ensures.works
     c.run-done.result.3 c.args.jobs.items c.take_back.new.jobs.items c.give.ensures.jobs c.take_back.ensures.jobs none _ _

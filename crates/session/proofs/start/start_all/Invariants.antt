@@ -8,7 +8,8 @@ use Rattle.session.proofs.start.start_all.Given as goal
 
 abbrev pub invariant-loop-task : goal.invariant-loop-task
 invariant-loop-task g l =
-    ((front : List _) × (front ++ into_iter_items l.task-iterator ≡ l.fn.tasks.items) × ArePairs (WorksOn g.C.Chooser g.S.Sink) front l.workers.items)
+    ((front : List _) × (front ++ into_iter_items l.task-iterator ≡ l.fn.tasks.items) ×
+    ArePairs (WorksOn g.C.Chooser g.S.Sink) front l.workers.items)
     × AllByRecursion IsFresh (into_iter_items l.task-iterator)
     × (length (into_iter_items l.task-iterator) ≡ into_iter_len l.task-iterator)
     × (vec_len l.workers + into_iter_len l.task-iterator ≤ vec_capacity l.workers)

@@ -13,5 +13,8 @@ loop-k-init g c = rw (each_none (λ k. encode_utf8 (character (memory_of c.args.
 pub loop-k-preserved : goal.loop-k-preserved
 loop-k-preserved g c plain =
     let so_far = c.loop-k.invariant plain in
-    put_two g.W.Write.write_str_gives _ _ _ (each_below (λ k. encode_utf8 (character (memory_of c.args.space.now (c.args.address + k)))) c.loop-k.k) (encode_utf8 (character (memory_of c.args.space.now (c.args.address + c.loop-k.k)))) _
-    so_far (c.in_ok-write_character.ensures so_far.plain (refl {a = true})) (sym (each_more (λ k. encode_utf8 (character (memory_of c.args.space.now (c.args.address + k)))) c.loop-k.k))
+    put_two g.W.Write.write_str_gives _ _ _
+    (each_below (λ k. encode_utf8 (character (memory_of c.args.space.now (c.args.address + k)))) c.loop-k.k)
+    (encode_utf8 (character (memory_of c.args.space.now (c.args.address + c.loop-k.k)))) _
+    so_far (c.in_ok-write_character.ensures so_far.plain (refl {a = true}))
+    (sym (each_more (λ k. encode_utf8 (character (memory_of c.args.space.now (c.args.address + k)))) c.loop-k.k))

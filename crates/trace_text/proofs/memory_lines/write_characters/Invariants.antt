@@ -7,4 +7,6 @@ use Rattle.trace_text.proofs.memory_lines.write_characters.Given as goal
 
 abbrev pub invariant-loop-k : goal.invariant-loop-k
 invariant-loop-k g l =
-    IsPlainFormatter l.initial.f → HasWritten g.W.Write.write_str_gives l.initial.f (each_below (λ k. encode_utf8 (character (memory_of l.space (l.address + k)))) l.k) l.f
+    IsPlainFormatter l.initial.f →
+    HasWritten g.W.Write.write_str_gives l.initial.f (each_below (λ k. encode_utf8 (character (memory_of l.space (l.address + k)))) l.k)
+    l.f

@@ -13,5 +13,7 @@ loop-k-init g c = rw (each_none (column (memory_of c.args.space.now) c.args.addr
 pub loop-k-preserved : goal.loop-k-preserved
 loop-k-preserved g c plain =
     let so_far = c.loop-k.invariant plain in
-    put_two g.W.Write.write_str_gives _ _ _ (each_below (column (memory_of c.args.space.now) c.args.address c.args.count) c.loop-k.k) (column (memory_of c.args.space.now) c.args.address c.args.count c.loop-k.k) _
-    so_far (c.in_ok-write_column.ensures so_far.plain (refl {a = true})) (sym (each_more (column (memory_of c.args.space.now) c.args.address c.args.count) c.loop-k.k))
+    put_two g.W.Write.write_str_gives _ _ _ (each_below (column (memory_of c.args.space.now) c.args.address c.args.count) c.loop-k.k)
+    (column (memory_of c.args.space.now) c.args.address c.args.count c.loop-k.k) _
+    so_far (c.in_ok-write_column.ensures so_far.plain (refl {a = true}))
+    (sym (each_more (column (memory_of c.args.space.now) c.args.address c.args.count) c.loop-k.k))

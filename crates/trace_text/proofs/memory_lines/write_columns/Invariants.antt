@@ -7,4 +7,5 @@ use Rattle.trace_text.proofs.memory_lines.write_columns.Given as goal
 
 abbrev pub invariant-loop-k : goal.invariant-loop-k
 invariant-loop-k g l =
-    IsPlainFormatter l.initial.f → HasWritten g.W.Write.write_str_gives l.initial.f (each_below (column (memory_of l.space) l.address l.count) l.k) l.f
+    IsPlainFormatter l.initial.f →
+    HasWritten g.W.Write.write_str_gives l.initial.f (each_below (column (memory_of l.space) l.address l.count) l.k) l.f

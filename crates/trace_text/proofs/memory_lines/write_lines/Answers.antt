@@ -13,5 +13,8 @@ loop-line-init g c = rw (each_none (line_from (memory_of c.args.space.now) c.arg
 pub loop-line-preserved : goal.loop-line-preserved
 loop-line-preserved g c plain =
     let so_far = c.loop-line.invariant plain in
-    put_two g.W.Write.write_str_gives _ _ _ (each_below (line_from (memory_of c.args.space.now) c.args.address c.args.length) c.loop-line.line) (line_from (memory_of c.args.space.now) c.args.address c.args.length c.loop-line.line) _
-    so_far (c.in_ok-write_line_from.ensures so_far.plain (refl {a = true})) (sym (each_more (line_from (memory_of c.args.space.now) c.args.address c.args.length) c.loop-line.line))
+    put_two g.W.Write.write_str_gives _ _ _
+    (each_below (line_from (memory_of c.args.space.now) c.args.address c.args.length) c.loop-line.line)
+    (line_from (memory_of c.args.space.now) c.args.address c.args.length c.loop-line.line) _
+    so_far (c.in_ok-write_line_from.ensures so_far.plain (refl {a = true}))
+    (sym (each_more (line_from (memory_of c.args.space.now) c.args.address c.args.length) c.loop-line.line))

@@ -7,4 +7,5 @@ use Rattle.trace_text.proofs.memory_lines.write_lines.Given as goal
 
 abbrev pub invariant-loop-line : goal.invariant-loop-line
 invariant-loop-line g l =
-    IsPlainFormatter l.initial.f → HasWritten g.W.Write.write_str_gives l.initial.f (each_below (line_from (memory_of l.space) l.address l.length) l.line) l.f
+    IsPlainFormatter l.initial.f →
+    HasWritten g.W.Write.write_str_gives l.initial.f (each_below (line_from (memory_of l.space) l.address l.length) l.line) l.f

@@ -44,5 +44,7 @@ returns g c plain ok =
     let threads = c.args.threads.now in
     let end : threads.next_tid ≤ c.loop-tid.tid = omega (arith, c.loop-tid-test.false, c.next_tid-tid-end.ensures) in
     subst (λ (text : List ℕ). HasWritten g.W.Write.write_str_gives c.args.f.now text c.loop-tid.f)
-    (ap (flat_map lines) (below_end (IsTid threads.next_tid) c.loop-tid.tid (thread_map threads.threads) (λ tid is. omega (arith, end, is.1)) c.live.ensures.rules.tids))
+    (ap (flat_map lines)
+    (below_end (IsTid threads.next_tid) c.loop-tid.tid (thread_map threads.threads) (λ tid is. omega (arith, end, is.1))
+    c.live.ensures.rules.tids))
     (c.loop-tid.invariant plain)

@@ -18,5 +18,6 @@ loop-index-preserved c =
 pub returns : goal.returns
 returns c =
     let f = c.self.inside in
-    let none = ap (filter is_load) (headers_from-end f.bytes.now (f.table_offset + 32 * c.loop-index.index) f.header_count c.loop-index.index (omega arith)) in
+    let none = ap (filter is_load)
+    (headers_from-end f.bytes.now (f.table_offset + 32 * c.loop-index.index) f.header_count c.loop-index.index (omega arith)) in
     grind (arith, common_steps)

@@ -24,7 +24,8 @@ returns-clause-state c =
     c.in_ok-threads.ensures (with_memory m s)
     ∙ ap (λ (child : Thread). with_memory m (spawned child s)) c.child_of.ensures.value
     ∙ ap (λ (memory : Memory). with_memory memory (spawned (child_of t) s))
-    (c.in_ok-store_words.ensures.stored ∙ ap (λ (n : ℕ). stored_at_each c.args.places.now (to_le_bytes w32 n) s.memory) c.next_tid-child.ensures)
+    (c.in_ok-store_words.ensures.stored
+    ∙ ap (λ (n : ℕ). stored_at_each c.args.places.now (to_le_bytes w32 n) s.memory) c.next_tid-child.ensures)
     ∙ ap (λ (g : GuestValue). with_child_at c.args.places.now t (state_of g)) c.self.view_is
 
 pub returns-clause-record_is : goal.returns-clause-record_is
@@ -34,4 +35,5 @@ returns-clause-record_is c =
 
 pub returns-clause-text : goal.returns-clause-text
 returns-clause-text c =
-    text_words c.args.places.now c.next_tid-child.result c.in_ok-written.written (omega arith) c.in_ok-written.ensures.words c.requires.few c.in_ok-written.ensures.texts
+    text_words c.args.places.now c.next_tid-child.result c.in_ok-written.written (omega arith) c.in_ok-written.ensures.words c.requires.few
+    c.in_ok-written.ensures.texts

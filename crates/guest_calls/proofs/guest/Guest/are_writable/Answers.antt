@@ -12,14 +12,17 @@ returns-then-not-is_writable c =
     let m = (state_of c.args.self.now).memory in
     let place = get_or c.args.places.now c.loop-place.place-index 0 in
     unwritable_at m c.args.places.now c.loop-place.place-index c.loop-place-test.true
-    (ap (λ (g : GuestValue). writable (state_of g).memory place 4) (sym c.self.view_is) ∙ sym c.is_writable.ensures ∙ c.if-not-is_writable.true) c.loop-place.invariant
+    (ap (λ (g : GuestValue). writable (state_of g).memory place 4) (sym c.self.view_is) ∙ sym c.is_writable.ensures
+    ∙ c.if-not-is_writable.true) c.loop-place.invariant
 
 pub loop-place-preserved : goal.loop-place-preserved
 loop-place-preserved c =
     let m = (state_of c.args.self.now).memory in
     let place = get_or c.args.places.now c.loop-place.place-index 0 in
     next_writable m c.args.places.now c.loop-place.place-index c.loop-place-test.true
-    (ap (λ (g : GuestValue). writable (state_of g).memory place 4) (sym c.self.view_is) ∙ sym c.is_writable.ensures ∙ c.if-not-is_writable.false) c.loop-place.invariant
+    (ap (λ (g : GuestValue). writable (state_of g).memory place 4) (sym c.self.view_is) ∙ sym c.is_writable.ensures
+    ∙ c.if-not-is_writable.false) c.loop-place.invariant
 
 pub returns : goal.returns
-returns c = all_tested (state_of c.args.self.now).memory c.args.places.now c.loop-place.place-index c.loop-place-test.false c.loop-place.invariant
+returns c = all_tested (state_of c.args.self.now).memory c.args.places.now c.loop-place.place-index c.loop-place-test.false
+    c.loop-place.invariant

@@ -11,7 +11,8 @@ pub returns-then-is_empty-clause-state : goal.returns-then-is_empty-clause-state
 returns-then-is_empty-clause-state c =
     let s = state_of (the_view c.self.inside) in
     c.end.ensures.state
-    ∙ last_left c.args.tid c.args.status s (with_threads c.exit.new.self s) (c.in-Ok.ensures.leaves s) (c.is_empty.ensures.0 c.if-is_empty.true)
+    ∙ last_left c.args.tid c.args.status s (with_threads c.exit.new.self s) (c.in-Ok.ensures.leaves s)
+    (c.is_empty.ensures.0 c.if-is_empty.true)
     ∙ ap (λ (v : GuestValue). leaves c.args.tid c.args.status (state_of v)) c.self.view_is
 
 pub returns-else-is_empty-clause-state : goal.returns-else-is_empty-clause-state

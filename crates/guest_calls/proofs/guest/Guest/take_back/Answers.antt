@@ -11,7 +11,8 @@ pub returns-clause-state : goal.returns-clause-state
 returns-clause-state c =
     let s = state_of (the_view c.self.inside) in
     let t = c.running_thread.result in
-    let there : thread_at s c.args.tid ≡ Some t = ap (λ (v : GuestValue). thread_at (state_of v) c.args.tid) c.self.view_is ∙ c.running_thread.ensures.there in
+    let there : thread_at s c.args.tid ≡ Some t =
+    ap (λ (v : GuestValue). thread_at (state_of v) c.args.tid) c.self.view_is ∙ c.running_thread.ensures.there in
     c.set_regs.ensures s
     ∙ regs_changed c.args.tid (λ t. record t { regs = record t.regs { pc = minus t.regs.pc 4 } }) s t _ there refl
     ∙ ap (λ (v : GuestValue). before_call c.args.tid (state_of v)) c.self.view_is

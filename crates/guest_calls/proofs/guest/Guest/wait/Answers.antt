@@ -6,4 +6,5 @@ use Rattle.guest_calls.proofs.guest.Guest.wait.Goals as goal
 
 pub returns-clause-state : goal.returns-clause-state
 returns-clause-state c =
-    c.in-Ok.ensures.waits (state_of (the_view c.self.inside)) ∙ ap (λ (v : GuestValue). waits c.args.tid c.args.address (state_of v)) c.self.view_is
+    c.in-Ok.ensures.waits (state_of (the_view c.self.inside))
+    ∙ ap (λ (v : GuestValue). waits c.args.tid c.args.address (state_of v)) c.self.view_is

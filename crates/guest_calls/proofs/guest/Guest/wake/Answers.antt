@@ -11,4 +11,5 @@ returns-clause-count c =
 
 pub returns-clause-state : goal.returns-clause-state
 returns-clause-state c =
-    c.wake.ensures.wakes (state_of (the_view c.self.inside)) ∙ ap (λ (v : GuestValue). wakes c.args.address c.args.count (state_of v)) c.self.view_is
+    c.wake.ensures.wakes (state_of (the_view c.self.inside))
+    ∙ ap (λ (v : GuestValue). wakes c.args.address c.args.count (state_of v)) c.self.view_is

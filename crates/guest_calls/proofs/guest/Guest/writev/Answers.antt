@@ -11,7 +11,8 @@ use Rattle.guest_calls.specs.Guest.{GuestValue, chunks_of}
 use Rattle.guest_calls.proofs.CallParts.{bytes_moved}
 use Rattle.guest_calls.proofs.guest.Guest.writev.Goals as goal
 
-joined_are : (m : Memory) (bs : List (ℕ × ℕ)) (a k count : ℕ) (bytes : List ℕ) → bs ≡ buffers_at m a k → bytes ≡ joined m (clipped 65_536 bs) →
+joined_are : (m : Memory) (bs : List (ℕ × ℕ)) (a k count : ℕ) (bytes : List ℕ) → bs ≡ buffers_at m a k →
+    bytes ≡ joined m (clipped 65_536 bs) →
     count ≡ min (total_len bs) 65_536 → bytes ≡ joined m (clipped count (buffers_at m a k))
 joined_are m bs a k count bytes listed are counted =
     are ∙ sym (joined_alike m bs count counted) ∙ ap (λ (bs : List (ℕ × ℕ)). joined m (clipped count bs)) listed

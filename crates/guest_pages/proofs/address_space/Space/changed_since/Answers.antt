@@ -16,13 +16,18 @@ list_changed-requires c =
 pub returns-clause-changes : goal.returns-clause-changes
 returns-clause-changes c =
     let numbers = c.in_ok-numbers.numbers.items in
-    subst (λ (s : SpaceValue). IsSomeAnd (snapshots_of s c.args.snapshot.now) (λ before. AreChanges before (memory_of s) numbers)) c.self.view_is
-    (subst (λ (n : ℕ). IsSomeAnd (snapshots_of c.self.inside.tables n) (λ before. AreChanges before (memory_of c.self.inside.tables) numbers)) c.number.ensures
-    (kept_changes (contents_of c.self.inside.tables).kept (contents_of c.self.inside.tables).pages c.number.result numbers c.self.invariant.kept c.self.invariant.pages.each c.in_ok-numbers.ensures.listed))
+    subst (λ (s : SpaceValue). IsSomeAnd (snapshots_of s c.args.snapshot.now) (λ before. AreChanges before (memory_of s) numbers))
+    c.self.view_is
+    (subst (λ (n : ℕ). IsSomeAnd (snapshots_of c.self.inside.tables n)
+    (λ before. AreChanges before (memory_of c.self.inside.tables) numbers)) c.number.ensures
+    (kept_changes (contents_of c.self.inside.tables).kept (contents_of c.self.inside.tables).pages c.number.result numbers
+    c.self.invariant.kept c.self.invariant.pages.each c.in_ok-numbers.ensures.listed))
 
 pub returns-in_err-numbers-clause-grows : goal.returns-in_err-numbers-clause-grows
 returns-in_err-numbers-clause-grows c =
     let p = err_from_is_err_and c.from_residual.result c.from_residual.ensures.1 in
     rw p.1 (λ same.
-    differs (contents_of c.self.inside.tables).kept (contents_of c.self.inside.tables).pages c.number.result c.self.invariant.kept c.self.invariant.pages.each c.in_err-numbers.ensures.grows
-    (ap (snapshots_of c.self.inside.tables) c.number.ensures ∙ ap (λ (s : SpaceValue). snapshots_of s c.args.snapshot.now) c.self.view_is ∙ same ∙ ap (λ (s : SpaceValue). Some (memory_of s)) (sym c.self.view_is)))
+    differs (contents_of c.self.inside.tables).kept (contents_of c.self.inside.tables).pages c.number.result c.self.invariant.kept
+    c.self.invariant.pages.each c.in_err-numbers.ensures.grows
+    (ap (snapshots_of c.self.inside.tables) c.number.ensures ∙ ap (λ (s : SpaceValue). snapshots_of s c.args.snapshot.now) c.self.view_is
+    ∙ same ∙ ap (λ (s : SpaceValue). Some (memory_of s)) (sym c.self.view_is)))

@@ -26,7 +26,8 @@ returns-clause-others c = λ n apart.
 pub returns-clause-least : goal.returns-clause-least
 returns-clause-least c =
     subst (λ (k : ℕ). k ≤ live_of c.release.new.self)
-    (total_is (contents_of c.release.new.self).pages (subst AreEachPage (sym c.release.ensures.pages) c.self.invariant.pages.each)) c.all_own.ensures.least
+    (total_is (contents_of c.release.new.self).pages (subst AreEachPage (sym c.release.ensures.pages) c.self.invariant.pages.each))
+    c.all_own.ensures.least
 
 pub returns-clause-last : goal.returns-clause-last
 returns-clause-last c = λ none.

@@ -15,7 +15,8 @@ invariant_of-self c =
 
 pub returns-clause-memory : goal.returns-clause-memory
 returns-clause-memory c =
-    stored_memory c.self.inside.tables c.write.new.self _ _ c.args.address c.args.bytes.now c.self.invariant.pages.each c.write.ensures (omega (arith, c.requires.low)) (omega (arith, c.requires.fits))
+    stored_memory c.self.inside.tables c.write.new.self _ _ c.args.address c.args.bytes.now c.self.invariant.pages.each c.write.ensures
+    (omega (arith, c.requires.low)) (omega (arith, c.requires.fits))
     ∙ ap (λ (s : SpaceValue). stored c.args.address c.args.bytes.now (memory_of s)) c.self.view_is
 
 pub returns-clause-live : goal.returns-clause-live

@@ -24,10 +24,13 @@ loop-rest-preserved c =
     record {
       begun = omega (arith, held.begun);
       len = omega (arith, held.len, c.split_at.ensures);
-      rest = c.split_at.ensures.back ∙ ap (λ (r : List ℕ). drop c.min.result r) held.rest ∙ drop-drop c.min.result k c.args.bytes.now ∙ ap (λ (j : ℕ). drop j c.args.bytes.now) more;
+      rest = c.split_at.ensures.back ∙ ap (λ (r : List ℕ). drop c.min.result r) held.rest ∙ drop-drop c.min.result k c.args.bytes.now
+          ∙ ap (λ (j : ℕ). drop j c.args.bytes.now) more;
       memory = c.fill_page.ensures.memory ∙ ap (λ (m : Memory). stored c.loop-rest.at c.split_at.result.0.now m) held.memory
-          ∙ one_part c.args.address c.loop-rest.at n c.args.bytes.now c.loop-rest.rest.now c.split_at.result.0.now (memory_of c.args.self.now) held.begun held.len held.rest
-          (c.split_at.ensures.front ∙ ap (λ (j : ℕ). take j c.loop-rest.rest.now) (sym c.split_at.ensures.front_len)) (omega (arith, c.split_at.ensures.front_len, c.min.ensures));
+          ∙ one_part c.args.address c.loop-rest.at n c.args.bytes.now c.loop-rest.rest.now c.split_at.result.0.now
+          (memory_of c.args.self.now) held.begun held.len held.rest
+          (c.split_at.ensures.front ∙ ap (λ (j : ℕ). take j c.loop-rest.rest.now) (sym c.split_at.ensures.front_len))
+          (omega (arith, c.split_at.ensures.front_len, c.min.ensures));
       snapshots = c.fill_page.ensures.snapshots ∙ held.snapshots;
       own = λ n o. c.fill_page.ensures.own n (held.own n o);
       live = c.fill_page.ensures.live ∙ held.live;

@@ -17,6 +17,7 @@ returns-clause-least c =
 pub returns-clause-alone : goal.returns-clause-alone
 returns-clause-alone c = λ none.
     c.live.ensures
-    ∙ c.all_own.ensures.live (λ i. none_kept (contents_of c.self.inside.tables).kept i (ap (λ (s : SpaceValue). snapshots_of s i) c.self.view_is ∙ none i))
+    ∙ c.all_own.ensures.live
+    (λ i. none_kept (contents_of c.self.inside.tables).kept i (ap (λ (s : SpaceValue). snapshots_of s i) c.self.view_is ∙ none i))
     ∙ total_is (contents_of c.self.inside.tables).pages c.self.invariant.pages.each
     ∙ ap (λ (s : SpaceValue). page_count (memory_of s)) c.self.view_is

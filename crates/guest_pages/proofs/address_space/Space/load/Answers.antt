@@ -13,5 +13,6 @@ returns-then-not-passes-clause-refused c =
 pub load_pages-requires-clause-low : goal.load_pages-requires-clause-low
 load_pages-requires-clause-low c =
     let there : present (memory_of c.args.self.now) c.args.address (length c.args.into.now) ≡ true = grind arith in
-    present_low (contents_of c.self.inside.tables).pages c.self.invariant.pages.each c.args.address (length c.args.into.now) c.ranges.address.fits
+    present_low (contents_of c.self.inside.tables).pages c.self.invariant.pages.each c.args.address (length c.args.into.now)
+    c.ranges.address.fits
     (subst (λ (s : SpaceValue). present (memory_of s) c.args.address (length c.args.into.now) ≡ true) (sym c.self.view_is) there)

@@ -9,11 +9,14 @@ use Rattle.guest_pages.proofs.address_space.Space.load_page.Goals as goal
 
 pub unreachable-requires : goal.unreachable-requires
 unreachable-requires c =
-    page_there (contents_of c.self.inside.tables).pages c.args.address (subst (λ (s : SpaceValue). IsSome (memory_of s c.args.address)) (sym c.self.view_is) c.requires.there)
+    page_there (contents_of c.self.inside.tables).pages c.args.address
+    (subst (λ (s : SpaceValue). IsSome (memory_of s c.args.address)) (sym c.self.view_is) c.requires.there)
     (sym c.page.ensures ∙ ap shown c.in_default.is)
 
 pub returns : goal.returns
 returns c = λ k l.
     let found = sym c.page.ensures ∙ ap shown c.in-Some.is in
-    let cell = cell_at (contents_of c.self.inside.tables).pages (shown (Some c.in-Some.page)) c.args.address k found (omega (arith, c.requires.fits)) in
-    c.copy_bytes.ensures k l ∙ sym (ap byte_or_zero cell) ∙ ap (λ (s : SpaceValue). byte_or_zero (memory_of s (c.args.address + k))) c.self.view_is
+    let cell = cell_at (contents_of c.self.inside.tables).pages (shown (Some c.in-Some.page)) c.args.address k found
+    (omega (arith, c.requires.fits)) in
+    c.copy_bytes.ensures k l ∙ sym (ap byte_or_zero cell)
+    ∙ ap (λ (s : SpaceValue). byte_or_zero (memory_of s (c.args.address + k))) c.self.view_is

@@ -7,7 +7,8 @@ pub load_page-requires-clause-there : goal.load_page-requires-clause-there
 load_page-requires-clause-there c =
     let within : c.loop-done.done < length c.args.into.now = grind arith in
     let place : c.from.result + c.loop-done.done ≡ c.args.address + c.loop-done.done = omega (arith, c.from.ensures) in
-    ap (λ (x : ℕ). is_some (memory_of c.args.self.now x)) place ∙ one_of_all is_some (memory_of c.args.self.now) c.args.address (length c.args.into.now) c.loop-done.done c.requires.there within
+    ap (λ (x : ℕ). is_some (memory_of c.args.self.now x)) place
+    ∙ one_of_all is_some (memory_of c.args.self.now) c.args.address (length c.args.into.now) c.loop-done.done c.requires.there within
 
 pub returns : goal.returns
 returns c =

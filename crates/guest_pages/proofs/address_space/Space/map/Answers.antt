@@ -19,8 +19,10 @@ overflow_add-self-inside c =
 
 pub returns-then-self-more-gt-MAX_PAGES-clause-refused : goal.returns-then-self-more-gt-MAX_PAGES-clause-refused
 returns-then-self-more-gt-MAX_PAGES-clause-refused c =
-    let total : page_count (mapped (c.args.page * page_bytes) (c.args.count * page_bytes) c.args.permissions (memory_of c.args.self.now)) ≡ page_count (memory_of c.self.inside.tables) + c.count_missing-more.result =
-    ap (λ (s : SpaceValue). page_count (mapped (c.args.page * page_bytes) (c.args.count * page_bytes) c.args.permissions (memory_of s))) (sym c.self.view_is)
+    let total : page_count (mapped (c.args.page * page_bytes) (c.args.count * page_bytes) c.args.permissions (memory_of c.args.self.now))
+    ≡ page_count (memory_of c.self.inside.tables) + c.count_missing-more.result =
+    ap (λ (s : SpaceValue). page_count (mapped (c.args.page * page_bytes) (c.args.count * page_bytes) c.args.permissions (memory_of s)))
+    (sym c.self.view_is)
     ∙ page_count_mapped (contents_of c.self.inside.tables).pages c.args.permissions c.args.page c.args.count c.requires.high
     ∙ ap (λ (k : ℕ). page_count (memory_of c.self.inside.tables) + k) (sym c.count_missing-more.ensures.count) in
     let count = c.self.invariant.count in
@@ -35,8 +37,10 @@ returns-then-self-more-gt-MAX_PAGES-clause-grows c = λ own.
 
 pub returns-in_default-clause-refused : goal.returns-in_default-clause-refused
 returns-in_default-clause-refused c =
-    let total : page_count (mapped (c.args.page * page_bytes) (c.args.count * page_bytes) c.args.permissions (memory_of c.args.self.now)) ≡ page_count (memory_of c.self.inside.tables) + c.count_missing-more.result =
-    ap (λ (s : SpaceValue). page_count (mapped (c.args.page * page_bytes) (c.args.count * page_bytes) c.args.permissions (memory_of s))) (sym c.self.view_is)
+    let total : page_count (mapped (c.args.page * page_bytes) (c.args.count * page_bytes) c.args.permissions (memory_of c.args.self.now))
+    ≡ page_count (memory_of c.self.inside.tables) + c.count_missing-more.result =
+    ap (λ (s : SpaceValue). page_count (mapped (c.args.page * page_bytes) (c.args.count * page_bytes) c.args.permissions (memory_of s)))
+    (sym c.self.view_is)
     ∙ page_count_mapped (contents_of c.self.inside.tables).pages c.args.permissions c.args.page c.args.count c.requires.high
     ∙ ap (λ (k : ℕ). page_count (memory_of c.self.inside.tables) + k) (sym c.count_missing-more.ensures.count) in
     let count = c.self.invariant.count in
@@ -44,15 +48,18 @@ returns-in_default-clause-refused c =
 
 pub returns-in_default-own_each-clause-refused : goal.returns-in_default-own_each-clause-refused
 returns-in_default-own_each-clause-refused c =
-    let total : page_count (mapped (c.args.page * page_bytes) (c.args.count * page_bytes) c.args.permissions (memory_of c.args.self.now)) ≡ page_count (memory_of c.self.inside.tables) + c.count_missing-more.result =
-    ap (λ (s : SpaceValue). page_count (mapped (c.args.page * page_bytes) (c.args.count * page_bytes) c.args.permissions (memory_of s))) (sym c.self.view_is)
+    let total : page_count (mapped (c.args.page * page_bytes) (c.args.count * page_bytes) c.args.permissions (memory_of c.args.self.now))
+    ≡ page_count (memory_of c.self.inside.tables) + c.count_missing-more.result =
+    ap (λ (s : SpaceValue). page_count (mapped (c.args.page * page_bytes) (c.args.count * page_bytes) c.args.permissions (memory_of s)))
+    (sym c.self.view_is)
     ∙ page_count_mapped (contents_of c.self.inside.tables).pages c.args.permissions c.args.page c.args.count c.requires.high
     ∙ ap (λ (k : ℕ). page_count (memory_of c.self.inside.tables) + k) (sym c.count_missing-more.ensures.count) in
     let count = c.self.invariant.count in
     omega (arith, total, count, c.if-self-more-gt-MAX_PAGES.false)
 
 pub returns-in_default-clause-grows : goal.returns-in_default-clause-grows
-returns-in_default-clause-grows c = λ own. c.in_default.ensures.grows (subst (λ (s : SpaceValue). AreOwnIn s c.args.page c.args.count) (sym c.self.view_is) own)
+returns-in_default-clause-grows c =
+    λ own. c.in_default.ensures.grows (subst (λ (s : SpaceValue). AreOwnIn s c.args.page c.args.count) (sym c.self.view_is) own)
 
 pub own_each-requires : goal.own_each-requires
 own_each-requires c = λ n listed.
@@ -67,22 +74,28 @@ returns-in_default-own_each-clause-grows c = λ own. c.in_default-own_each.ensur
 pub clear_pages-requires-clause-own : goal.clear_pages-requires-clause-own
 clear_pages-requires-clause-own c =
     all_own_in c.self.inside.tables c.own_each.new.self c.in-Ok.numbers.items c.args.page c.args.count
-    (subst (λ (xs : List ℕ). AreOwned xs (contents_of c.self.inside.tables) (contents_of c.own_each.new.self)) c.as_slice.ensures.value c.in-Ok-own_each.ensures.owned) c.in-Ok.ensures.others
+    (subst (λ (xs : List ℕ). AreOwned xs (contents_of c.self.inside.tables) (contents_of c.own_each.new.self)) c.as_slice.ensures.value
+    c.in-Ok-own_each.ensures.owned) c.in-Ok.ensures.others
 
 pub invariant_of-self-2 : goal.invariant_of-self-2
 invariant_of-self-2 c =
     let pages = (contents_of c.self.inside.tables).pages in
     let after = (contents_of c.clear_pages.new.tables).pages in
     let cleared = c.clear_pages.ensures in
-    let owned = subst (λ (xs : List ℕ). AreOwned xs (contents_of c.self.inside.tables) (contents_of c.own_each.new.self)) c.as_slice.ensures.value c.in-Ok-own_each.ensures.owned in
-    let others = others_after pages (contents_of c.own_each.new.self).pages after c.in-Ok.numbers.items c.args.page c.args.count c.in-Ok.ensures.from c.in-Ok.ensures.to owned.pages cleared.below cleared.above in
-    let total : page_count (memory_of c.clear_pages.new.tables) ≡ page_count (memory_of c.self.inside.tables) + c.count_missing-more.result =
+    let owned = subst (λ (xs : List ℕ). AreOwned xs (contents_of c.self.inside.tables) (contents_of c.own_each.new.self))
+    c.as_slice.ensures.value c.in-Ok-own_each.ensures.owned in
+    let others =
+    others_after pages (contents_of c.own_each.new.self).pages after c.in-Ok.numbers.items c.args.page c.args.count c.in-Ok.ensures.from
+    c.in-Ok.ensures.to owned.pages cleared.below cleared.above in
+    let total : page_count (memory_of c.clear_pages.new.tables) ≡ page_count (memory_of c.self.inside.tables)
+    + c.count_missing-more.result =
     ap page_count (mapped_in pages after c.args.permissions c.args.page c.args.count cleared.cleared others)
     ∙ page_count_mapped pages c.args.permissions c.args.page c.args.count c.requires.high
     ∙ ap (λ (k : ℕ). page_count (memory_of c.self.inside.tables) + k) (sym c.count_missing-more.ensures.count) in
     let count = c.self.invariant.count in
     is_space c.self.inside.tables c.clear_pages.new.tables c.self.inside.mapped _ c.self.invariant
-    (mapped_each pages after c.args.permissions c.args.page c.args.count c.self.invariant.pages.each c.requires.low c.requires.high c.requires.readable cleared.cleared others)
+    (mapped_each pages after c.args.permissions c.args.page c.args.count c.self.invariant.pages.each c.requires.low c.requires.high
+    c.requires.readable cleared.cleared others)
     (cleared.kept ∙ owned.kept) (omega (arith, total, count)) (omega (arith, c.if-self-more-gt-MAX_PAGES.false))
 
 pub returns-clause-mapped : goal.returns-clause-mapped
@@ -90,14 +103,19 @@ returns-clause-mapped c =
     let pages = (contents_of c.self.inside.tables).pages in
     let after = (contents_of c.clear_pages.new.tables).pages in
     let cleared = c.clear_pages.ensures in
-    let owned = subst (λ (xs : List ℕ). AreOwned xs (contents_of c.self.inside.tables) (contents_of c.own_each.new.self)) c.as_slice.ensures.value c.in-Ok-own_each.ensures.owned in
-    let others = others_after pages (contents_of c.own_each.new.self).pages after c.in-Ok.numbers.items c.args.page c.args.count c.in-Ok.ensures.from c.in-Ok.ensures.to owned.pages cleared.below cleared.above in
+    let owned = subst (λ (xs : List ℕ). AreOwned xs (contents_of c.self.inside.tables) (contents_of c.own_each.new.self))
+    c.as_slice.ensures.value c.in-Ok-own_each.ensures.owned in
+    let others =
+    others_after pages (contents_of c.own_each.new.self).pages after c.in-Ok.numbers.items c.args.page c.args.count c.in-Ok.ensures.from
+    c.in-Ok.ensures.to owned.pages cleared.below cleared.above in
     mapped_in pages after c.args.permissions c.args.page c.args.count cleared.cleared others
     ∙ ap (λ (s : SpaceValue). mapped (c.args.page * page_bytes) (c.args.count * page_bytes) c.args.permissions (memory_of s)) c.self.view_is
 
 pub returns-clause-live : goal.returns-clause-live
 returns-clause-live c =
-    let owned = subst (λ (xs : List ℕ). AreOwned xs (contents_of c.self.inside.tables) (contents_of c.own_each.new.self)) c.as_slice.ensures.value c.in-Ok-own_each.ensures.owned in
-    let adds = listed_adds c.self.inside.tables c.in-Ok.numbers.items c.args.page c.args.count c.in-Ok.ensures.from c.in-Ok.ensures.to c.in-Ok.ensures.others c.requires.high in
+    let owned = subst (λ (xs : List ℕ). AreOwned xs (contents_of c.self.inside.tables) (contents_of c.own_each.new.self))
+    c.as_slice.ensures.value c.in-Ok-own_each.ensures.owned in
+    let adds = listed_adds c.self.inside.tables c.in-Ok.numbers.items c.args.page c.args.count c.in-Ok.ensures.from c.in-Ok.ensures.to
+    c.in-Ok.ensures.others c.requires.high in
     subst (λ (s : SpaceValue). live_of c.clear_pages.new.tables ≡ live_of s + added_in s c.args.page c.args.count) c.self.view_is
     (c.clear_pages.ensures.live ∙ owned.live ∙ ap (λ (k : ℕ). live_of c.self.inside.tables + k) adds)

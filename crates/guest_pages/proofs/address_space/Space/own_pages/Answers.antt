@@ -17,7 +17,8 @@ own_each-requires c = λ n listed.
 
 pub invariant_of-self-2 : goal.invariant_of-self-2
 invariant_of-self-2 c =
-    let owned = subst (λ (xs : List ℕ). AreOwned xs (contents_of c.self.inside.tables) (contents_of c.own_each.new.self)) c.as_slice.ensures.value c.in-Ok-own_each.ensures.owned in
+    let owned = subst (λ (xs : List ℕ). AreOwned xs (contents_of c.self.inside.tables) (contents_of c.own_each.new.self))
+    c.as_slice.ensures.value c.in-Ok-own_each.ensures.owned in
     owned_space c.self.inside.tables c.own_each.new.self c.self.inside.mapped c.self.invariant
     (owned_same c.in-Ok.numbers.items (contents_of c.self.inside.tables) (contents_of c.own_each.new.self) owned
     (λ n listed. in_range (contents_of c.self.inside.tables).pages c.args.address c.args.count n c.requires.some
@@ -27,19 +28,23 @@ invariant_of-self-2 c =
 
 pub returns-clause-ready : goal.returns-clause-ready
 returns-clause-ready c =
-    let owned = subst (λ (xs : List ℕ). AreOwned xs (contents_of c.self.inside.tables) (contents_of c.own_each.new.self)) c.as_slice.ensures.value c.in-Ok-own_each.ensures.owned in
+    let owned = subst (λ (xs : List ℕ). AreOwned xs (contents_of c.self.inside.tables) (contents_of c.own_each.new.self))
+    c.as_slice.ensures.value c.in-Ok-own_each.ensures.owned in
     let pages = owned_same c.in-Ok.numbers.items (contents_of c.self.inside.tables) (contents_of c.own_each.new.self) owned
     (λ n listed. in_range (contents_of c.self.inside.tables).pages c.args.address c.args.count n c.requires.some
     (subst (λ (s : SpaceValue). present (memory_of s) c.args.address c.args.count ≡ true) (sym c.self.view_is) c.requires.there)
     (c.in-Ok.ensures.from n listed) (omega (arith, c.from.ensures, c.requires.some, c.in-Ok.ensures.to n listed))) in
-    let same : memory_of c.own_each.new.self ≡ memory_of c.args.self.now = ap (λ (p : PageMap). memory_in p) pages ∙ ap (λ (s : SpaceValue). memory_of s) c.self.view_is in (
+    let same : memory_of c.own_each.new.self ≡ memory_of c.args.self.now =
+    ap (λ (p : PageMap). memory_in p) pages ∙ ap (λ (s : SpaceValue). memory_of s) c.self.view_is in (
       ap (λ m. present m c.args.address c.args.count) same ∙ c.requires.there,
-      λ k l. all_own_in c.self.inside.tables c.own_each.new.self c.in-Ok.numbers.items _ _ owned c.in-Ok.ensures.others ((c.args.address + k) / 4096) (omega arith) (omega (arith, l, c.from.ensures, c.requires.some)),
+      λ k l. all_own_in c.self.inside.tables c.own_each.new.self c.in-Ok.numbers.items _ _ owned c.in-Ok.ensures.others
+          ((c.args.address + k) / 4096) (omega arith) (omega (arith, l, c.from.ensures, c.requires.some)),
     )
 
 pub returns-clause-memory : goal.returns-clause-memory
 returns-clause-memory c =
-    let owned = subst (λ (xs : List ℕ). AreOwned xs (contents_of c.self.inside.tables) (contents_of c.own_each.new.self)) c.as_slice.ensures.value c.in-Ok-own_each.ensures.owned in
+    let owned = subst (λ (xs : List ℕ). AreOwned xs (contents_of c.self.inside.tables) (contents_of c.own_each.new.self))
+    c.as_slice.ensures.value c.in-Ok-own_each.ensures.owned in
     let pages = owned_same c.in-Ok.numbers.items (contents_of c.self.inside.tables) (contents_of c.own_each.new.self) owned
     (λ n listed. in_range (contents_of c.self.inside.tables).pages c.args.address c.args.count n c.requires.some
     (subst (λ (s : SpaceValue). present (memory_of s) c.args.address c.args.count ≡ true) (sym c.self.view_is) c.requires.there)
@@ -50,14 +55,19 @@ pub returns-clause-live : goal.returns-clause-live
 returns-clause-live c =
     let first : ℕ = c.args.address / 4096 in
     let count : ℕ = (c.from.result + c.args.count - 1) / 4096 - c.args.address / 4096 + 1 in
-    let owned = subst (λ (xs : List ℕ). AreOwned xs (contents_of c.self.inside.tables) (contents_of c.own_each.new.self)) c.as_slice.ensures.value c.in-Ok-own_each.ensures.owned in
+    let owned = subst (λ (xs : List ℕ). AreOwned xs (contents_of c.self.inside.tables) (contents_of c.own_each.new.self))
+    c.as_slice.ensures.value c.in-Ok-own_each.ensures.owned in
     let last : IsSome ((contents_of c.self.inside.tables).pages ((c.args.address + c.args.count - 1) / 4096)) =
-    in_range (contents_of c.self.inside.tables).pages c.args.address c.args.count ((c.args.address + c.args.count - 1) / 4096) c.requires.some
+    in_range (contents_of c.self.inside.tables).pages c.args.address c.args.count ((c.args.address + c.args.count - 1) / 4096)
+    c.requires.some
     (subst (λ (s : SpaceValue). present (memory_of s) c.args.address c.args.count ≡ true) (sym c.self.view_is) c.requires.there)
     (omega (arith, c.requires.some)) (omega (arith, c.requires.some)) in
-    let low = low_page (contents_of c.self.inside.tables).pages ((c.args.address + c.args.count - 1) / 4096) c.self.invariant.pages.each last in
-    let adds = listed_adds c.self.inside.tables c.in-Ok.numbers.items first count c.in-Ok.ensures.from c.in-Ok.ensures.to c.in-Ok.ensures.others (omega (arith, low, c.from.ensures, c.requires.some)) in
+    let low = low_page (contents_of c.self.inside.tables).pages ((c.args.address + c.args.count - 1) / 4096) c.self.invariant.pages.each
+    last in
+    let adds = listed_adds c.self.inside.tables c.in-Ok.numbers.items first count c.in-Ok.ensures.from c.in-Ok.ensures.to
+    c.in-Ok.ensures.others (omega (arith, low, c.from.ensures, c.requires.some)) in
     let across : count ≡ pages_across c.args.address c.args.count =
-    ap (λ (a : ℕ). (a + c.args.count - 1) / 4096 - c.args.address / 4096 + 1) c.from.ensures ∙ sym (some_across c.args.address c.args.count c.requires.some) in
+    ap (λ (a : ℕ). (a + c.args.count - 1) / 4096 - c.args.address / 4096 + 1) c.from.ensures
+    ∙ sym (some_across c.args.address c.args.count c.requires.some) in
     subst (λ (s : SpaceValue). live_of c.own_each.new.self ≡ live_of s + added_across s c.args.address c.args.count) c.self.view_is
     (owned.live ∙ ap (λ (k : ℕ). live_of c.self.inside.tables + k) (adds ∙ ap (λ (k : ℕ). added_in c.self.inside.tables first k) across))

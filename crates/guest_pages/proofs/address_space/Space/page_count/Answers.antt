@@ -9,4 +9,6 @@ pub returns-clause-count : goal.returns-clause-count
 returns-clause-count c = c.self.invariant.count ∙ ap (λ (s : SpaceValue). page_count (memory_of s)) c.self.view_is
 
 pub returns-clause-is_memory : goal.returns-clause-is_memory
-returns-clause-is_memory c = subst (λ (s : SpaceValue). IsMemory (memory_of s)) c.self.view_is (is_memory (contents_of c.self.inside.tables).pages c.self.invariant.pages)
+returns-clause-is_memory c =
+    subst (λ (s : SpaceValue). IsMemory (memory_of s)) c.self.view_is
+    (is_memory (contents_of c.self.inside.tables).pages c.self.invariant.pages)

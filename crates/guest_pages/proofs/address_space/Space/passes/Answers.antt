@@ -9,7 +9,8 @@ use Rattle.guest_pages.proofs.address_space.Space.passes.Goals as goal
 pub returns-in_default : goal.returns-in_default
 returns-in_default c =
     sym (ap (λ (s : SpaceValue). all_cells (test_of c.args.access) (memory_of s) c.args.address c.args.count) (sym c.self.view_is)
-    ∙ too_long c.args.access (contents_of c.self.inside.tables).pages c.self.invariant.pages.each c.args.address c.args.count (omega (arith, c.in_default.ensures)))
+    ∙ too_long c.args.access (contents_of c.self.inside.tables).pages c.self.invariant.pages.each c.args.address c.args.count
+    (omega (arith, c.in_default.ensures)))
 
 pub returns-then-count-eq0 : goal.returns-then-count-eq0
 unfolding all_cells

@@ -16,11 +16,14 @@ invariant_of-self c =
     let same : page_count (memory_of c.protect_range.new.tables) ≡ page_count (memory_of c.self.inside.tables) =
     count_alike pages after (protected_there pages after c.args.permissions c.args.page c.args.count r.protected r.below r.above) in
     is_space c.self.inside.tables c.protect_range.new.tables c.self.inside.mapped c.self.inside.mapped c.self.invariant
-    (protected_each pages after c.args.permissions c.args.page c.args.count c.self.invariant.pages.each c.requires.readable r.protected r.below r.above)
+    (protected_each pages after c.args.permissions c.args.page c.args.count c.self.invariant.pages.each c.requires.readable r.protected
+    r.below r.above)
     r.kept (c.self.invariant.count ∙ sym same) (subst (λ (k : ℕ). k ≤ MAX_PAGES) (sym c.self.invariant.count) c.self.invariant.pages.limit)
 
 pub returns-clause-protected : goal.returns-clause-protected
 returns-clause-protected c =
     let r = c.protect_range.ensures in
-    protected_in (contents_of c.self.inside.tables).pages (contents_of c.protect_range.new.tables).pages c.args.permissions c.args.page c.args.count r.protected r.below r.above
-    ∙ ap (λ (s : SpaceValue). protected (c.args.page * page_bytes) (c.args.count * page_bytes) c.args.permissions (memory_of s)) c.self.view_is
+    protected_in (contents_of c.self.inside.tables).pages (contents_of c.protect_range.new.tables).pages c.args.permissions c.args.page
+    c.args.count r.protected r.below r.above
+    ∙ ap (λ (s : SpaceValue). protected (c.args.page * page_bytes) (c.args.count * page_bytes) c.args.permissions (memory_of s))
+    c.self.view_is

@@ -11,7 +11,8 @@ use Rattle.guest_pages.proofs.address_space.Space.put_page.Goals as goal
 
 pub returns-in_default-clause-refused : goal.returns-in_default-clause-refused
 returns-in_default-clause-refused c =
-    let total : page_count (with_page c.args.number (Some c.args.page) (memory_of c.args.self.now)) ≡ page_count (memory_of c.self.inside.tables) =
+    let total : page_count (with_page c.args.number (Some c.args.page) (memory_of c.args.self.now))
+    ≡ page_count (memory_of c.self.inside.tables) =
     ap (λ (s : SpaceValue). page_count (with_page c.args.number (Some c.args.page) (memory_of s))) (sym c.self.view_is)
     ∙ page_count_over (contents_of c.self.inside.tables).pages c.args.page c.args.number (sym c.is_there.ensures ∙ c.if-is_there.true) in
     let limit = c.self.invariant.pages.limit in
@@ -23,24 +24,30 @@ invariant_of-self-then-is_there c =
     let after = (contents_of c.place.new.self).pages in
     let put = c.in-Ok.ensures.placed in
     let total : page_count (memory_of c.place.new.self) ≡ page_count (memory_of c.self.inside.tables) =
-    ap page_count (put_in pages after c.args.number (Some c.args.page) put.here put.rest.pages) ∙ page_count_over (contents_of c.self.inside.tables).pages c.args.page c.args.number (sym c.is_there.ensures ∙ c.if-is_there.true) in
+    ap page_count (put_in pages after c.args.number (Some c.args.page) put.here put.rest.pages)
+    ∙ page_count_over (contents_of c.self.inside.tables).pages c.args.page c.args.number
+    (sym c.is_there.ensures ∙ c.if-is_there.true) in
     let count = c.self.invariant.count in
     let limit = c.self.invariant.pages.limit in
     is_space c.self.inside.tables c.place.new.self c.self.inside.mapped c.self.inside.mapped c.self.invariant
-    (put_each pages after c.args.number c.args.page c.self.invariant.pages.each c.requires c.has_page_bytes.ensures.0 c.has_page_bytes.ensures.1 put.here put.rest.pages)
+    (put_each pages after c.args.number c.args.page c.self.invariant.pages.each c.requires c.has_page_bytes.ensures.0
+    c.has_page_bytes.ensures.1 put.here put.rest.pages)
     put.rest.kept (omega (arith, total, count)) (omega (arith, count, limit))
 
 pub returns-then-is_there-clause-set : goal.returns-then-is_there-clause-set
 returns-then-is_there-clause-set c =
     let put = c.in-Ok.ensures.placed in
-    put_in (contents_of c.self.inside.tables).pages (contents_of c.place.new.self).pages c.args.number (Some c.args.page) put.here put.rest.pages
+    put_in (contents_of c.self.inside.tables).pages (contents_of c.place.new.self).pages c.args.number (Some c.args.page) put.here
+    put.rest.pages
     ∙ ap (λ (s : SpaceValue). with_page c.args.number (Some c.args.page) (memory_of s)) c.self.view_is
 
 pub returns-then-self-ge-MAX_PAGES-clause-refused : goal.returns-then-self-ge-MAX_PAGES-clause-refused
 returns-then-self-ge-MAX_PAGES-clause-refused c =
-    let total : page_count (with_page c.args.number (Some c.args.page) (memory_of c.args.self.now)) ≡ page_count (memory_of c.self.inside.tables) + 1 =
+    let total : page_count (with_page c.args.number (Some c.args.page) (memory_of c.args.self.now))
+    ≡ page_count (memory_of c.self.inside.tables) + 1 =
     ap (λ (s : SpaceValue). page_count (with_page c.args.number (Some c.args.page) (memory_of s))) (sym c.self.view_is)
-    ∙ page_count_put (contents_of c.self.inside.tables).pages c.args.page c.args.number c.requires.1 (no_page ((contents_of c.self.inside.tables).pages c.args.number) (sym c.is_there.ensures ∙ c.if-is_there.false)) in
+    ∙ page_count_put (contents_of c.self.inside.tables).pages c.args.page c.args.number c.requires.1
+    (no_page ((contents_of c.self.inside.tables).pages c.args.number) (sym c.is_there.ensures ∙ c.if-is_there.false)) in
     let count = c.self.invariant.count in
     omega (arith, total, count, c.if-self-ge-MAX_PAGES.true)
 
@@ -51,9 +58,11 @@ returns-then-self-ge-MAX_PAGES-clause-too_many c = λ e.
 
 pub returns-in_default-place-clause-refused : goal.returns-in_default-place-clause-refused
 returns-in_default-place-clause-refused c =
-    let total : page_count (with_page c.args.number (Some c.args.page) (memory_of c.args.self.now)) ≡ page_count (memory_of c.self.inside.tables) + 1 =
+    let total : page_count (with_page c.args.number (Some c.args.page) (memory_of c.args.self.now))
+    ≡ page_count (memory_of c.self.inside.tables) + 1 =
     ap (λ (s : SpaceValue). page_count (with_page c.args.number (Some c.args.page) (memory_of s))) (sym c.self.view_is)
-    ∙ page_count_put (contents_of c.self.inside.tables).pages c.args.page c.args.number c.requires.1 (no_page ((contents_of c.self.inside.tables).pages c.args.number) (sym c.is_there.ensures ∙ c.if-is_there.false)) in
+    ∙ page_count_put (contents_of c.self.inside.tables).pages c.args.page c.args.number c.requires.1
+    (no_page ((contents_of c.self.inside.tables).pages c.args.number) (sym c.is_there.ensures ∙ c.if-is_there.false)) in
     let count = c.self.invariant.count in
     omega (arith, total, count, c.if-self-ge-MAX_PAGES.false)
 
@@ -63,20 +72,27 @@ invariant_of-self-2 c =
     let after = (contents_of c.place-2.new.self).pages in
     let put = c.in-Ok-place.ensures.placed in
     let total : page_count (memory_of c.place-2.new.self) ≡ page_count (memory_of c.self.inside.tables) + 1 =
-    ap page_count (put_in pages after c.args.number (Some c.args.page) put.here put.rest.pages) ∙ page_count_put (contents_of c.self.inside.tables).pages c.args.page c.args.number c.requires.1 (no_page ((contents_of c.self.inside.tables).pages c.args.number) (sym c.is_there.ensures ∙ c.if-is_there.false)) in
+    ap page_count (put_in pages after c.args.number (Some c.args.page) put.here put.rest.pages)
+    ∙ page_count_put (contents_of c.self.inside.tables).pages c.args.page c.args.number c.requires.1
+    (no_page ((contents_of c.self.inside.tables).pages c.args.number) (sym c.is_there.ensures ∙ c.if-is_there.false)) in
     let count = c.self.invariant.count in
     is_space c.self.inside.tables c.place-2.new.self c.self.inside.mapped _ c.self.invariant
-    (put_each pages after c.args.number c.args.page c.self.invariant.pages.each c.requires c.has_page_bytes.ensures.0 c.has_page_bytes.ensures.1 put.here put.rest.pages)
+    (put_each pages after c.args.number c.args.page c.self.invariant.pages.each c.requires c.has_page_bytes.ensures.0
+    c.has_page_bytes.ensures.1 put.here put.rest.pages)
     put.rest.kept (omega (arith, total, count)) (omega (arith, c.if-self-ge-MAX_PAGES.false))
 
 pub returns-clause-set : goal.returns-clause-set
 returns-clause-set c =
     let put = c.in-Ok-place.ensures.placed in
-    put_in (contents_of c.self.inside.tables).pages (contents_of c.place-2.new.self).pages c.args.number (Some c.args.page) put.here put.rest.pages
+    put_in (contents_of c.self.inside.tables).pages (contents_of c.place-2.new.self).pages c.args.number (Some c.args.page) put.here
+    put.rest.pages
     ∙ ap (λ (s : SpaceValue). with_page c.args.number (Some c.args.page) (memory_of s)) c.self.view_is
 
 pub returns-then-is_there-clause-live : goal.returns-then-is_there-clause-live
-returns-then-is_there-clause-live c = subst (λ (s : SpaceValue). live_of c.place.new.self ≡ live_of s + added_for s c.args.number) c.self.view_is c.in-Ok.ensures.placed.live
+returns-then-is_there-clause-live c =
+    subst (λ (s : SpaceValue). live_of c.place.new.self ≡ live_of s + added_for s c.args.number) c.self.view_is c.in-Ok.ensures.placed.live
 
 pub returns-clause-live : goal.returns-clause-live
-returns-clause-live c = subst (λ (s : SpaceValue). live_of c.place-2.new.self ≡ live_of s + added_for s c.args.number) c.self.view_is c.in-Ok-place.ensures.placed.live
+returns-clause-live c =
+    subst (λ (s : SpaceValue). live_of c.place-2.new.self ≡ live_of s + added_for s c.args.number) c.self.view_is
+    c.in-Ok-place.ensures.placed.live

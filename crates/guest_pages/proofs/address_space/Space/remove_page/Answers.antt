@@ -13,13 +13,15 @@ pub returns-then-not-is_there-clause-memory : goal.returns-then-not-is_there-cla
 returns-then-not-is_there-clause-memory c =
     let pages = (contents_of c.self.inside.tables).pages in
     ap (λ (s : SpaceValue). memory_of s) (sym c.self.view_is)
-    ∙ put_in pages pages c.args.number None (no_page (pages c.args.number) (sym c.is_there.ensures ∙ c.if-not-is_there.true)) (λ q apart. refl)
+    ∙ put_in pages pages c.args.number None (no_page (pages c.args.number) (sym c.is_there.ensures ∙ c.if-not-is_there.true))
+    (λ q apart. refl)
     ∙ ap (λ (s : SpaceValue). with_page c.args.number None (memory_of s)) c.self.view_is
 
 pub overflow_sub-self : goal.overflow_sub-self
 overflow_sub-self c =
     let gone = c.remove.ensures in
-    let count = count_removed (contents_of c.self.inside.tables).pages (contents_of c.remove.new.self).pages c.args.number c.self.invariant.pages.each
+    let count = count_removed (contents_of c.self.inside.tables).pages (contents_of c.remove.new.self).pages c.args.number
+    c.self.invariant.pages.each
     (sym c.is_there.ensures ∙ c.if-not-is_there.false) gone.here gone.rest.pages in
     let held = c.self.invariant.count in
     omega (arith, count, held)
@@ -29,10 +31,12 @@ invariant_of-self c =
     let gone = c.remove.ensures in
     let pages = (contents_of c.self.inside.tables).pages in
     let after = (contents_of c.remove.new.self).pages in
-    let count = count_removed pages after c.args.number c.self.invariant.pages.each (sym c.is_there.ensures ∙ c.if-not-is_there.false) gone.here gone.rest.pages in
+    let count = count_removed pages after c.args.number c.self.invariant.pages.each (sym c.is_there.ensures ∙ c.if-not-is_there.false)
+    gone.here gone.rest.pages in
     let held = c.self.invariant.count in
     let limit = c.self.invariant.pages.limit in
-    is_space c.self.inside.tables c.remove.new.self c.self.inside.mapped _ c.self.invariant (removed_each pages after c.args.number c.self.invariant.pages.each gone.here gone.rest.pages)
+    is_space c.self.inside.tables c.remove.new.self c.self.inside.mapped _ c.self.invariant
+    (removed_each pages after c.args.number c.self.invariant.pages.each gone.here gone.rest.pages)
     gone.rest.kept (omega (arith, count, held)) (omega (arith, count, held, limit))
 
 pub returns-clause-memory : goal.returns-clause-memory
@@ -44,8 +48,10 @@ returns-clause-memory c =
 pub returns-then-not-is_there-clause-live : goal.returns-then-not-is_there-clause-live
 returns-then-not-is_there-clause-live c =
     let pages = (contents_of c.self.inside.tables).pages in
-    let none = absent_frees c.self.inside.tables c.args.number (c.all_own.ensures.counted c.args.number).1 (no_page (pages c.args.number) (sym c.is_there.ensures ∙ c.if-not-is_there.true)) in
+    let none = absent_frees c.self.inside.tables c.args.number (c.all_own.ensures.counted c.args.number).1
+    (no_page (pages c.args.number) (sym c.is_there.ensures ∙ c.if-not-is_there.true)) in
     subst (λ (s : SpaceValue). live_of s + freed_for s c.args.number ≡ live_of s) c.self.view_is (omega (arith, none))
 
 pub returns-clause-live : goal.returns-clause-live
-returns-clause-live c = subst (λ (s : SpaceValue). live_of c.remove.new.self + freed_for s c.args.number ≡ live_of s) c.self.view_is c.remove.ensures.live
+returns-clause-live c =
+    subst (λ (s : SpaceValue). live_of c.remove.new.self + freed_for s c.args.number ≡ live_of s) c.self.view_is c.remove.ensures.live

@@ -6,7 +6,8 @@ use Rattle.guest_pages.proofs.Spaces.{kept_space}
 use Rattle.guest_pages.proofs.address_space.Space.snapshot.Goals as goal
 
 pub invariant_of-self-2 : goal.invariant_of-self-2
-invariant_of-self-2 c = kept_space c.self.inside.tables c.keep.new.self c.self.inside.mapped c.in_ok-number.number c.self.invariant c.in_ok-number.ensures.kept
+invariant_of-self-2 c =
+    kept_space c.self.inside.tables c.keep.new.self c.self.inside.mapped c.in_ok-number.number c.self.invariant c.in_ok-number.ensures.kept
 
 pub returns-clause-kept : goal.returns-clause-kept
 returns-clause-kept c =

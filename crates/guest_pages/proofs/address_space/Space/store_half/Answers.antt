@@ -12,23 +12,29 @@ use Rattle.guest_pages.proofs.address_space.Space.store_half.Goals as goal
 
 pub invariant_of-self-2 : goal.invariant_of-self-2
 invariant_of-self-2 c =
-    stored_space c.self.inside.tables c.put_half.new.self c.self.inside.mapped (c.args.address / 4096) (c.args.address % 4096) (to_le_bytes w16 c.args.value) c.self.invariant c.in_ok-put_half.ensures.written
+    stored_space c.self.inside.tables c.put_half.new.self c.self.inside.mapped (c.args.address / 4096) (c.args.address % 4096)
+    (to_le_bytes w16 c.args.value) c.self.invariant c.in_ok-put_half.ensures.written
     (omega arith) (all_small (to_le_bytes w16 c.args.value) (omega arith, (omega arith, tt)))
 
 pub returns-clause-stored : goal.returns-clause-stored
 returns-clause-stored c =
-    stored_memory c.self.inside.tables c.put_half.new.self (c.args.address / 4096) (c.args.address % 4096) c.args.address (to_le_bytes w16 c.args.value) c.self.invariant.pages.each c.in_ok-put_half.ensures.written (omega arith) (omega arith)
+    stored_memory c.self.inside.tables c.put_half.new.self (c.args.address / 4096) (c.args.address % 4096) c.args.address
+    (to_le_bytes w16 c.args.value) c.self.invariant.pages.each c.in_ok-put_half.ensures.written (omega arith) (omega arith)
     ∙ ap (λ (s : SpaceValue). stored c.args.address (to_le_bytes w16 c.args.value) (memory_of s)) c.self.view_is
 
 pub returns-in_err-put_half-clause-refused : goal.returns-in_err-put_half-clause-refused
 returns-in_err-put_half-clause-refused c =
     let p = err_from_is_err_and c.from_residual.result c.from_residual.ensures.1 in
-    let refused = put_refused (contents_of c.self.inside.tables).pages c.args.address 2 c.in_err-put_half.field-0.0 (omega arith) (omega arith) c.in_err-put_half.ensures.refused in
+    let refused =
+    put_refused (contents_of c.self.inside.tables).pages c.args.address 2 c.in_err-put_half.field-0.0 (omega arith) (omega arith)
+    c.in_err-put_half.ensures.refused in
     let told : IsStoreRefusal (memory_of c.args.self.now) c.args.address 2 (fault_for c.in_err-put_half.field-0.0) =
-    subst (λ (s : SpaceValue). IsStoreRefusal (memory_of s) c.args.address 2 (fault_for c.in_err-put_half.field-0.0)) c.self.view_is refused in
+    subst (λ (s : SpaceValue). IsStoreRefusal (memory_of s) c.args.address 2 (fault_for c.in_err-put_half.field-0.0)) c.self.view_is
+    refused in
     rw p.1 (subst (IsStoreRefusal (memory_of c.args.self.now) c.args.address 2) (sym p.2) told)
 
 pub returns-clause-live : goal.returns-clause-live
 returns-clause-live c =
     subst (λ (s : SpaceValue). live_of c.put_half.new.self ≡ live_of s + added_across s c.args.address 2) c.self.view_is
-    (put_adds c.self.inside.tables c.put_half.new.self c.args.address 2 (to_le_bytes w16 c.args.value) c.in_ok-put_half.ensures.written (omega arith) (omega arith))
+    (put_adds c.self.inside.tables c.put_half.new.self c.args.address 2 (to_le_bytes w16 c.args.value) c.in_ok-put_half.ensures.written
+    (omega arith) (omega arith))

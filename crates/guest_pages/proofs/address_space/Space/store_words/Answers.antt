@@ -40,7 +40,8 @@ loop-place-preserved c =
     record {
       stored = ap (λ (m : Memory). stored_at_each (drop (i + 1) places) bytes m) here
           ∙ next_stored bytes m places i c.loop-place-test.true ∙ c.loop-place.invariant.stored;
-      allowed = ap (λ (m : Memory). all_writable m (drop (i + 1) places)) here ∙ allowed_after (get_or places i 0) bytes m (drop (i + 1) places) next.1;
+      allowed = ap (λ (m : Memory). all_writable m (drop (i + 1) places)) here
+          ∙ allowed_after (get_or places i 0) bytes m (drop (i + 1) places) next.1;
       own = λ k l j m. c.fill.ensures.own ((get_or places k 0 + j) / 4096) (c.loop-place.invariant.own k l j m);
       snapshots = c.fill.ensures.snapshots ∙ c.loop-place.invariant.snapshots;
       live = c.fill.ensures.live ∙ c.loop-place.invariant.live;

@@ -8,7 +8,8 @@ use Rattle.guest_pages.proofs.address_space.Space.store_words.Given as goal
 
 abbrev pub invariant-loop-place : goal.invariant-loop-place
 invariant-loop-place l = record {
-  stored : stored_at_each (drop l.place-index l.places) (to_le_bytes w32 l.word) (memory_of l.self) ≡ stored_at_each l.places (to_le_bytes w32 l.word) (memory_of l.fn.self);
+  stored : stored_at_each (drop l.place-index l.places) (to_le_bytes w32 l.word) (memory_of l.self)
+      ≡ stored_at_each l.places (to_le_bytes w32 l.word) (memory_of l.fn.self);
   allowed : all_writable (memory_of l.self) (drop l.place-index l.places) ≡ true;
   own : AreOwnWords l.self l.places;
   snapshots : snapshots_of l.self ≡ snapshots_of l.fn.self;

@@ -13,14 +13,18 @@ invariant_of-self c =
     let count = c.self.invariant.count in
     let limit = c.self.invariant.pages.limit in
     is_space c.self.inside.tables c.remove_range-gone.new.tables c.self.inside.mapped _ c.self.invariant
-    (unmapped_each (contents_of c.self.inside.tables).pages (contents_of c.remove_range-gone.new.tables).pages c.args.page c.args.count c.self.invariant.pages.each r.removed r.below r.above)
+    (unmapped_each (contents_of c.self.inside.tables).pages (contents_of c.remove_range-gone.new.tables).pages c.args.page c.args.count
+    c.self.invariant.pages.each r.removed r.below r.above)
     r.kept (omega (arith, r.count, count)) (omega (arith, r.count, count, limit))
 
 pub returns-clause-memory : goal.returns-clause-memory
 returns-clause-memory c =
     let r = c.remove_range-gone.ensures in
-    unmapped_in (contents_of c.self.inside.tables).pages (contents_of c.remove_range-gone.new.tables).pages c.args.page c.args.count r.removed r.below r.above
+    unmapped_in (contents_of c.self.inside.tables).pages (contents_of c.remove_range-gone.new.tables).pages c.args.page c.args.count
+    r.removed r.below r.above
     ∙ ap (λ (s : SpaceValue). unmapped (c.args.page * page_bytes) (c.args.count * page_bytes) (memory_of s)) c.self.view_is
 
 pub returns-clause-live : goal.returns-clause-live
-returns-clause-live c = subst (λ (s : SpaceValue). live_of c.remove_range-gone.new.tables + freed_in s c.args.page c.args.count ≡ live_of s) c.self.view_is c.remove_range-gone.ensures.live
+returns-clause-live c =
+    subst (λ (s : SpaceValue). live_of c.remove_range-gone.new.tables + freed_in s c.args.page c.args.count ≡ live_of s) c.self.view_is
+    c.remove_range-gone.ensures.live

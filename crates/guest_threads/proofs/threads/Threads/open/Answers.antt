@@ -11,4 +11,5 @@ invariant_of-result c =
     let made : thread_map c.add_thread.new.threads.entries ≡ insert empty 1 c.args.first =
     c.in-Ok.ensures.added ∙ ap (λ (es : List (ℕ × Thread)). insert (thread_map es) 1 c.args.first) c.new-threads.ensures.empty in
     moved made c.new.ensures.items
-    (keeps_spawned empty [] 1 c.args.first no_threads (omega (arith, len-empty nat_cmp Thread)) (omega arith) c.requires.fits c.requires.runs)
+    (keeps_spawned empty [] 1 c.args.first no_threads (omega (arith, len-empty nat_cmp Thread)) (omega arith) c.requires.fits
+    c.requires.runs)

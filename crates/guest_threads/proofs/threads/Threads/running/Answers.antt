@@ -5,4 +5,5 @@ use Rattle.guest_threads.proofs.threads.Threads.running.Goals as goal
 
 pub returns-clause-memory : goal.returns-clause-memory
 returns-clause-memory c =
-    subst (λ (v : ThreadsValue). OnErr c.running_tids.result ((tid : ℕ) × IsRunning (thread_in v tid))) c.self.view_is c.running_tids.ensures.memory
+    subst (λ (v : ThreadsValue). OnErr c.running_tids.result ((tid : ℕ) × IsRunning (thread_in v tid))) c.self.view_is
+    c.running_tids.ensures.memory

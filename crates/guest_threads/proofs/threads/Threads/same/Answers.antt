@@ -30,6 +30,7 @@ returns-else-eq c =
             w.value-is ∙ (slice_eq-Decides Decides-eqb a.waiting.items b.waiting.items w.eq.result w.eq.ensures).1
             (same_orders _ _ _ _ _ _ _ _ c.self.view_is c.other.view_is h)
         | else-same_threads w ↦
-            absurd (false≢true (sym w.if-same_threads.false ∙ c.same_threads.ensures.1 (same_maps _ _ _ _ _ _ _ _ c.self.view_is c.other.view_is h)))
+            absurd (false≢true
+            (sym w.if-same_threads.false ∙ c.same_threads.ensures.1 (same_maps _ _ _ _ _ _ _ _ c.self.view_is c.other.view_is h)))
       ],
     )

@@ -8,4 +8,5 @@ pub invariant_of-self : goal.invariant_of-self
 invariant_of-self c =
     let runs : c.is_running.result ≡ true = search rules in
     moved c.put_waits_at.ensures c.in-Ok.ensures.items (keeps_waits _ _ _ c.args.tid c.args.address c.self.invariant
-    (subst (λ (v : ThreadsValue). IsRunning (thread_in v c.args.tid)) (sym c.self.view_is) (c.is_running.ensures.runs.0 runs)) (omega arith))
+    (subst (λ (v : ThreadsValue). IsRunning (thread_in v c.args.tid)) (sym c.self.view_is) (c.is_running.ensures.runs.0 runs))
+    (omega arith))

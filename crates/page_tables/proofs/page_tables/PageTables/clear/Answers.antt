@@ -4,7 +4,8 @@ use Rattle.page_tables.specs.Contents.{PageValue, FillPage, contents_of}
 use Rattle.page_tables.proofs.PlacedPages.{written_anew}
 use Rattle.page_tables.proofs.page_tables.PageTables.clear.Goals as goal
 
-filled_length : (bs : List ℕ) (o : Option PageValue) → length bs ≡ 4096 → IfSome o (λ p. FillPage p.bytes) → IfSome o (λ p. length bs ≡ length p.bytes)
+filled_length : (bs : List ℕ) (o : Option PageValue) → length bs ≡ 4096 → IfSome o (λ p. FillPage p.bytes) →
+    IfSome o (λ p. length bs ≡ length p.bytes)
 filled_length bs None e i = tt
 filled_length bs (Some p) e i = e ∙ sym i.0
 

@@ -6,4 +6,6 @@ use Rattle.page_tables.proofs.page_tables.PageTables.next.Goals as goal
 
 pub returns : goal.returns
 returns c =
-    subst (λ (d : Contents). IsNext d.pages c.args.least c.next_in.result) (sym (seen c.self.inside.pool c.self.inside.table c.self.inside.kept.items c.args.self.now c.self.invariant c.self.view_is)) c.next_in.ensures
+    subst (λ (d : Contents). IsNext d.pages c.args.least c.next_in.result)
+    (sym (seen c.self.inside.pool c.self.inside.table c.self.inside.kept.items c.args.self.now c.self.invariant c.self.view_is))
+    c.next_in.ensures

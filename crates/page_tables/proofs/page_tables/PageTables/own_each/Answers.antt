@@ -16,7 +16,8 @@ use Rattle.page_tables.proofs.NewPages.{no_step, none_left, all_steps}
 use Rattle.page_tables.proofs.PlacedPages.{roomy_shared, roomy_contents, on_err}
 use Rattle.page_tables.proofs.page_tables.PageTables.own_each.Goals as goal
 
-unshared : (pool : Slab Page) (table : Table) (kept : List (Option Table)) (v : TablesValue) → AreShared (get pool) (entry_at table) kept → value_of (contents_in pool table kept) ≡ v → (numbers : List ℕ) → AreOwn numbers (contents_of v) →
+unshared : (pool : Slab Page) (table : Table) (kept : List (Option Table)) (v : TablesValue) → AreShared (get pool) (entry_at table) kept →
+    value_of (contents_in pool table kept) ≡ v → (numbers : List ℕ) → AreOwn numbers (contents_of v) →
     AreUnshared numbers (counts_in (get pool) (entry_at table))
 unshared pool table kept v h view numbers own n a = sym (ap (λ (d : Contents). d.counts n) (seen pool table kept v h view)) ∙ own n a
 
@@ -25,7 +26,10 @@ not_empty copies len same test none = false≢true (test ∙ eq-eqb len 0 (same 
 
 pub returns-in_err-copies-clause-grows : goal.returns-in_err-copies-clause-grows
 returns-in_err-copies-clause-grows c =
-    let not : AreOwn c.args.numbers.now (contents_of c.args.self.now) → ⊥ = λ own. c.in_err-copies.ensures.grows (unshared c.self.inside.pool c.self.inside.table c.self.inside.kept.items c.args.self.now c.self.invariant c.self.view_is c.args.numbers.now own) in
+    let not : AreOwn c.args.numbers.now (contents_of c.args.self.now) → ⊥ =
+    λ own. c.in_err-copies.ensures.grows
+    (unshared c.self.inside.pool c.self.inside.table c.self.inside.kept.items c.args.self.now c.self.invariant c.self.view_is
+    c.args.numbers.now own) in
     on_err _ _ not
 
 pub returns-then-is_empty-clause-owned : goal.returns-then-is_empty-clause-owned
@@ -35,38 +39,53 @@ returns-then-is_empty-clause-owned c =
     let copies = c.in_ok-copies.copies in
     let empty : length copies.items ≡ 0 = sym copies.ok.0 ∙ eqb-true copies.len 0 (sym c.is_empty.ensures ∙ c.if-is_empty.true) in
     transport (AreOwned c.args.numbers.now) old old _ _ is is
-    (all_steps c.args.numbers.now old old (no_step c.args.numbers.now old) (none_left c.args.numbers.now old.pages old.counts c.in_ok-copies.copies.items empty c.in_ok-copies.ensures.copies)
+    (all_steps c.args.numbers.now old old (no_step c.args.numbers.now old)
+    (none_left c.args.numbers.now old.pages old.counts c.in_ok-copies.copies.items empty c.in_ok-copies.ensures.copies)
     (counted_there c.self.inside.pool c.self.inside.table c.self.inside.kept.items))
 
 pub returns-in_err-make_room_for-clause-grows : goal.returns-in_err-make_room_for-clause-grows
 returns-in_err-make_room_for-clause-grows c =
     let copies = c.in_ok-copies.copies in
     let not : AreOwn c.args.numbers.now (contents_of c.args.self.now) → ⊥ = λ own.
-    not_empty copies.items copies.len copies.ok.0 (sym c.if-is_empty.false ∙ c.is_empty.ensures) (c.in_ok-copies.ensures.none (unshared c.self.inside.pool c.self.inside.table c.self.inside.kept.items c.args.self.now c.self.invariant c.self.view_is c.args.numbers.now own)) in
+    not_empty copies.items copies.len copies.ok.0 (sym c.if-is_empty.false ∙ c.is_empty.ensures)
+    (c.in_ok-copies.ensures.none
+    (unshared c.self.inside.pool c.self.inside.table c.self.inside.kept.items c.args.self.now c.self.invariant c.self.view_is
+    c.args.numbers.now own)) in
     on_err _ _ not
 
 pub returns-in_err-reserve_pages-clause-grows : goal.returns-in_err-reserve_pages-clause-grows
 returns-in_err-reserve_pages-clause-grows c =
     let copies = c.in_ok-copies.copies in
     let not : AreOwn c.args.numbers.now (contents_of c.args.self.now) → ⊥ = λ own.
-    not_empty copies.items copies.len copies.ok.0 (sym c.if-is_empty.false ∙ c.is_empty.ensures) (c.in_ok-copies.ensures.none (unshared c.self.inside.pool c.self.inside.table c.self.inside.kept.items c.args.self.now c.self.invariant c.self.view_is c.args.numbers.now own)) in
+    not_empty copies.items copies.len copies.ok.0 (sym c.if-is_empty.false ∙ c.is_empty.ensures)
+    (c.in_ok-copies.ensures.none
+    (unshared c.self.inside.pool c.self.inside.table c.self.inside.kept.items c.args.self.now c.self.invariant c.self.view_is
+    c.args.numbers.now own)) in
     on_err _ _ not
 
 pub invariant_of-self-in_err-reserve_pages : goal.invariant_of-self-in_err-reserve_pages
-invariant_of-self-in_err-reserve_pages c = roomy_shared c.self.inside.pool c.reserve_pages.new.pool c.self.inside.table c.make_room_for.new.table c.self.inside.kept.items c.make_room_for.ensures.same c.reserve_pages.ensures.same c.self.invariant
+invariant_of-self-in_err-reserve_pages c =
+    roomy_shared c.self.inside.pool c.reserve_pages.new.pool c.self.inside.table c.make_room_for.new.table c.self.inside.kept.items
+    c.make_room_for.ensures.same c.reserve_pages.ensures.same c.self.invariant
 
 pub returns-in_err-reserve_pages-clause-err : goal.returns-in_err-reserve_pages-clause-err
-returns-in_err-reserve_pages-clause-err c = on_err _ _ (ap value_of (roomy_contents c.self.inside.pool c.reserve_pages.new.pool c.self.inside.table c.make_room_for.new.table c.self.inside.kept.items c.make_room_for.ensures.same c.reserve_pages.ensures.same c.reserve_pages.ensures.len) ∙ c.self.view_is)
+returns-in_err-reserve_pages-clause-err c =
+    on_err _ _ (ap value_of
+    (roomy_contents c.self.inside.pool c.reserve_pages.new.pool c.self.inside.table c.make_room_for.new.table c.self.inside.kept.items
+    c.make_room_for.ensures.same c.reserve_pages.ensures.same c.reserve_pages.ensures.len) ∙ c.self.view_is)
 
 pub install_all-requires-clause-shared : goal.install_all-requires-clause-shared
-install_all-requires-clause-shared c = roomy_shared c.self.inside.pool c.reserve_pages.new.pool c.self.inside.table c.make_room_for.new.table c.self.inside.kept.items c.make_room_for.ensures.same c.reserve_pages.ensures.same c.self.invariant
+install_all-requires-clause-shared c =
+    roomy_shared c.self.inside.pool c.reserve_pages.new.pool c.self.inside.table c.make_room_for.new.table c.self.inside.kept.items
+    c.make_room_for.ensures.same c.reserve_pages.ensures.same c.self.invariant
 
 pub returns-clause-owned : goal.returns-clause-owned
 returns-clause-owned c =
     let numbers = c.args.numbers.now in
     let old = contents_in c.self.inside.pool c.self.inside.table c.self.inside.kept.items in
     let mid = contents_in c.reserve_pages.new.pool c.make_room_for.new.table c.self.inside.kept.items in
-    let same = roomy_contents c.self.inside.pool c.reserve_pages.new.pool c.self.inside.table c.make_room_for.new.table c.self.inside.kept.items c.make_room_for.ensures.same c.reserve_pages.ensures.same c.reserve_pages.ensures.len in
+    let same = roomy_contents c.self.inside.pool c.reserve_pages.new.pool c.self.inside.table c.make_room_for.new.table
+    c.self.inside.kept.items c.make_room_for.ensures.same c.reserve_pages.ensures.same c.reserve_pages.ensures.len in
     let copies : AreCopies numbers mid.pages mid.counts c.in_ok-copies.copies.items =
     subst (λ (d : Contents). AreCopies numbers d.pages d.counts c.in_ok-copies.copies.items) (sym same) c.in_ok-copies.ensures.copies in
     transport (AreOwned numbers) mid (contents_in c.install_all.new.pool c.install_all.new.table c.self.inside.kept.items) _ _

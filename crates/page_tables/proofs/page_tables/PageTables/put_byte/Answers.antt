@@ -6,19 +6,39 @@ use Rattle.page_tables.proofs.PlacedPages.{writable_page, on_ok, own_if, write_s
 use Rattle.page_tables.proofs.page_tables.PageTables.put_byte.Goals as goal
 
 pub refusal-requires : goal.refusal-requires
-refusal-requires c = shown_not c.self.inside.pool c.self.inside.table c.self.inside.kept.items c.args.self.now c.self.invariant c.self.view_is (λ p. p.write) allows_write refl (λ p. refl) c.args.number c.entry-entry.result c.entry-entry.ensures (not_true c.entry-entry.result.permissions.write c.if-not-entry.true)
+refusal-requires c =
+    shown_not c.self.inside.pool c.self.inside.table c.self.inside.kept.items c.args.self.now c.self.invariant c.self.view_is (λ p. p.write)
+    allows_write refl (λ p. refl) c.args.number c.entry-entry.result c.entry-entry.ensures
+    (not_true c.entry-entry.result.permissions.write c.if-not-entry.true)
 
 pub put_shared-requires-clause-allowed : goal.put_shared-requires-clause-allowed
-put_shared-requires-clause-allowed c = writable_page c.self.inside.pool c.self.inside.table c.self.inside.kept.items c.args.self.now c.self.invariant c.self.view_is c.args.number c.entry-entry.result c.entry-entry.ensures (not_false c.entry-entry.result.permissions.write c.if-not-entry.false)
+put_shared-requires-clause-allowed c =
+    writable_page c.self.inside.pool c.self.inside.table c.self.inside.kept.items c.args.self.now c.self.invariant c.self.view_is
+    c.args.number c.entry-entry.result c.entry-entry.ensures (not_false c.entry-entry.result.permissions.write c.if-not-entry.false)
 
 pub returns-clause-allowed : goal.returns-clause-allowed
-returns-clause-allowed c = writable_page c.self.inside.pool c.self.inside.table c.self.inside.kept.items c.args.self.now c.self.invariant c.self.view_is c.args.number c.entry-entry.result c.entry-entry.ensures (not_false c.entry-entry.result.permissions.write c.if-not-entry.false)
+returns-clause-allowed c =
+    writable_page c.self.inside.pool c.self.inside.table c.self.inside.kept.items c.args.self.now c.self.invariant c.self.view_is
+    c.args.number c.entry-entry.result c.entry-entry.ensures (not_false c.entry-entry.result.permissions.write c.if-not-entry.false)
 
 pub invariant_of-self : goal.invariant_of-self
-invariant_of-self c = write_shared c.self.inside.pool c.self.inside.table c.self.inside.kept.items c.args.self.now c.self.invariant c.self.view_is c.args.number c.put_byte.new.pool c.args.at (to_le_bytes w8 c.args.value) c.entry-entry.result c.entry-entry.ensures (own_if c.self.inside.pool c.self.inside.table c.self.inside.kept.items c.args.self.now c.self.invariant c.self.view_is c.args.number c.entry-entry.result c.entry-entry.ensures (not_false c.entry-entry.result.permissions.write c.if-not-entry.false) c.index-page.result.now c.index-page.ensures (omega (arith, c.if-page-gt1.false))) c.put_byte.ensures.here c.put_byte.ensures.others
+invariant_of-self c =
+    write_shared c.self.inside.pool c.self.inside.table c.self.inside.kept.items c.args.self.now c.self.invariant c.self.view_is
+    c.args.number c.put_byte.new.pool c.args.at (to_le_bytes w8 c.args.value) c.entry-entry.result c.entry-entry.ensures
+    (own_if c.self.inside.pool c.self.inside.table c.self.inside.kept.items c.args.self.now c.self.invariant c.self.view_is c.args.number
+    c.entry-entry.result c.entry-entry.ensures (not_false c.entry-entry.result.permissions.write c.if-not-entry.false)
+    c.index-page.result.now c.index-page.ensures (omega (arith, c.if-page-gt1.false))) c.put_byte.ensures.here c.put_byte.ensures.others
 
 pub returns-clause-written : goal.returns-clause-written
-returns-clause-written c = write_contents c.self.inside.pool c.self.inside.table c.self.inside.kept.items c.args.self.now c.self.invariant c.self.view_is c.args.number c.put_byte.new.pool c.args.at (to_le_bytes w8 c.args.value) c.entry-entry.result c.entry-entry.ensures (own_if c.self.inside.pool c.self.inside.table c.self.inside.kept.items c.args.self.now c.self.invariant c.self.view_is c.args.number c.entry-entry.result c.entry-entry.ensures (not_false c.entry-entry.result.permissions.write c.if-not-entry.false) c.index-page.result.now c.index-page.ensures (omega (arith, c.if-page-gt1.false))) c.put_byte.ensures.here c.put_byte.ensures.others c.put_byte.ensures.len _ refl
+returns-clause-written c =
+    write_contents c.self.inside.pool c.self.inside.table c.self.inside.kept.items c.args.self.now c.self.invariant c.self.view_is
+    c.args.number c.put_byte.new.pool c.args.at (to_le_bytes w8 c.args.value) c.entry-entry.result c.entry-entry.ensures
+    (own_if c.self.inside.pool c.self.inside.table c.self.inside.kept.items c.args.self.now c.self.invariant c.self.view_is c.args.number
+    c.entry-entry.result c.entry-entry.ensures (not_false c.entry-entry.result.permissions.write c.if-not-entry.false)
+    c.index-page.result.now c.index-page.ensures (omega (arith, c.if-page-gt1.false))) c.put_byte.ensures.here c.put_byte.ensures.others
+    c.put_byte.ensures.len _ refl
 
 pub returns-then-page-gt1-clause-allowed : goal.returns-then-page-gt1-clause-allowed
-returns-then-page-gt1-clause-allowed c = on_ok _ _ (writable_page c.self.inside.pool c.self.inside.table c.self.inside.kept.items c.args.self.now c.self.invariant c.self.view_is c.args.number c.entry-entry.result c.entry-entry.ensures (not_false c.entry-entry.result.permissions.write c.if-not-entry.false))
+returns-then-page-gt1-clause-allowed c =
+    on_ok _ _ (writable_page c.self.inside.pool c.self.inside.table c.self.inside.kept.items c.args.self.now c.self.invariant c.self.view_is
+    c.args.number c.entry-entry.result c.entry-entry.ensures (not_false c.entry-entry.result.permissions.write c.if-not-entry.false))

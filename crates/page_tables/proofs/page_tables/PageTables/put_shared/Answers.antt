@@ -10,4 +10,5 @@ write-requires-clause-own c = let u = c.in-Ok.ensures.unshared in u.own
 
 pub returns-clause-written : goal.returns-clause-written
 returns-clause-written c =
-    written_after c.args.number c.args.at c.args.bytes.now (contents_of c.args.self.now) (contents_of c.unshare.new.self) (contents_of c.write.new.self) c.in-Ok.ensures.unshared c.write.ensures
+    written_after c.args.number c.args.at c.args.bytes.now (contents_of c.args.self.now) (contents_of c.unshare.new.self)
+    (contents_of c.write.new.self) c.in-Ok.ensures.unshared c.write.ensures

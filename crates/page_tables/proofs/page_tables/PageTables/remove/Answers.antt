@@ -12,11 +12,17 @@ pub detach-requires-clause-some : goal.detach-requires-clause-some
 detach-requires-clause-some c = positive (get c.self.inside.pool) (entry_at c.self.inside.table) c.self.inside.kept.items c.self.invariant
 
 pub invariant_of-self : goal.invariant_of-self
-invariant_of-self c = removed_shared c.self.inside.pool c.detach.new.pool c.self.inside.table c.detach.new.table c.self.inside.kept.items c.args.number c.self.invariant c.detach.ensures.gone c.detach.ensures.none c.detach.ensures.others c.detach.ensures.pages
+invariant_of-self c =
+    removed_shared c.self.inside.pool c.detach.new.pool c.self.inside.table c.detach.new.table c.self.inside.kept.items c.args.number
+    c.self.invariant c.detach.ensures.gone c.detach.ensures.none c.detach.ensures.others c.detach.ensures.pages
 
 pub returns : goal.returns
 returns c =
-    transport (IsRemoved c.args.number) (contents_in c.self.inside.pool c.self.inside.table c.self.inside.kept.items) (contents_in c.detach.new.pool c.detach.new.table c.self.inside.kept.items) _ _
+    transport (IsRemoved c.args.number) (contents_in c.self.inside.pool c.self.inside.table c.self.inside.kept.items)
+    (contents_in c.detach.new.pool c.detach.new.table c.self.inside.kept.items) _ _
     (seen c.self.inside.pool c.self.inside.table c.self.inside.kept.items _ c.self.invariant c.self.view_is)
-    (seen c.detach.new.pool c.detach.new.table c.self.inside.kept.items _ (removed_shared c.self.inside.pool c.detach.new.pool c.self.inside.table c.detach.new.table c.self.inside.kept.items c.args.number c.self.invariant c.detach.ensures.gone c.detach.ensures.none c.detach.ensures.others c.detach.ensures.pages) refl)
-    (removed_contents c.self.inside.pool c.detach.new.pool c.self.inside.table c.detach.new.table c.self.inside.kept.items c.args.number c.self.invariant c.detach.ensures.gone c.detach.ensures.none c.detach.ensures.others c.detach.ensures.pages c.detach.ensures.len)
+    (seen c.detach.new.pool c.detach.new.table c.self.inside.kept.items _
+    (removed_shared c.self.inside.pool c.detach.new.pool c.self.inside.table c.detach.new.table c.self.inside.kept.items c.args.number
+    c.self.invariant c.detach.ensures.gone c.detach.ensures.none c.detach.ensures.others c.detach.ensures.pages) refl)
+    (removed_contents c.self.inside.pool c.detach.new.pool c.self.inside.table c.detach.new.table c.self.inside.kept.items c.args.number
+    c.self.invariant c.detach.ensures.gone c.detach.ensures.none c.detach.ensures.others c.detach.ensures.pages c.detach.ensures.len)

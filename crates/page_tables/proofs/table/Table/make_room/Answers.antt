@@ -40,7 +40,10 @@ returns-clause-same c =
     let u : Table = record { directory = with_item c.extend.new.directory (c.args.number / 1024) (Some c.in_ok-leaf.leaf) } in
     let h : c.args.number / 1024 < length c.extend.new.directory.items = omega (arith, c.in_ok-extend.ensures.long) in
     let none = no_leaf_here mid c.args.number (cc (c.has_leaf.ensures, c.if-has_leaf.false)) in
-    record { at = λ q. fresh mid u c.args.number c.in_ok-leaf.leaf h refl c.in_ok-leaf.ensures none q ∙ same_row c.args.self.now mid (λ q. c.extend.ensures.same (q / 1024)) q }
+    record {
+      at = λ q. fresh mid u c.args.number c.in_ok-leaf.leaf h refl c.in_ok-leaf.ensures none q
+          ∙ same_row c.args.self.now mid (λ q. c.extend.ensures.same (q / 1024)) q;
+    }
 
 pub returns-clause-room : goal.returns-clause-room
 returns-clause-room c =
@@ -54,4 +57,5 @@ returns-clause-kept c =
     let mid : Table = record { directory = c.extend.new.directory } in
     let u : Table = record { directory = with_item c.extend.new.directory (c.args.number / 1024) (Some c.in_ok-leaf.leaf) } in
     let h : c.args.number / 1024 < length c.extend.new.directory.items = omega (arith, c.in_ok-extend.ensures.long) in
-    λ q was. fresh_room mid u c.args.number c.in_ok-leaf.leaf h refl q (same_room c.args.self.now mid (λ q. c.extend.ensures.same (q / 1024)) q ∙ was)
+    λ q was. fresh_room mid u c.args.number c.in_ok-leaf.leaf h refl q
+    (same_room c.args.self.now mid (λ q. c.extend.ensures.same (q / 1024)) q ∙ was)

@@ -14,7 +14,8 @@ returns-in-Some-clause-here c =
     let new : Leaf = record { entries = with_value c.in-Some.leaf.entries c.put_entry.new.entries } in
     let u : Table = record { directory = with_item c.args.self.now.directory (c.args.number / 1024) (Some new) } in
     set_here c.args.self.now u c.args.number c.in-Some.leaf new c.args.entry (within c.args.self.now c.args.number c.requires) refl
-    (c.put_entry.ensures.put ∙ ap (λ es. set es (c.args.number % 1024) c.args.entry) c.deref_mut.ensures.value) (ap length (sym c.deref_mut.ensures.value) ∙ c.put_entry.ensures.full)
+    (c.put_entry.ensures.put ∙ ap (λ es. set es (c.args.number % 1024) c.args.entry) c.deref_mut.ensures.value)
+    (ap length (sym c.deref_mut.ensures.value) ∙ c.put_entry.ensures.full)
 
 pub returns-in-Some-clause-others : goal.returns-in-Some-clause-others
 returns-in-Some-clause-others c =
@@ -33,10 +34,13 @@ returns-in-Some-clause-room c =
     set_room c.args.self.now u c.args.number new c.requires refl
 
 pub returns-in_default-clause-here : goal.returns-in_default-clause-here
-returns-in_default-clause-here c = absurd (let h = c.index_mut.ensures.value in no_leaf c.args.self.now c.args.number (cc (h, c.in_default.is)) c.requires)
+returns-in_default-clause-here c =
+    absurd (let h = c.index_mut.ensures.value in no_leaf c.args.self.now c.args.number (cc (h, c.in_default.is)) c.requires)
 
 pub returns-in_default-clause-others : goal.returns-in_default-clause-others
-returns-in_default-clause-others c = λ q apart. absurd (let h = c.index_mut.ensures.value in no_leaf c.args.self.now c.args.number (cc (h, c.in_default.is)) c.requires)
+returns-in_default-clause-others c =
+    λ q apart. absurd (let h = c.index_mut.ensures.value in no_leaf c.args.self.now c.args.number (cc (h, c.in_default.is)) c.requires)
 
 pub returns-in_default-clause-room : goal.returns-in_default-clause-room
-returns-in_default-clause-room c = λ q. absurd (let h = c.index_mut.ensures.value in no_leaf c.args.self.now c.args.number (cc (h, c.in_default.is)) c.requires)
+returns-in_default-clause-room c =
+    λ q. absurd (let h = c.index_mut.ensures.value in no_leaf c.args.self.now c.args.number (cc (h, c.in_default.is)) c.requires)

@@ -17,5 +17,6 @@ returns-clause-ran c =
     let same = c.in_ok-position.ensures in
     let before = subst (λ (p : PlaceValue). RanFromLast p.verified p.at p.guest.ran) (sym c.self.view_is) c.requires.ran in
     subst (λ (p : PlaceValue). RanFromLast p.verified c.args.t c.go_on.new.position.guest.ran) c.self.view_is
-    (ran_onward s.verified.now s.position.at c.args.t c.checkpoint_before.result s.position.guest.ran c.go_on.new.position.guest.ran before c.checkpoint_before.ensures
+    (ran_onward s.verified.now s.position.at c.args.t c.checkpoint_before.result s.position.guest.ran c.go_on.new.position.guest.ran before
+    c.checkpoint_before.ensures
     (omega (arith, c.if-self-checkpoint_before.false)) (omega (arith, ran, same.at, same.ran)))

@@ -11,7 +11,9 @@ returns-then-mark-t c =
     let all = c.loop-left.left.now in
     let rest = take (length all - 1) (drop 1 all) in
     let next : all ≡ m ∷ rest = split_first all m c.in-len1-up.len_at_least c.mark-item.is in
-    sym (last_stop c.loop-left.last m rest c.args.t c.if-mark-t.true) ∙ ap (λ (ms : List Mark). last_place c.loop-left.last ms c.args.t) (sym next) ∙ c.loop-left.invariant
+    sym (last_stop c.loop-left.last m rest c.args.t c.if-mark-t.true)
+    ∙ ap (λ (ms : List Mark). last_place c.loop-left.last ms c.args.t) (sym next) ∙ c.loop-left.invariant
 
 pub returns : goal.returns
-returns c = ap (λ (ms : List Mark). last_place c.loop-left.last ms c.args.t) (sym (none_left c.loop-left.left.now c.in_default.len_below)) ∙ c.loop-left.invariant
+returns c = ap (λ (ms : List Mark). last_place c.loop-left.last ms c.args.t) (sym (none_left c.loop-left.left.now c.in_default.len_below))
+    ∙ c.loop-left.invariant

@@ -20,11 +20,14 @@ loop-left-init g c =
     let frames = c.args.self.now.frames in
     let place = c.in_ok-start.field-0 in
     let guest = c.into_guest-guest.result in
-    let there = start_opens o frames place.frames place.at (state_of place.guest) c.in_ok-start.ensures.place c.in_ok-start.ensures.frames in
+    let there = start_opens o frames place.frames place.at (state_of place.guest) c.in_ok-start.ensures.place
+    c.in_ok-start.ensures.frames in
     let opens = subst (λ (g' : GuestValue). Opens o.elf o.name o.random (state_of g')) (sym c.into_guest-guest.ensures) there in
     let ends = start_ends o frames c.args.self.now.marks (state_of guest) c.requires opens in
     record {
-      put = λ tells. subst (λ (fs : List Frame). PutsSoFar o frames (state_of guest) fs (g.S.Sink.taken c.args.sink.now) (g.S.Sink.taken c.args.sink.now)) (sym c.as_slice-left.ensures)
+      put = λ tells. subst
+          (λ (fs : List Frame). PutsSoFar o frames (state_of guest) fs (g.S.Sink.taken c.args.sink.now) (g.S.Sink.taken c.args.sink.now))
+          (sym c.as_slice-left.ensures)
           (so_far_first o frames (state_of guest) (g.S.Sink.taken c.args.sink.now) opens);
       ends = (ends.0, subst (λ (fs : List Frame). StateAtFrom (state_of guest) fs (total fs) ends.0) (sym c.as_slice-left.ensures) ends.1);
       counted = search rules;
@@ -68,7 +71,8 @@ returns-in_err-put_frame-clause-part g c =
     OnErr-from c.from_residual-in_err-put_frame.result
     (λ tells. let some = c.in_err-put_frame.ensures.part (i.tells.1 tells) in
     inside_part o frames s new i.ends.0 f rest (chunks_by f.end kept) some.0 before middle (g.S.Sink.taken c.put_frame.new.sink)
-    (subst (λ (fs : List Frame). PutsSoFar o frames s fs before middle) next (i.put tells)) step (frame_puts f.end s f kept c.in_ok-follow_whole.ensures.puts)
+    (subst (λ (fs : List Frame). PutsSoFar o frames s fs before middle) next (i.put tells)) step
+    (frame_puts f.end s f kept c.in_ok-follow_whole.ensures.puts)
     (ends_behind s new i.ends.0 f rest ends step) some.1)
 
 pub loop-left-preserved : goal.loop-left-preserved
@@ -90,7 +94,8 @@ loop-left-preserved g c =
     let step = c.in_ok-follow_whole.ensures.follows in
     record {
       put = λ tells. so_far_next o frames s new f rest (chunks_by f.end kept) before middle (g.S.Sink.taken c.put_frame.new.sink)
-          (subst (λ (fs : List Frame). PutsSoFar o frames s fs before middle) next (i.put tells)) step (frame_puts f.end s f kept c.in_ok-follow_whole.ensures.puts) (e.all (i.tells.1 tells));
+          (subst (λ (fs : List Frame). PutsSoFar o frames s fs before middle) next (i.put tells)) step
+          (frame_puts f.end s f kept c.in_ok-follow_whole.ensures.puts) (e.all (i.tells.1 tells));
       ends = (i.ends.0, ends_behind s new i.ends.0 f rest ends step);
       counted = e.counted ∙ i.counted;
       tells = ((λ t. i.tells.0 (e.tells.0 t)), (λ t. e.tells.1 (i.tells.1 t)));
@@ -99,5 +104,7 @@ loop-left-preserved g c =
 pub returns-clause-all : goal.returns-clause-all
 returns-clause-all g c =
     let none = none_left c.loop-left.left.now c.in_default.len_below in
-    λ tells. so_far_all c.args.self.now.opening c.args.self.now.frames (state_of c.loop-left.guest) (g.S.Sink.taken c.args.sink.now) (g.S.Sink.taken c.loop-left.sink)
-    (subst (λ (fs : List Frame). PutsSoFar c.args.self.now.opening c.args.self.now.frames (state_of c.loop-left.guest) fs (g.S.Sink.taken c.args.sink.now) (g.S.Sink.taken c.loop-left.sink)) none (c.loop-left.invariant.put tells))
+    λ tells. so_far_all c.args.self.now.opening c.args.self.now.frames (state_of c.loop-left.guest) (g.S.Sink.taken c.args.sink.now)
+    (g.S.Sink.taken c.loop-left.sink)
+    (subst (λ (fs : List Frame). PutsSoFar c.args.self.now.opening c.args.self.now.frames (state_of c.loop-left.guest) fs
+    (g.S.Sink.taken c.args.sink.now) (g.S.Sink.taken c.loop-left.sink)) none (c.loop-left.invariant.put tells))

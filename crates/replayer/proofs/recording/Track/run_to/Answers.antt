@@ -14,7 +14,8 @@ loop-left-init c =
     let all = c.as_slice.result.now in
     let same : take (length all - n) (drop n all) ≡ drop n frames = take_rest all n ∙ ap (drop n) c.as_slice.ensures in
     record {
-      on = subst (λ (fs : List Frame). GoesOn c.args.self.now.opening frames c.args.position.now.at (state_of c.args.position.now.guest) fs) (sym same) c.requires.on;
+      on = subst (λ (fs : List Frame). GoesOn c.args.self.now.opening frames c.args.position.now.at (state_of c.args.position.now.guest) fs)
+          (sym same) c.requires.on;
       rest = sym same;
       inside = c.requires.inside;
       low = c.requires.low;
@@ -31,7 +32,8 @@ run_plain-requires c =
     let s = state_of c.loop-left.position.guest in
     let at = c.loop-left.position.at in
     let on = subst (λ (fs : List Frame). GoesOn c.args.self.now.opening c.args.self.now.frames at s fs) next c.loop-left.invariant.on in
-    steps_ahead c.args.self.now.opening c.args.self.now.frames at s f rest (c.args.t - at) on (omega (arith, c.from-count.ensures, c.if-t-position.true))
+    steps_ahead c.args.self.now.opening c.args.self.now.frames at s f rest (c.args.t - at) on
+    (omega (arith, c.from-count.ensures, c.if-t-position.true))
 
 pub follow_whole-requires : goal.follow_whole-requires
 follow_whole-requires c =
@@ -54,7 +56,8 @@ returns-then-t-position-clause-stands c =
     let at = c.loop-left.position.at in
     let on = subst (λ (fs : List Frame). GoesOn c.args.self.now.opening c.args.self.now.frames at s fs) next c.loop-left.invariant.on in
     let low = c.loop-left.invariant.low in
-    let there : Position = record { guest = c.run_plain.new.guest; frames = c.loop-left.position.frames; steps = c.args.t - at; at = c.args.t } in
+    let there : Position =
+    record { guest = c.run_plain.new.guest; frames = c.loop-left.position.frames; steps = c.args.t - at; at = c.args.t } in
     stands_in c.args.self.now there at (c.args.t - at) s f rest on (c.loop-left.invariant.rest ∙ next) c.loop-left.invariant.inside
     (omega (arith, c.from-count.ensures, c.if-t-position.true)) c.in_ok-run_plain.ensures.steps refl (omega (arith, low))
 
@@ -84,5 +87,6 @@ loop-left-preserved c =
 pub returns-clause-stands : goal.returns-clause-stands
 returns-clause-stands c =
     let none = none_left c.loop-left.left.now c.in_default.len_below in
-    stands_between c.args.self.now c.loop-left.position c.loop-left.left.now c.loop-left.invariant.on c.loop-left.invariant.rest c.loop-left.invariant.inside c.loop-left.invariant.between
+    stands_between c.args.self.now c.loop-left.position c.loop-left.left.now c.loop-left.invariant.on c.loop-left.invariant.rest
+    c.loop-left.invariant.inside c.loop-left.invariant.between
     (subst Begins (sym none) tt)

@@ -17,7 +17,8 @@ pub returns-clause-state : goal.returns-clause-state
 returns-clause-state c =
     let track = c.self.inside.track in
     let position = c.in_ok-position.position in
-    let there = subst (λ t. StateAt track.opening track.frames t (state_of position.guest)) c.in_ok-position.ensures.at c.in_ok-position.ensures.stands.state in
+    let there = subst (λ t. StateAt track.opening track.frames t (state_of position.guest)) c.in_ok-position.ensures.at
+    c.in_ok-position.ensures.stands.state in
     subst (λ (v : VerifiedValue). StateAt v.opening v.frames c.args.t (state_of c.into_guest.result)) c.self.view_is
     (subst (λ (g : GuestValue). StateAt track.opening track.frames c.args.t (state_of g)) (sym c.into_guest.ensures) there)
 

@@ -25,8 +25,10 @@ returns-in-Some-clause-change c =
     let i = c.loop-end.invariant in
     let a = c.args.address in
     let start = c.checkpoint_before-start.result in
-    let same : c.verified-verified.result.now ≡ old.verified = c.verified-verified.ensures ∙ ap (λ (v : CursorValue). v.verified) c.self.view_is in
-    let found = subst (λ (v : VerifiedValue). IsLastIn v.opening v.frames a start c.loop-end.end c.in_ok-found.found) same c.in_ok-found.ensures in
+    let same : c.verified-verified.result.now ≡ old.verified =
+    c.verified-verified.ensures ∙ ap (λ (v : CursorValue). v.verified) c.self.view_is in
+    let found = subst (λ (v : VerifiedValue). IsLastIn v.opening v.frames a start c.loop-end.end c.in_ok-found.found) same
+    c.in_ok-found.ensures in
     let some = subst (λ (f : Option ℕ). IsLastIn old.verified.opening old.verified.frames a start c.loop-end.end f) c.in-Some.is found in
     some_join old.verified.opening old.verified.frames a start c.loop-end.end old.place c.in-Some.t some i.low i.none
 
@@ -37,8 +39,10 @@ loop-end-preserved c =
     let a = c.args.address in
     let start = c.checkpoint_before-start.result in
     let low = c.checkpoint_before-start.ensures.low in
-    let same : c.verified-verified.result.now ≡ old.verified = c.verified-verified.ensures ∙ ap (λ (v : CursorValue). v.verified) c.self.view_is in
-    let found = subst (λ (v : VerifiedValue). IsLastIn v.opening v.frames a start c.loop-end.end c.in_ok-found.found) same c.in_ok-found.ensures in
+    let same : c.verified-verified.result.now ≡ old.verified =
+    c.verified-verified.ensures ∙ ap (λ (v : CursorValue). v.verified) c.self.view_is in
+    let found = subst (λ (v : VerifiedValue). IsLastIn v.opening v.frames a start c.loop-end.end c.in_ok-found.found) same
+    c.in_ok-found.ensures in
     let none = subst (λ (f : Option ℕ). IsLastIn old.verified.opening old.verified.frames a start c.loop-end.end f) c.in-None.is found in
     record {
       none = none_join old.verified.opening old.verified.frames a start c.loop-end.end old.place none i.none;

@@ -5,7 +5,8 @@ use Rattle.reverse_step.proofs.cursor.Cursor.last_change.Given as goal
 
 abbrev pub invariant-loop-end : goal.invariant-loop-end
 invariant-loop-end l =
-    let here : CursorValue = record { verified = l.self-inside.place.verified; place = l.self-inside.place.at; guest = l.self-inside.place.guest } in
+    let here : CursorValue =
+    record { verified = l.self-inside.place.verified; place = l.self-inside.place.at; guest = l.self-inside.place.guest } in
     record {
       none : NoneIn l.fn.self.verified.opening l.fn.self.verified.frames l.address l.end l.fn.self.place;
       low : l.end ≤ l.fn.self.place;

@@ -6,5 +6,7 @@ use Rattle.serial_sched.proofs.recorded.RecordedOutside.random.Goals as goal
 pub returns : goal.returns
 returns c =
     record {
-      gives = λ fits. ap Bytes (copied_whole c.args.self.now.bytes.now c.args.into.now c.copy.new.into c.copy.result c.copy.ensures.count c.copy.ensures.bytes fits);
+      gives = λ fits. ap Bytes
+          (copied_whole c.args.self.now.bytes.now c.args.into.now c.copy.new.into c.copy.result c.copy.ensures.count c.copy.ensures.bytes
+          fits);
     }

@@ -16,7 +16,8 @@ cut_to_spec 𝓤 𝓛 𝓜 𝓡 wired =
     proved 𝓛 f.ended stayed c 𝓜 𝓡 (Goes-ref 𝓛 1 0 tt (plain (λ _. R)), (Goes-dropped 𝓛 1 (plain (λ _. usize)) yes (λ κs x w. refl), tt))
     f.Key.name code.function (code.unfolded 𝓤 𝓛.H 𝓜 𝓡 wired)
     (λ κs. (mut_vals, (uint_vals w64, tt))) (λ κs. (mut_Tells (named 0) κs.0 R, (uint_Tells w64, tt))) (λ κs qs bounds a _ are.
-    let b = a.0.ref_ptr.0 in let o = a.0.ref_ptr.1 in let h = a.0.now in let vs : List Val × (List Val × Unit {0}) = (mut_vals a.0, (uint_vals w64 a.1.0, tt)) in
+    let b = a.0.ref_ptr.0 in
+    let o = a.0.ref_ptr.1 in let h = a.0.now in let vs : List Val × (List Val × Unit {0}) = (mut_vals a.0, (uint_vals w64 a.1.0, tt)) in
     let h' : History = record { state = after_cut h.state a.1.0 } in
     let y : W.Ghost = ((κs, qs, bounds, a, vs), tt) in
     qed 𝓛 (((‵ (flft κs.0 qs.0) ⊛ ‵ ftrue) ⊛ ‵ (owns (MutRef (named 0) κs.0 R ∷ usize ∷ []) a vs)) ∷ ‵ ftrue ∷ []) ∵
