@@ -16,10 +16,10 @@
 //! - `text_says_choices`: the printed choices of a recording's frames say just their choices. `frames_fit_choices`: each frame
 //!   is the slice of its own. `choices_tell_slices`: no other slice of it leads on from that state, but for what a call was
 //!   answered and for want of memory.
-//! - `run_again_is_same`: the printed choices of frames allow these frames, and no others up to the first of which a call is
-//!   answered otherwise, or which want of memory cuts short, whatever turns come after the list. With the same answers and
-//!   memory enough, neither the guest nor the list ends before all frames were run. A recording's frames are such frames, from
-//!   where its guest starts.
+//! - `run_again_is_same`: the printed choices of frames, of which none was cut short below 64 instructions, allow these
+//!   frames, and no others up to the first of which a call is answered otherwise, or which want of memory cuts short,
+//!   whatever turns come after the list. With the same answers and memory enough, neither the guest nor the list ends
+//!   before all frames were run. A recording's frames are such frames, from where its guest starts.
 #![tactic(auto)]
 
 pub mod laws;

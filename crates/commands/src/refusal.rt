@@ -39,7 +39,7 @@ pub enum Refusal {
     /// A call of the disk failed.
     #[error("device failed")]
     DeviceFailed,
-    /// The guest has as many records as it may have, or the store is as long as it may be.
+    /// The store is as long as it may be, or has as many segments.
     #[error("store full")]
     StoreFull,
     /// The disk holds no store.

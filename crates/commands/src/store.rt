@@ -17,7 +17,7 @@ use std::rt::Files;
 use trace_disk::{Disk, FileDisk};
 use trace_log::Log;
 
-/// A store that is only read: what it holds, and where.
+/// What an opened store holds, and where, and its disk, which from then on is only read.
 #[derive(Drop)]
 pub(crate) struct Store<D: Disk> {
     pub(crate) lists: Lists,

@@ -23,7 +23,8 @@
 //! the gate, where any byte may stand), `calls_fail` (each of the four calls of its commit can fail, a write leaving any bytes
 //! in its range), `two_guests` (one body has records of two guests, and of each a byte has left), `sessions_follow` (a second
 //! session that finds all records) and `repair_follows` (one that closes a torn gate, cuts off what stands after it, and finds
-//! the records before it). In `crates/rrv_model/specs`:
+//! the records before it). In `crates/rrv_model/specs`, and for the files from CrashModel to StoreCalls in
+//! `crates/store_model/specs`:
 //!
 //! | File | What it says |
 //! |---|---|
@@ -43,7 +44,7 @@
 //!
 //! | File | What it says |
 //! |---|---|
-//! | Runs | the output and the states of the records of one guest, as the two files above have them |
+//! | Runs | the output and the states of the records of one guest, as StateAt and Output have them |
 //! | World | what each recorder, the queue, the words, the flusher and the disk hold, and how it begins |
 //! | Events | what may happen, one event at a time, when, and what it does: each effect is a function of its holder's part |
 //! | Facts | the six facts that hold after every event, and what recovery gives of any content that a crash leaves |

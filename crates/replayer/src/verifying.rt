@@ -36,6 +36,7 @@ impl Watch for Unwatched {
 /// checkpoint against the state there. `BadOpening` is a list that begins with no opening from which a guest starts.
 /// `Mismatch` names the first record that doesn't follow from those before it, and `BadCheckpoint` says so of one that
 /// ends a checkpoint. `Memory` is a growth that was refused, which comes only for an opening that takes memory.
+/// Tests call it; the program calls `verify_source_watched` and `verify_source_end`.
 pub fn verify(alloc: Global, records: &[Record]) -> Result<Verified, VerifyFault>
     ensures keeps { IfOk result (λ verified. Keeps verified records.now) }
     ensures refused { IfErr result (λ e. RefusesVerify e records.now) }

@@ -24,7 +24,7 @@ use std::alloc::Global;
 use std::mem::replace;
 
 /// What stands behind some records: a guest in the state there, one in the state of the last complete checkpoint, the
-/// parts since, and what is kept.
+/// parts since that checkpoint or the last frame, and what is kept.
 #[derive(Drop)]
 pub(crate) struct Walk {
     pub(crate) guest: Guest,

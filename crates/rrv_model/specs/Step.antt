@@ -1,4 +1,4 @@
--- Plain step: what one instruction does, a row an instruction and a row a kind of fault
+-- Step: what one instruction does, a row an instruction and a row a kind of fault
 -- (RISC-V Unprivileged ISA 20191213, chapters 2, 3, 7 and 8).
 use Rattle.std.specs.Prelude.{◌≡◌, ℕ, ◌-◌, ◌*◌, ◌/◌, ◌%◌, ◌^◌, Bool, not, ◌==◌, nat_lt, int_lt, int_div, int_rem, ◌*ℤ◌, ℤ, pos, bit_and, bit_or, bit_xor, if◌then◌else◌, Option, Some, None, Result, Ok, Err}
 use Rattle.std.specs.Int.{w8, w16, w32, w64, from_le_bytes, to_le_bytes, int_shr, cast_unsigned}

@@ -107,7 +107,7 @@ fn turn_of(tid: u32, last: u32) -> u64
     }
 }
 
-/// The choices of a list, in order, up to the first that doesn't fit.
+/// The choices of a list, in order, up to the first that doesn't fit. Tests use it; the program's is `choices::Schedule`.
 #[derive(Drop)]
 pub struct Listed {
     choices: Vec<Choice>,

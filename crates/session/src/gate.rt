@@ -2,10 +2,10 @@
 
 /// A gate of the workers. It is shared by their threads. A guest is told by its place among the jobs, from 0.
 pub trait Gate {
-    /// Whether the guest may step. Its worker asks before each step.
+    /// Whether the guest may run its next slice. Its worker asks before each.
     fn may_step(&self, guest: u32) -> bool;
 
-    /// The guest's worker has sent so many records after its opening. It tells this whenever it sent some.
+    /// The guest's worker has sent this many records after its opening, frames and parts. It reports this whenever it sent some.
     fn submitted(&self, guest: u32, frames: u32);
 
     /// The same count with the opening, one more, and how many instructions the guest has run. An impl that leaves it out does nothing.

@@ -4,7 +4,7 @@ use std::sync::Wait;
 use std::sync::atomic::{AtomicU64, Ordering};
 use std::time::Duration;
 
-/// How many records are committed together, where they come that fast.
+/// The flusher is woken when this many records were sent.
 const BATCH: u64 = 8;
 
 /// How long the flusher sleeps at most, in milliseconds.
