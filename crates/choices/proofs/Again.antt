@@ -1,12 +1,11 @@
 -- A guest that is recorded again by the choices of its frames.
-use Rattle.std.proofs.Common.{◌≡◌, ◌∙◌, ℕ, zero, suc, ◌<◌, ◌≤◌, ◌⊎◌, inl, inr, Bool, cond, List, [], ◌∷◌, ◌++◌, length, take, max, Option, Some, None, refl, sym, ap, subst, arith}
-use Rattle.std.specs.Prelude.{All, Contains, filter_map, slice_get}
+use Rattle.std.proofs.Common.{◌≡◌, ◌∙◌, ℕ, zero, suc, ◌<◌, ◌≤◌, ◌⊎◌, inl, inr, Bool, true, false, cond, List, [], ◌∷◌, ◌++◌, length, take, max, Option, Some, None, refl, sym, ap, subst, arith}
+use Rattle.std.specs.Prelude.{All, Contains, MatchOption, filter_map, slice_get}
 use Rattle.std.specs.List.{cons_option}
-use Rattle.std.proofs.lemmas.Bool.{cases_lt, le-leb}
+use Rattle.std.proofs.lemmas.Bool.{cases_lt, false≢true, le-leb}
 use Rattle.std.proofs.lemmas.List.{take_all}
 use Rattle.rrv_model.specs.declared.limits.TheConstants.{MIN_QUANTUM}
 use Rattle.rrv_model.specs.declared.machine.GuestEnd.{GuestEnd}
-use Rattle.rrv_model.specs.declared.machine.GuestEnd.TheVariants as guest_ends
 use Rattle.rrv_model.specs.declared.record.CallRecord.{CallRecord}
 use Rattle.rrv_model.specs.declared.record.Choice.{Choice}
 use Rattle.rrv_model.specs.declared.record.End.{End}
@@ -17,9 +16,11 @@ use Rattle.rrv_model.specs.declared.record.Item.TheVariants as items
 use Rattle.rrv_model.specs.declared.record.Opening.{Opening}
 use Rattle.rrv_model.specs.declared.record.Part.{Part}
 use Rattle.rrv_model.specs.State.{State, thread_at, IsRunning, IsState}
-use Rattle.rrv_model.specs.FrameStep.{FrameStep, FrameStepBy, IsStuck, Preempts, Steps}
+use Rattle.rrv_model.specs.FrameStep.{FrameStep, FrameStepBy, Preempts, Steps}
 use Rattle.rrv_model.specs.Opening.{opening_state}
+use Rattle.rrv_model.specs.Output.{call_in, has_thread, is_preempt}
 use Rattle.rrv_model.specs.Recording.{ItemsFollow, Starts, base_after, frames_of, items_of, row_after}
+use Rattle.rrv_model.proofs.Ends.{call_is, no_thread, one_threadless, preempt_is}
 use Rattle.rrv_model.proofs.FrameLaws.{one_state_after_frame}
 use Rattle.rrv_model.proofs.OpeningState.{openings_are_states}
 use Rattle.rrv_model.proofs.StateLaws.{frames_keep_states}
@@ -29,30 +30,34 @@ use Rattle.serial_sched.specs.Follows.{Reaches}
 use Rattle.serial_sched.specs.Slices.{FindsNoMemory, FitsChoice, IsWhole}
 use Rattle.serial_sched.specs.Turns.{CanChoose, IsCutShort}
 use Rattle.serial_sched.proofs.OneStep.{one_run_end}
+use Rattle.serial_sched.proofs.Reached.{frame_runs, has_none, has_one, limit_is_preempt, reaches, run_end, same_run_end}
 use Rattle.choices.specs.declared.schedule.Misfit.{Misfit}
-use Rattle.choices.specs.Recorded.{FrameIsOfGuest, IsSameEnd, IsSameSlice, IsUncut, choice_by_end, choice_of}
+use Rattle.choices.specs.Recorded.{FrameIsOfGuest, IsSameEnd, IsSameSlice, IsUncut, choice_by_end, choice_if, choice_of}
 use Rattle.choices.specs.Schedule.{Plan, Chooses, IsOver, TakesListed, plan}
 use Rattle.choices.specs.Scheduled.{by_schedule}
 use Rattle.choices.specs.Again.{AreAnsweredAlike, FramesFollow, HasEnded, IsAnsweredAlike, IsCutShortOf, IsRunAgain, IsTold, RecordingsFollow, RunAgainIsAlike, RunAgainIsSame, RunAgainIsWhole, RunsAlike}
-use Rattle.choices.proofs.OwnSlices.{choices_tell_slices, chosen, chosen_within, earlier, frame_runs, frames_are_of_guests, not_stuck, one_frame, reaches, run_end, same_end}
+use Rattle.choices.proofs.OwnSlices.{choices_tell_slices, chosen, chosen_within, earlier, frames_are_of_guests, one_frame}
 use Rattle.choices.proofs.SaidChoices.{all_cons, text_says_choices}
 use Rattle.choices.proofs.Scheduled.{first_runs, none_runs}
 
 -- ---- a frame's choice is the next of the list
 
--- a frame whose thread ran, and that was not cut short, tells its choice
-pub tells : (end : End) (tid count : ℕ) → ¬ (end ≡ ends.Stuck) → (end ≡ ends.Preempt → MIN_QUANTUM ≤ count) → (choice : Choice) ×
-    (choice_by_end end tid count ≡ Some choice)
-tells ends.Preempt tid count runs told = (
+tells_if : (thread preempt : Bool) (tid count : ℕ) → thread ≡ true → (preempt ≡ true → MIN_QUANTUM ≤ count) → (choice : Choice) ×
+    (choice_if thread preempt tid count ≡ Some choice)
+tells_if false preempt tid count some told = absurd (false≢true some)
+tells_if true false tid count some told = (record { tid = tid; quantum = max MIN_QUANTUM count }, refl)
+tells_if true true tid count some told = (
   record { tid = tid; quantum = count },
   ap (λ (b : Bool). cond b (Some (record { tid = tid; quantum = count })) None) (le-leb MIN_QUANTUM count (told refl)),
 )
-tells (ends.Call r) tid count runs told = (record { tid = tid; quantum = max MIN_QUANTUM count }, refl)
-tells (ends.Fault kind) tid count runs told = (record { tid = tid; quantum = max MIN_QUANTUM count }, refl)
-tells ends.Stuck tid count runs told = absurd (runs refl)
+
+-- a frame whose thread ran, and that was not cut short, tells its choice
+pub tells : (end : End) (tid count : ℕ) → has_thread end ≡ true → (end ≡ ends.Preempt → MIN_QUANTUM ≤ count) → (choice : Choice) ×
+    (choice_by_end end tid count ≡ Some choice)
+tells end tid count some told = tells_if (has_thread end) (is_preempt end) tid count some (λ p. told (preempt_is end p))
 
 -- it can be chosen
-pub can_choose : (s : State) (f : Frame) (m : State) (tids : List ℕ) (choice : Choice) → ¬ (f.end ≡ ends.Stuck) → FrameStep s f m →
+pub can_choose : (s : State) (f : Frame) (m : State) (tids : List ℕ) (choice : Choice) → has_thread f.end ≡ true → FrameStep s f m →
     FrameIsOfGuest f → AreRunning s tids → choice_of f ≡ Some choice →
     CanChoose tids choice
 can_choose s f m tids choice runs step of are is =
@@ -83,16 +88,21 @@ IsShort end s g choice = (end ≡ ends.Preempt) × (g.tid ≡ choice.tid) × (g.
 
 uncut_or_short : (end : End) (s : State) (g : Frame) (choice : Choice) → FitsChoice end s g choice → IsUncut end g.count choice ⊎
     IsShort end s g choice
-uncut_or_short ends.Preempt s g choice fits = by fits.1 where
-  by : IsWhole s g.tid g.count choice.quantum → IsUncut ends.Preempt g.count choice ⊎ IsShort ends.Preempt s g choice
-  by (inl whole) = inl (λ e. whole)
-  by (inr short) = inr (refl, fits.0, short.0, short.1)
-uncut_or_short (ends.Call r) s g choice fits = inl (λ e. absurd cc)
-uncut_or_short (ends.Fault kind) s g choice fits = inl (λ e. absurd cc)
-uncut_or_short ends.Stuck s g choice fits = inl (λ e. absurd cc)
+uncut_or_short end s g choice fits = by (is_preempt end) refl where
+  whole : end ≡ ends.Preempt → g.tid ≡ choice.tid → IsWhole s g.tid g.count choice.quantum → IsUncut end g.count choice ⊎
+      IsShort end s g choice
+  whole is tid (inl all) = inl (λ e. all)
+  whole is tid (inr short) = inr (is, tid, short.0, short.1)
+
+  by : (b : Bool) → is_preempt end ≡ b → IsUncut end g.count choice ⊎ IsShort end s g choice
+  by true e =
+      let is : end ≡ ends.Preempt = preempt_is end e in
+      let fit : (g.tid ≡ choice.tid) × IsWhole s g.tid g.count choice.quantum = subst (λ (x : End). FitsChoice x s g choice) is fits in
+      whole is fit.0 fit.1
+  by false e = inl (λ is. absurd (false≢true (sym e ∙ ap is_preempt is)))
 
 -- a slice that was cut short is shorter than the frame of the choice
-shorter : (s : State) (f : Frame) (m : State) (g : Frame) (m' : State) (choice : Choice) → ¬ (f.end ≡ ends.Stuck) → FrameStep s f m →
+shorter : (s : State) (f : Frame) (m : State) (g : Frame) (m' : State) (choice : Choice) → has_thread f.end ≡ true → FrameStep s f m →
     FrameStep s g m' → choice_of f ≡ Some choice → g.tid ≡ f.tid →
     g.end ≡ ends.Preempt → g.count < choice.quantum → g.count < f.count
 shorter s f m g m' choice runs step step' is same preempt short = by (cases_lt g.count f.count) where
@@ -114,9 +124,11 @@ shorter s f m g m' choice runs step step' is same preempt short = by (cases_lt g
 
   by : (g.count < f.count) ⊎ (f.count ≤ g.count) → g.count < f.count
   by (inl low) = low
-  by (inr high) = let whole = (chosen f.end f.tid f.count choice is).2 (limit (cases_lt f.count g.count) high) in absurd (omega arith)
+  by (inr high) =
+      let preempted = limit_is_preempt f.end (limit (cases_lt f.count g.count) high) in
+      let whole = (chosen f.end f.tid f.count choice is).2 preempted in absurd (omega arith)
 
-own_slice : (s : State) (f : Frame) (m : State) (g : Frame) (m' : State) (choice : Choice) → ¬ (f.end ≡ ends.Stuck) → FrameStep s f m →
+own_slice : (s : State) (f : Frame) (m : State) (g : Frame) (m' : State) (choice : Choice) → has_thread f.end ≡ true → FrameStep s f m →
     FrameStep s g m' → choice_of f ≡ Some choice →
     FitsChoice g.end s g choice → IsSameSlice f g ⊎ IsCutShortOf s f g
 own_slice s f m g m' choice runs step step' is fits = by (uncut_or_short g.end s g choice fits) where
@@ -128,37 +140,41 @@ own_slice s f m g m' choice runs step step' is fits = by (uncut_or_short g.end s
 
 -- ---- where no thread runs
 
-pub must_stick : (end : End) (s : State) (tid count : ℕ) (s' : State) → ((t : ℕ) → IsRunning (thread_at s t) → ⊥) →
-    FrameStepBy end s tid count s' → (end ≡ ends.Stuck) × (tid ≡ 0) × (count ≡ 0)
-must_stick ends.Preempt s tid count s' none p = absurd (none tid (frame_runs ends.Preempt s tid count s' (λ e. absurd cc) p))
-must_stick (ends.Call r) s tid count s' none p = absurd (none tid (frame_runs (ends.Call r) s tid count s' (λ e. absurd cc) p))
-must_stick (ends.Fault kind) s tid count s' none p = absurd (none tid (frame_runs (ends.Fault kind) s tid count s' (λ e. absurd cc) p))
-must_stick ends.Stuck s tid count s' none p = (refl, p.no_tid, p.no_step)
+rests : (end : End) (s : State) (tid count : ℕ) (s' : State) → ((t : ℕ) → IsRunning (thread_at s t) → ⊥) →
+    FrameStepBy end s tid count s' → (has_thread end ≡ false) × (tid ≡ 0) × (count ≡ 0)
+rests end s tid count s' none p =
+    let has = has_none end s tid count s' none p in
+    let own = no_thread end s tid count s' has p in (has, own.no_tid, own.no_step)
 
-both_stuck : (s : State) (f : Frame) (m : State) (g : Frame) (m' : State) → ((t : ℕ) → IsRunning (thread_at s t) → ⊥) → FrameStep s f m →
+both_rest : (s : State) (f : Frame) (m : State) (g : Frame) (m' : State) → ((t : ℕ) → IsRunning (thread_at s t) → ⊥) → FrameStep s f m →
     FrameStep s g m' → IsSameSlice f g
-both_stuck s f m g m' none step step' =
-    let a = must_stick f.end s f.tid f.count m none step.goes in
-    let b = must_stick g.end s g.tid g.count m' none step'.goes in
+both_rest s f m g m' none step step' =
+    let a = rests f.end s f.tid f.count m none step.goes in
+    let b = rests g.end s g.tid g.count m' none step'.goes in
     let tids : g.tid ≡ f.tid = b.1 ∙ sym a.1 in
     let counts : g.count ≡ f.count = b.2 ∙ sym a.2 in
-    let same : g.end ≡ f.end = b.0 ∙ sym a.0 in
-    record { tid = tids; count = counts; end = same_end f.end g.end (ap run_end (sym same)); same = λ none. one_frame f g tids counts same }
+    let same : g.end ≡ f.end = one_threadless g.end f.end b.0 a.0 in
+    record {
+      tid = tids;
+      count = counts;
+      end = same_run_end f.end g.end (ap run_end (sym same));
+      same = λ none. one_frame f g tids counts same;
+    }
 
--- behind a stuck frame no frame follows
+-- behind a frame of no thread no frame follows
 none_follow : (s : State) (o : GuestEnd) (frames : List Frame) → s.ended ≡ Some o → FramesFollow s frames → frames ≡ []
 none_follow s o [] ended follow = refl
 none_follow s o (f ∷ frames) ended (new, step, follow) = let runs = step.runs in absurd cc
 
-pub none_behind : (s : State) (f : Frame) (m : State) (frames : List Frame) → f.end ≡ ends.Stuck → FrameStep s f m → FramesFollow m frames →
-    frames ≡ []
-none_behind s f m frames stuck step follow =
-    let p : IsStuck s f.tid f.count m = subst (λ (end : End). FrameStepBy end s f.tid f.count m) stuck step.goes in
-    none_follow m guest_ends.Stuck frames (ap (λ (x : State). x.ended) p.new_is) follow
+pub none_behind : (s : State) (f : Frame) (m : State) (frames : List Frame) → has_thread f.end ≡ false → FrameStep s f m →
+    FramesFollow m frames → frames ≡ []
+none_behind s f m frames none step follow =
+    let p = no_thread f.end s f.tid f.count m none step.goes in
+    none_follow m p.ends_so frames (ap (λ (x : State). x.ended) p.new_is) follow
 
 -- ---- one frame
 
--- what is left of the list behind a frame that isn't stuck
+-- what is left of the list behind a frame of a thread
 abbrev pub GoesOn : Plan → List Choice → Type 0
 GoesOn next rest = (next.misfit ≡ None) × (next.left ≡ rest)
 
@@ -169,11 +185,11 @@ next_alike : (tids : List ℕ) (s : State) (f : Frame) (m : State) (g : Frame) (
     (rest : List Choice) → FrameStep s f m → FrameStep s g m' →
     FrameIsOfGuest f → IsTold f → p.misfit ≡ None → p.left ≡ cons_option (choice_of f) rest → AreRunning s tids →
     PicksAmong by_schedule tids p (Some picked) next → FitsChoice g.end s g picked →
-    (IsSameSlice f g ⊎ IsCutShortOf s f g) × ((f.end ≡ ends.Stuck) ⊎ GoesOn next rest)
+    (IsSameSlice f g ⊎ IsCutShortOf s f g) × ((has_thread f.end ≡ false) ⊎ GoesOn next rest)
 next_alike [] s f m g m' p picked next rest step step' of told unrefused is are picks fits =
-    let none = none_runs s are in (inl (both_stuck s f m g m' none step step'), inl (must_stick f.end s f.tid f.count m none step.goes).0)
+    let none = none_runs s are in (inl (both_rest s f m g m' none step step'), inl (rests f.end s f.tid f.count m none step.goes).0)
 next_alike (t ∷ tids) s f m g m' p picked next rest step step' of told unrefused is are picks fits =
-    let runs = not_stuck f.end s f.tid f.count m t (first_runs s t tids are) step.goes in
+    let runs = has_one f.end s f.tid f.count m t (first_runs s t tids are) step.goes in
     let c = tells f.end f.tid f.count runs told in
     let left : p.left ≡ c.0 ∷ rest = is ∙ ap (λ (o : Option Choice). cons_option o rest) c.1 in
     let taken : TakesListed (t ∷ tids) p picked next =
@@ -209,9 +225,9 @@ alike (f ∷ frames) (g ∷ others) s p s' p' (m, step, follow) of told unrefuse
           (one_state_after_frame s f m' new (subst (λ (h : Frame). FrameStep s h m') same made.step) step') more)),
     )
   where
-    behind : (new : State) → (f.end ≡ ends.Stuck) ⊎ GoesOn next (filter_map choice_of frames) →
+    behind : (new : State) → (has_thread f.end ≡ false) ⊎ GoesOn next (filter_map choice_of frames) →
         (GoesOn next (filter_map choice_of frames) → RunsAlike new frames others) → RunsAlike new frames others
-    behind new (inl stuck) on = subst (λ (fs : List Frame). RunsAlike new fs others) (sym (none_behind s f m frames stuck step follow)) tt
+    behind new (inl none) on = subst (λ (fs : List Frame). RunsAlike new fs others) (sym (none_behind s f m frames none step follow)) tt
     behind new (inr go) on = on go
 
 -- ---- a run
@@ -238,10 +254,12 @@ run_again_is_alike s frames others h =
 
 same_answer : (end other : End) → IsSameEnd end other → ((r r' : CallRecord) → end ≡ ends.Call r → other ≡ ends.Call r' → r' ≡ r) →
     other ≡ end
-same_answer ends.Preempt other is answered = is
-same_answer (ends.Call r) other (r', is) answered = is ∙ ap ends.Call (answered r r' refl is)
-same_answer (ends.Fault kind) other is answered = is
-same_answer ends.Stuck other is answered = is
+same_answer end other is answered = by (call_in end) refl is where
+  by : (o : Option CallRecord) → call_in end ≡ o → MatchOption o (other ≡ end) (λ _. (r : CallRecord) × (other ≡ ends.Call r)) → other ≡ end
+  by None e alike = alike
+  by (Some r) e (r', call') =
+      let call : end ≡ ends.Call r = call_is end r e in
+      call' ∙ ap ends.Call (answered r r' call call') ∙ sym call
 
 one_same : (s : State) (f g : Frame) → IsSameSlice f g ⊎ IsCutShortOf s f g → IsAnsweredAlike f g → g ≡ f
 one_same s f g (inl is) h = one_frame f g is.tid is.count (same_answer f.end g.end is.end h.answered)
@@ -267,7 +285,7 @@ never_none : (tids : List ℕ) (s : State) (f : Frame) (m : State) (p next : Pla
     p.left ≡ cons_option (choice_of f) rest → AreRunning s tids → PicksAmong by_schedule tids p None next → ⊥
 never_none [] s f m p next rest step of told unrefused is are picks = let some = picks.0 in absurd cc
 never_none (t ∷ tids) s f m p next rest step of told unrefused is are picks =
-    let runs = not_stuck f.end s f.tid f.count m t (first_runs s t tids are) step.goes in
+    let runs = has_one f.end s f.tid f.count m t (first_runs s t tids are) step.goes in
     let c = tells f.end f.tid f.count runs told in
     not_over (t ∷ tids) p.misfit p.left c.0 rest unrefused (is ∙ ap (λ (o : Option Choice). cons_option o rest) c.1)
     (can_choose s f m (t ∷ tids) c.0 runs step of are c.1) picks.over
@@ -300,9 +318,9 @@ stands_before (f ∷ frames) h rest s p s' p' (m, step, follow) of told unrefuse
     some_left [] e = absurd cc
     some_left (g ∷ fs) e = absurd cc
 
-    behind : (f.end ≡ ends.Stuck) ⊎ GoesOn next (filter_map choice_of (frames ++ h ∷ rest)) →
+    behind : (has_thread f.end ≡ false) ⊎ GoesOn next (filter_map choice_of (frames ++ h ∷ rest)) →
         (GoesOn next (filter_map choice_of (frames ++ h ∷ rest)) → StandsBefore s' p') → StandsBefore s' p'
-    behind (inl stuck) on = absurd (some_left frames (none_behind s f m (frames ++ h ∷ rest) stuck step follow))
+    behind (inl none) on = absurd (some_left frames (none_behind s f m (frames ++ h ∷ rest) none step follow))
     behind (inr go) on = on go
 
 not_ended : (s : State) (p : Plan) → StandsBefore s p → HasEnded s p → ⊥

@@ -9,19 +9,20 @@ use Rattle.std.proofs.lemmas.List.Kept.{IsStrictlyIncreasing-filter}
 use Rattle.rrv_model.specs.declared.machine.Thread.{Thread}
 use Rattle.rrv_model.specs.declared.record.Choice.{Choice}
 use Rattle.rrv_model.specs.declared.record.End.{End}
-use Rattle.rrv_model.specs.declared.record.End.TheVariants as ends
 use Rattle.rrv_model.specs.declared.record.Frame.{Frame}
 use Rattle.rrv_model.specs.State.{State, thread_at, IsRunning, IsState}
 use Rattle.rrv_model.specs.FrameStep.{FrameStep}
+use Rattle.rrv_model.specs.Output.{has_thread, is_preempt}
 use Rattle.rrv_model.proofs.StateLaws.{frames_keep_states}
 use Rattle.serial_sched.specs.Chosen.{AreChosen, AreRunning, Picks}
-use Rattle.serial_sched.specs.Slices.{FitsChoice}
+use Rattle.serial_sched.specs.Slices.{FitsChoice, FitsIf}
+use Rattle.serial_sched.proofs.Reached.{has_none, has_one}
 use Rattle.choices.specs.Again.{FramesFollow, FramesRunAgain, IsTold}
 use Rattle.choices.specs.Recorded.{FrameIsOfGuest, choice_by_end, choice_of}
 use Rattle.choices.specs.Schedule.{Plan, plan}
 use Rattle.choices.specs.Scheduled.{by_schedule}
-use Rattle.choices.proofs.Again.{GoesOn, all_of_guest, all_rest, can_choose, must_stick, none_behind, tells}
-use Rattle.choices.proofs.OwnSlices.{chosen, frames_are_of_guests, lives, not_stuck}
+use Rattle.choices.proofs.Again.{GoesOn, all_of_guest, all_rest, can_choose, none_behind, tells}
+use Rattle.choices.proofs.OwnSlices.{chosen, frames_are_of_guests, lives}
 use Rattle.choices.proofs.SaidChoices.{text_says_choices}
 use Rattle.choices.proofs.Scheduled.{first_runs, none_runs}
 
@@ -90,16 +91,20 @@ are_running s state = record {
 
 -- ---- one frame
 
+fits_own : (thread preempt : Bool) (s : State) (f : Frame) (choice : Choice) → choice.tid ≡ f.tid → f.count ≤ choice.quantum →
+    (preempt ≡ true → choice.quantum ≡ f.count) → FitsIf thread preempt s f choice
+fits_own false preempt s f choice tid within whole = tt
+fits_own true true s f choice tid within whole = (sym tid, inl (sym (whole refl)))
+fits_own true false s f choice tid within whole = (sym tid, within)
+
 -- a frame is the slice of its choice
 own_fits : (end : End) (s : State) (f : Frame) (choice : Choice) → choice_by_end end f.tid f.count ≡ Some choice → FitsChoice end s f choice
-own_fits ends.Preempt s f choice is = let e = chosen ends.Preempt f.tid f.count choice is in (sym e.0, inl (sym (e.2 refl)))
-own_fits (ends.Call r) s f choice is = let e = chosen (ends.Call r) f.tid f.count choice is in (sym e.0, e.1)
-own_fits (ends.Fault kind) s f choice is = let e = chosen (ends.Fault kind) f.tid f.count choice is in (sym e.0, e.1)
-own_fits ends.Stuck s f choice is = tt
+own_fits end s f choice is =
+    let e = chosen end f.tid f.count choice is in fits_own (has_thread end) (is_preempt end) s f choice e.0 e.1 e.2
 
--- any choice is one of a stuck frame
-stuck_fits : (end : End) (s : State) (f : Frame) (choice : Choice) → end ≡ ends.Stuck → FitsChoice end s f choice
-stuck_fits end s f choice stuck = subst (λ (e : End). FitsChoice e s f choice) (sym stuck) tt
+-- any choice is one of a frame of no thread
+any_fits : (end : End) (s : State) (f : Frame) (choice : Choice) → has_thread end ≡ false → FitsChoice end s f choice
+any_fits end s f choice none = subst (λ (b : Bool). FitsIf b (is_preempt end) s f choice) (sym none) tt
 
 -- it is chosen of a list that begins with it, which then goes on
 record IsNext (s : State) (f : Frame) (p : Plan) (rest : List Choice) : Type 0 where
@@ -107,23 +112,23 @@ record IsNext (s : State) (f : Frame) (p : Plan) (rest : List Choice) : Type 0 w
   next : Plan
   picks : Picks by_schedule s p (Some choice) next
   fits : FitsChoice f.end s f choice
-  behind : (f.end ≡ ends.Stuck) ⊎ GoesOn next rest
+  behind : (has_thread f.end ≡ false) ⊎ GoesOn next rest
 
 is_next : (tids : List ℕ) (s : State) (f : Frame) (m : State) (p : Plan) (rest : List Choice) → FrameStep s f m → FrameIsOfGuest f →
     IsTold f → p.misfit ≡ None →
     p.left ≡ cons_option (choice_of f) rest → AreRunning s tids → IsNext s f p rest
 is_next [] s f m p rest step of told unrefused is are =
-    let stuck : f.end ≡ ends.Stuck = (must_stick f.end s f.tid f.count m (none_runs s are) step.goes).0 in
+    let none : has_thread f.end ≡ false = has_none f.end s f.tid f.count m (none_runs s are) step.goes in
     let any : Choice = record { tid = 0; quantum = 0 } in
     record {
       choice = any;
       next = p;
       picks = record { tids = []; running = are; picks = (refl, refl) };
-      fits = stuck_fits f.end s f any stuck;
-      behind = inl stuck;
+      fits = any_fits f.end s f any none;
+      behind = inl none;
     }
 is_next (t ∷ tids) s f m p rest step of told unrefused is are =
-    let runs = not_stuck f.end s f.tid f.count m t (first_runs s t tids are) step.goes in
+    let runs = has_one f.end s f.tid f.count m t (first_runs s t tids are) step.goes in
     let c = tells f.end f.tid f.count runs told in
     let next : Plan = record p { left = rest; taken = p.taken + 1; last = c.0.tid } in
     record {
@@ -158,10 +163,10 @@ own_run (f ∷ frames) s p state (m, step, follow) told unrefused is =
       one = is_next (tids_below s s.next_tid) s f m p (filter_map choice_of frames) step (frames_are_of_guests s f m state step)
           (told 0 f (omega arith)) unrefused is (are_running s state)
 
-      behind : (f.end ≡ ends.Stuck) ⊎ GoesOn one.next (filter_map choice_of frames) →
+      behind : (has_thread f.end ≡ false) ⊎ GoesOn one.next (filter_map choice_of frames) →
           (GoesOn one.next (filter_map choice_of frames) → LeadsOn m one.next frames) → LeadsOn m one.next frames
-      behind (inl stuck) on =
-          subst (λ (fs : List Frame). LeadsOn m one.next fs) (sym (none_behind s f m frames stuck step follow)) (m, one.next, (refl, refl))
+      behind (inl none) on =
+          subst (λ (fs : List Frame). LeadsOn m one.next fs) (sym (none_behind s f m frames none step follow)) (m, one.next, (refl, refl))
       behind (inr go) on = on go
 
       first : LeadsOn m one.next frames → LeadsOn s p (f ∷ frames)

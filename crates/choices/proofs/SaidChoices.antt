@@ -16,18 +16,19 @@ use Rattle.std.proofs.lemmas.Str.Parse.{digit_at}
 use Rattle.rrv_model.specs.declared.limits.TheConstants.{MAX_QUANTUM, MAX_TID, MIN_QUANTUM}
 use Rattle.rrv_model.specs.declared.record.Choice.{Choice}
 use Rattle.rrv_model.specs.declared.record.End.{End}
-use Rattle.rrv_model.specs.declared.record.End.TheVariants as ends
 use Rattle.rrv_model.specs.declared.record.Frame.{Frame}
 use Rattle.rrv_model.specs.declared.record.Item.{Item}
 use Rattle.rrv_model.specs.declared.record.Item.TheVariants as items
 use Rattle.rrv_model.specs.declared.record.Part.{Part}
 use Rattle.rrv_model.specs.State.{State, IsState}
+use Rattle.rrv_model.specs.Output.{is_preempt}
 use Rattle.rrv_model.specs.Recording.{ItemsFollow, Starts, base_after, frames_of, items_of, row_after}
+use Rattle.rrv_model.proofs.Ends.{preempt_is}
 use Rattle.rrv_model.proofs.OpeningState.{openings_are_states}
 use Rattle.rrv_model.proofs.StateLaws.{frames_keep_states}
 use Rattle.choices.specs.declared.recorded.ChoiceLine.TheVariants as lines
 use Rattle.choices.specs.ChoiceText.{both, choice_by, fields_of, fields_say, is_blank, line_says, lines_say, number_in, said_in, text_says, within}
-use Rattle.choices.specs.Recorded.{EndIsOfGuest, FrameIsOfGuest, RecordingsSayChoices, TextSaysChoices, choice_by_end, choice_of, choices_text, ended_line, line_by_end, line_text}
+use Rattle.choices.specs.Recorded.{EndIsOfGuest, FrameIsOfGuest, IsOfGuest, RecordingsSayChoices, TextSaysChoices, choice_by_end, choice_of, choices_text, ended_line, line_by_end, line_text}
 use Rattle.choices.proofs.OwnSlices.{chosen_within, frames_are_of_guests}
 use Rattle.choices.proofs.Schedules.{get_or_any}
 use Rattle.choices.proofs.Texts.{inside, own}
@@ -158,6 +159,19 @@ sayable : (end : End) (tid count : ℕ) (choice : Choice) → EndIsOfGuest end t
 sayable end tid count choice of is = let e =
     chosen_within end tid count choice is of in record { tid_low = e.0; tid_high = e.1; quantum_low = e.2; quantum_high = e.3 }
 
+-- a frame that has no choice
+none_said : (b : Bool) (end : End) (tid count : ℕ) (rest : List ℕ) → is_preempt end ≡ b → EndIsOfGuest end tid count →
+    text_says (ended_line (cond b (Some (lines.CutShort tid count)) None) ++ rest) ≡ both (Some []) (text_says rest)
+none_said true end tid count rest is of =
+    let own : IsOfGuest tid count = subst (λ (e : End). EndIsOfGuest e tid count) (preempt_is end is) of in
+    let high = own.tid_high in let most = own.count_high in
+    let small : tid < 2 ^ 64 = omega arith in
+    let small' : count < 2 ^ 64 = omega arith in
+    next_line (line_text (lines.CutShort tid count)) rest []
+    (short_lacks (λ b. b == 10) (λ c low up. grind (arith, nat_tests)) refl refl refl tid count small small')
+    (short_said tid count small small')
+none_said false end tid count rest is of = nothing_first (text_says rest)
+
 frame_said : (o : Option Choice) (end : End) (tid count : ℕ) (rest : List ℕ) → choice_by_end end tid count ≡ o →
     EndIsOfGuest end tid count →
     text_says (ended_line (line_by_end o end tid count) ++ rest) ≡ both (Some (option_to_list o)) (text_says rest)
@@ -165,16 +179,7 @@ frame_said (Some choice) end tid count rest is of =
     let h = sayable end tid count choice of is in
     next_line (line_text (lines.Ran choice)) rest (choice ∷ [])
     (line_lacks (λ b. b == 10) (λ c low up. grind (arith, nat_tests)) refl choice h) (choice_said choice h)
-frame_said None ends.Preempt tid count rest is of =
-    let high = of.tid_high in let most = of.count_high in
-    let small : tid < 2 ^ 64 = omega arith in
-    let small' : count < 2 ^ 64 = omega arith in
-    next_line (line_text (lines.CutShort tid count)) rest []
-    (short_lacks (λ b. b == 10) (λ c low up. grind (arith, nat_tests)) refl refl refl tid count small small')
-    (short_said tid count small small')
-frame_said None (ends.Call r) tid count rest is of = nothing_first (text_says rest)
-frame_said None (ends.Fault kind) tid count rest is of = nothing_first (text_says rest)
-frame_said None ends.Stuck tid count rest is of = nothing_first (text_says rest)
+frame_said None end tid count rest is of = none_said (is_preempt end) end tid count rest refl of
 
 joined : (o : Option Choice) (choices : List Choice) → both (Some (option_to_list o)) (Some choices) ≡ Some (cons_option o choices)
 joined None choices = refl

@@ -1,18 +1,19 @@
 -- Frames that a schedule chose.
-use Rattle.std.proofs.Common.{◌≡◌, ◌∙◌, ℕ, inl, inr, List, [], ◌∷◌, Some, None, refl, sym, ap, arith}
+use Rattle.std.proofs.Common.{◌≡◌, ◌∙◌, ℕ, inl, inr, Bool, true, false, cond, List, [], ◌∷◌, Some, None, refl, sym, ap, arith}
 use Rattle.std.specs.Prelude.{Contains}
+use Rattle.std.proofs.lemmas.Bool.{false≢true}
 use Rattle.rrv_model.specs.declared.record.Choice.{Choice}
 use Rattle.rrv_model.specs.declared.record.End.{End}
-use Rattle.rrv_model.specs.declared.record.End.TheVariants as ends
 use Rattle.rrv_model.specs.declared.record.Frame.{Frame}
 use Rattle.rrv_model.specs.State.{State, thread_at, IsRunning}
 use Rattle.rrv_model.specs.FrameStep.{FrameStepBy}
+use Rattle.rrv_model.specs.Output.{has_thread, is_preempt}
 use Rattle.serial_sched.specs.Chosen.{AreRunning, Picks, PicksAmong}
 use Rattle.serial_sched.specs.LastThread.{last_from, thread_by}
-use Rattle.serial_sched.specs.Slices.{FitsChoice}
+use Rattle.serial_sched.specs.Slices.{FitsChoice, FitsIf}
+use Rattle.serial_sched.proofs.Reached.{has_none, has_one}
 use Rattle.choices.specs.Schedule.{Plan, Chooses}
 use Rattle.choices.specs.Scheduled.{LastChosenRanLast, NothingKeepsLast, by_schedule}
-use Rattle.choices.proofs.OwnSlices.{frame_runs}
 
 -- ---- the threads that run
 
@@ -30,20 +31,21 @@ first_runs s tid tids are = (are.running tid).0 (0, omega arith, refl)
 -- where no thread runs, the last stays
 no_thread : (end : End) (s : State) (tid count before : ℕ) (s' : State) → ((t : ℕ) → IsRunning (thread_at s t) → ⊥) →
     FrameStepBy end s tid count s' → thread_by end tid before ≡ before
-no_thread ends.Preempt s tid count before s' none p = absurd (none tid (frame_runs ends.Preempt s tid count s' (λ e. absurd cc) p))
-no_thread (ends.Call r) s tid count before s' none p = absurd (none tid (frame_runs (ends.Call r) s tid count s' (λ e. absurd cc) p))
-no_thread (ends.Fault kind) s tid count before s' none p =
-    absurd (none tid (frame_runs (ends.Fault kind) s tid count s' (λ e. absurd cc) p))
-no_thread ends.Stuck s tid count before s' none p = refl
+no_thread end s tid count before s' rests p = ap (λ (b : Bool). cond b tid before) (has_none end s tid count s' rests p)
+
+fits_tid : (thread preempt : Bool) (s : State) (f : Frame) (choice : Choice) → thread ≡ true → FitsIf thread preempt s f choice →
+    f.tid ≡ choice.tid
+fits_tid false preempt s f choice some fits = absurd (false≢true some)
+fits_tid true true s f choice some fits = fits.0
+fits_tid true false s f choice some fits = fits.0
 
 -- where one runs, the frame's is the chosen one
 own_thread : (end : End) (s : State) (f : Frame) (choice : Choice) (before t : ℕ) (s' : State) → IsRunning (thread_at s t) →
     FrameStepBy end s f.tid f.count s' → FitsChoice end s f choice →
     thread_by end f.tid before ≡ choice.tid
-own_thread ends.Preempt s f choice before t s' runs p fits = fits.0
-own_thread (ends.Call r) s f choice before t s' runs p fits = fits.0
-own_thread (ends.Fault kind) s f choice before t s' runs p fits = fits.0
-own_thread ends.Stuck s f choice before t s' runs p fits = absurd (p.none_running t runs)
+own_thread end s f choice before t s' runs p fits =
+    let some = has_one end s f.tid f.count s' t runs p in
+    ap (λ (b : Bool). cond b f.tid before) some ∙ fits_tid (has_thread end) (is_preempt end) s f choice some fits
 
 -- ---- the choice
 

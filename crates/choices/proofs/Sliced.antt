@@ -6,11 +6,12 @@ use Rattle.rrv_model.specs.State.{State}
 use Rattle.rrv_model.specs.FrameStep.{FrameStep}
 use Rattle.serial_sched.specs.Chosen.{AreChosen, AreRunning, PicksAmong}
 use Rattle.serial_sched.specs.Slices.{FitsChoice}
+use Rattle.serial_sched.proofs.Reached.{has_none}
 use Rattle.choices.specs.Schedule.{Plan, ChoosesInTurn, plan}
 use Rattle.choices.specs.Scheduled.{by_schedule}
 use Rattle.choices.specs.Again.{FramesFollow}
 use Rattle.choices.specs.Sliced.{AreSlicesOf, FramesAreLists}
-use Rattle.choices.proofs.Again.{must_stick, none_behind}
+use Rattle.choices.proofs.Again.{none_behind}
 use Rattle.choices.proofs.Scheduled.{none_runs}
 use Rattle.choices.proofs.Schedules.{schedules_are_lists}
 
@@ -30,8 +31,8 @@ one_more : (tids : List ℕ) (s : State) (f : Frame) (frames : List Frame) (mid 
     HasOutcomes mid next frames →
     HasOutcomes s old (f ∷ frames)
 one_more [] s f frames mid old choice next are picks step fits follow rest =
-    let stuck = (must_stick f.end s f.tid f.count mid (none_runs s are) step.goes).0 in
-    ([], [], (stuck, none_behind s f mid frames stuck step follow, refl), refl)
+    let none = has_none f.end s f.tid f.count mid (none_runs s are) step.goes in
+    ([], [], (none, none_behind s f mid frames none step follow, refl), refl)
 one_more (t ∷ tids) s f frames mid old choice next are picks step fits follow (runnables, outcomes, slices, chosen) = (
   (t ∷ tids) ∷ runnables,
   Some choice ∷ outcomes,

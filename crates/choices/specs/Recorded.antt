@@ -1,5 +1,5 @@
 -- The choices of a recording, and their text.
-use Rattle.std.specs.Prelude.{◌≡◌, ℕ, ◌≤◌, nat_le, max, if◌then◌else◌, List, [], ◌∷◌, ◌++◌, filter_map, flat_map, codes, Option, Some, None, All}
+use Rattle.std.specs.Prelude.{◌≡◌, ℕ, ◌≤◌, Bool, not, nat_le, max, if◌then◌else◌, MatchBool, List, [], ◌∷◌, ◌++◌, filter_map, flat_map, codes, Option, Some, None, MatchOption, All}
 use Rattle.std.specs.Fmt.{decimal}
 use Rattle.rrv_model.specs.declared.limits.TheConstants.{MAX_QUANTUM, MAX_TID, MIN_QUANTUM}
 use Rattle.rrv_model.specs.declared.record.CallRecord.{CallRecord}
@@ -10,7 +10,7 @@ use Rattle.rrv_model.specs.declared.record.Frame.{Frame}
 use Rattle.rrv_model.specs.declared.record.Record.{Record}
 use Rattle.rrv_model.specs.State.{State, IsState}
 use Rattle.rrv_model.specs.FrameStep.{FrameStep}
-use Rattle.rrv_model.specs.Output.{call_in}
+use Rattle.rrv_model.specs.Output.{call_in, has_thread, is_preempt}
 use Rattle.rrv_model.specs.Recording.{IsRecording, frames_of, items_of}
 use Rattle.serial_sched.specs.Slices.{FitsChoice, IsQuantum}
 use Rattle.choices.specs.declared.recorded.ChoiceLine.{ChoiceLine}
@@ -19,12 +19,15 @@ use Rattle.choices.specs.ChoiceText.{text_says}
 
 -- A thread that was preempted used its quantum, unless that would be below the least one: then memory was short. One
 -- that ended in a call or a fault had a quantum of so many instructions at least, and the least such one serves.
+abbrev pub choice_if : (thread preempt : Bool) → ℕ → ℕ → Option Choice
+choice_if thread preempt tid count =
+    if not thread then None
+    else if not preempt then Some (record { tid = tid; quantum = max MIN_QUANTUM count })
+    else if nat_le MIN_QUANTUM count then Some (record { tid = tid; quantum = count })
+    else None
+
 abbrev pub choice_by_end : End → ℕ → ℕ → Option Choice
-choice_by_end ends.Preempt tid count =
-    if nat_le MIN_QUANTUM count then Some (record { tid = tid; quantum = count }) else None
-choice_by_end (ends.Call r) tid count = Some (record { tid = tid; quantum = max MIN_QUANTUM count })
-choice_by_end (ends.Fault kind) tid count = Some (record { tid = tid; quantum = max MIN_QUANTUM count })
-choice_by_end ends.Stuck tid count = None
+choice_by_end end tid count = choice_if (has_thread end) (is_preempt end) tid count
 
 -- the choice whose slice the frame is, where it tells one
 abbrev pub choice_of : Frame → Option Choice
@@ -34,10 +37,7 @@ choice_of f = choice_by_end f.end f.tid f.count
 
 abbrev pub line_by_end : Option Choice → End → ℕ → ℕ → Option ChoiceLine
 line_by_end (Some choice) end tid count = Some (lines.Ran choice)
-line_by_end None ends.Preempt tid count = Some (lines.CutShort tid count)
-line_by_end None (ends.Call r) tid count = None
-line_by_end None (ends.Fault kind) tid count = None
-line_by_end None ends.Stuck tid count = None
+line_by_end None end tid count = if is_preempt end then Some (lines.CutShort tid count) else None
 
 -- the line of a frame's choice, or of a slice that was cut short
 abbrev pub line_of : Frame → Option ChoiceLine
@@ -65,10 +65,7 @@ pub record IsOfGuest (tid count : ℕ) : Type 0 where
   pub count_high : count ≤ MAX_QUANTUM
 
 abbrev pub EndIsOfGuest : End → ℕ → ℕ → Type 0
-EndIsOfGuest ends.Preempt tid count = IsOfGuest tid count
-EndIsOfGuest (ends.Call r) tid count = IsOfGuest tid count
-EndIsOfGuest (ends.Fault kind) tid count = IsOfGuest tid count
-EndIsOfGuest ends.Stuck tid count = Unit {0}
+EndIsOfGuest end tid count = MatchBool (has_thread end) (IsOfGuest tid count) (Unit {0})
 
 abbrev pub FrameIsOfGuest : Frame → Type 0
 FrameIsOfGuest f = EndIsOfGuest f.end f.tid f.count
@@ -97,10 +94,7 @@ FramesFitChoices =
 
 -- the ends are alike, but for what calls were answered
 abbrev pub IsSameEnd : End → End → Type 0
-IsSameEnd ends.Preempt other = other ≡ ends.Preempt
-IsSameEnd (ends.Call r) other = (s : CallRecord) × (other ≡ ends.Call s)
-IsSameEnd (ends.Fault kind) other = other ≡ ends.Fault kind
-IsSameEnd ends.Stuck other = other ≡ ends.Stuck
+IsSameEnd end other = MatchOption (call_in end) (other ≡ end) (λ _. (r : CallRecord) × (other ≡ ends.Call r))
 
 -- the frames are alike, but for what calls were answered; ones that end in no call are one frame
 pub record IsSameSlice (f g : Frame) : Type 0 where

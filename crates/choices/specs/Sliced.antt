@@ -1,20 +1,20 @@
 -- The slices of a schedule.
-use Rattle.std.specs.Prelude.{◌≡◌, ℕ, List, [], ◌∷◌, Option, Some}
+use Rattle.std.specs.Prelude.{◌≡◌, ℕ, false, List, [], ◌∷◌, Option, Some}
 use Rattle.rrv_model.specs.declared.record.Choice.{Choice}
-use Rattle.rrv_model.specs.declared.record.End.TheVariants as ends
 use Rattle.rrv_model.specs.declared.record.Frame.{Frame}
 use Rattle.rrv_model.specs.State.{State}
 use Rattle.rrv_model.specs.FrameStep.{FrameStep}
+use Rattle.rrv_model.specs.Output.{has_thread}
 use Rattle.serial_sched.specs.Chosen.{AreChosen, AreRunning}
 use Rattle.serial_sched.specs.Slices.{FitsChoice}
 use Rattle.choices.specs.Schedule.{Plan, IsSchedule, plan}
 use Rattle.choices.specs.Scheduled.{by_schedule}
 
 -- The frames from a state on are the slices of these choices, one after another, each of the threads that run there. A
--- stuck frame is the last, and has no choice.
+-- frame of no thread is the last, and has no choice.
 abbrev pub AreSlicesOf : State → List Frame → List (List ℕ) → List (Option Choice) → Type 0
 AreSlicesOf s [] runnables outcomes = (runnables ≡ []) × (outcomes ≡ [])
-AreSlicesOf s (f ∷ frames) [] outcomes = (f.end ≡ ends.Stuck) × (frames ≡ []) × (outcomes ≡ [])
+AreSlicesOf s (f ∷ frames) [] outcomes = (has_thread f.end ≡ false) × (frames ≡ []) × (outcomes ≡ [])
 AreSlicesOf s (f ∷ frames) (tids ∷ more) outcomes =
     (choice : Choice) × (others : List (Option Choice)) × (new : State) × (outcomes ≡ Some choice ∷ others) × AreRunning s tids
     × FrameStep s f new × FitsChoice f.end s f choice × AreSlicesOf new frames more others

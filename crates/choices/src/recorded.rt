@@ -4,7 +4,7 @@ ghost use Rattle.std.specs.Prelude.{◌≡◌, Some};
 ghost use Rattle.choices.specs.Recorded.{choice_of, line_of, line_text};
 
 use rrv_model::limits::MIN_QUANTUM;
-use rrv_model::record::{Choice, End, Frame};
+use rrv_model::record::{Choice, Frame};
 use std::fmt;
 
 /// A line of the text of a recording's choices, without the newline: `3 64`, or
@@ -40,19 +40,21 @@ impl fmt::Display for ChoiceLine {
 pub fn choice_of(frame: &Frame) -> Option<Choice>
     ensures { result ≡ choice_of frame.now }
 {
-    let quantum = frame.count.max(MIN_QUANTUM);
-    match &frame.end {
-        End::Preempt => {
-            if frame.count < MIN_QUANTUM {
-                return None;
-            }
-        }
-        End::Call(_) | End::Fault(_) => {}
-        End::Stuck => return None,
+    if !frame.end.has_thread() {
+        return None;
+    }
+    if !frame.end.is_preempt() {
+        return Some(Choice {
+            tid: frame.tid,
+            quantum: frame.count.max(MIN_QUANTUM),
+        });
+    }
+    if frame.count < MIN_QUANTUM {
+        return None;
     }
     Some(Choice {
         tid: frame.tid,
-        quantum,
+        quantum: frame.count,
     })
 }
 
@@ -63,11 +65,11 @@ pub fn line_of(frame: &Frame) -> Option<ChoiceLine>
     if let Some(choice) = choice_of(frame) {
         return Some(ChoiceLine::Ran(choice));
     }
-    match &frame.end {
-        End::Preempt => Some(ChoiceLine::CutShort {
-            tid: frame.tid,
-            count: frame.count,
-        }),
-        _ => None,
+    if !frame.end.is_preempt() {
+        return None;
     }
+    Some(ChoiceLine::CutShort {
+        tid: frame.tid,
+        count: frame.count,
+    })
 }

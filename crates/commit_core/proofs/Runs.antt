@@ -1,24 +1,25 @@
 -- Output and states of a beginning of a recording.
-use Rattle.std.proofs.Common.{◌≡◌, ◌≢◌, ℕ, zero, suc, ◌+◌, ◌-◌, ◌<◌, ◌≤◌, Bool, true, false, nat_le, List, [], ◌∷◌, ◌++◌, length, take, refl, sym, ◌∙◌, ap, subst, arith, append_assoc}
-use Rattle.std.specs.Prelude.{MatchBool, ◌↔◌}
+use Rattle.std.proofs.Common.{◌≡◌, ◌≢◌, ℕ, ◌+◌, ◌-◌, ◌<◌, ◌≤◌, Bool, true, false, nat_le, List, [], ◌∷◌, ◌++◌, length, take, Option, Some, None, refl, sym, ◌∙◌, ap, subst, arith, append_assoc}
+use Rattle.std.specs.Prelude.{MatchBool, MatchOption, ◌↔◌}
 use Rattle.std.specs.List.{AllByRecursion}
 use Rattle.std.proofs.lemmas.Bool.Decides.{nat_tests}
 use Rattle.std.proofs.lemmas.List.{take-append-le}
 use Rattle.std.proofs.lemmas.List.Sums.{sum_by-cons}
 use Rattle.std.proofs.lemmas.Grind.{flat_map-append}
+use Rattle.rrv_model.specs.declared.record.CallRecord.{CallRecord}
 use Rattle.rrv_model.specs.declared.record.End.{End}
-use Rattle.rrv_model.specs.declared.record.End.TheVariants as ends
 use Rattle.rrv_model.specs.declared.record.Frame.{Frame}
 use Rattle.rrv_model.specs.declared.record.Part.{Part}
 use Rattle.rrv_model.specs.declared.record.Item.{Item}
 use Rattle.rrv_model.specs.declared.record.Item.TheVariants as items
 use Rattle.rrv_model.specs.declared.record.Record.{Record}
 use Rattle.rrv_model.specs.State.{State, thread_at}
-use Rattle.rrv_model.specs.FrameStep.{Steps, FrameStep, FrameStepBy}
+use Rattle.rrv_model.specs.FrameStep.{Steps, FrameStep}
 use Rattle.rrv_model.specs.StateAt.{total, StateAtFrom}
-use Rattle.rrv_model.specs.Output.{Chunk, FramePuts, PutFrom, put_out_by, spread, to_descriptor}
+use Rattle.rrv_model.specs.Output.{CallPutsAt, Chunk, FramePuts, PutFrom, call_in, put_out_by, spread, to_descriptor}
 use Rattle.rrv_model.specs.Recording.{IsRecording, IsNumbered, ItemsFollow, Starts, EndsIn, items_of, frames_of, base_after, row_after}
 use Rattle.rrv_model.specs.Recovered.{OpensAtZero, IsOpening}
+use Rattle.rrv_model.proofs.Ends.{frame_split, puts_some}
 use Rattle.rrv_model.proofs.FrameLaws.{one_end, one_state_after_frame}
 use Rattle.rrv_model.proofs.RecordingLaws.{beginnings_are_recordings}
 use Rattle.commit_core.specs.Runs.{IsBeginning, ItemsPut, IsOutput, IsAt, total_of}
@@ -41,22 +42,15 @@ spread-append c d = flat_map-append (λ (k : Chunk). to_descriptor k.descriptor 
 
 -- ---- output
 
--- a frame that leads on puts something out
-puts_by : (end : End) (s new : State) (f : Frame) → FrameStepBy end s f.tid f.count new → (chunks : List Chunk) × FramePuts s f end chunks
-puts_by ends.Preempt s new f goes = ([], refl)
-puts_by (ends.Call r) s new f goes =
-    (put_out_by (thread_at goes.before f.tid) goes.before.memory r.result, (goes.before, goes.steps, refl))
-puts_by (ends.Fault kind) s new f goes = ([], refl)
-puts_by ends.Stuck s new f goes = ([], refl)
-
--- and one thing alone
+-- a frame puts out one thing alone
 one_put : (end : End) (s : State) (f : Frame) (c d : List Chunk) → FramePuts s f end c → FramePuts s f end d → c ≡ d
-one_put ends.Preempt s f c d p q = p ∙ sym q
-one_put (ends.Call r) s f c d p q =
-    let same : p.0 ≡ q.0 = one_end (f.count - 1) f.tid s p.0 q.0 p.1 q.1 in
-    p.2 ∙ ap (λ (b : State). put_out_by (thread_at b f.tid) b.memory r.result) same ∙ sym q.2
-one_put (ends.Fault kind) s f c d p q = p ∙ sym q
-one_put ends.Stuck s f c d p q = p ∙ sym q
+one_put end s f c d p q = by (call_in end) p q where
+  by : (o : Option CallRecord) → MatchOption o (c ≡ []) (λ r. CallPutsAt s f.tid f.count r.result c) →
+      MatchOption o (d ≡ []) (λ r. CallPutsAt s f.tid f.count r.result d) → c ≡ d
+  by None none none' = none ∙ sym none'
+  by (Some r) (before, steps, puts) (before', steps', puts') =
+      let same : before ≡ before' = one_end (f.count - 1) f.tid s before before' steps steps' in
+      puts ∙ ap (λ (b : State). put_out_by (thread_at b f.tid) b.memory r.result) same ∙ sym puts'
 
 -- items that follow put something out
 puts_from : (base : State) (parts : List Part) (s : State) (rest : List Item) → ItemsFollow base parts s rest →
@@ -64,7 +58,7 @@ puts_from : (base : State) (parts : List Part) (s : State) (rest : List Item) �
 puts_from base parts s [] h = ([], refl)
 puts_from base parts s (items.Opening o ∷ rest) h = absurd h
 puts_from base parts s (items.Frame f ∷ rest) h =
-    let first = puts_by f.end s h.0 f h.1.goes in
+    let first = puts_some f.end s h.0 f h.1.goes in
     let more = puts_from base [] h.0 rest h.2 in
     (first.0 ++ more.0, (h.0, first.0, more.0, h.1, first.1, more.1, refl))
 puts_from base parts s (items.Part p ∷ rest) h =
@@ -234,19 +228,6 @@ recording_opens guest rs is n = starts_open guest rs is.starts n
 
 -- ---- states are there
 
-steps_front : (n m tid : ℕ) (s last : State) → m ≤ n → Steps n tid s last → (mid : State) × Steps m tid s mid
-steps_front n zero tid s last l h = (s, refl)
-steps_front zero (suc m) tid s last l h = absurd (omega (arith, l))
-steps_front (suc n) (suc m) tid s last l h =
-    let rest = steps_front n m tid h.0 last (omega (arith, l)) h.2 in (rest.0, (h.0, h.1, rest.1))
-
-within_frame : (end : End) (s new : State) (f : Frame) (t : ℕ) → FrameStepBy end s f.tid f.count new → t < f.count → (at : State) ×
-    Steps t f.tid s at
-within_frame ends.Preempt s new f t goes l = steps_front f.count t f.tid s goes.last (omega (arith, l)) goes.steps
-within_frame (ends.Call r) s new f t goes l = steps_front (f.count - 1) t f.tid s goes.before (omega (arith, l)) goes.steps
-within_frame (ends.Fault kind) s new f t goes l = steps_front (f.count - 1) t f.tid s goes.before (omega (arith, l)) goes.steps
-within_frame ends.Stuck s new f t goes l = absurd (omega (arith, goes.no_step, l))
-
 there_by : (b : Bool) (s : State) (f : Frame) (fs : List Frame) (t : ℕ) →
     (b ≡ true → (at : State) × (mid : State) × FrameStep s f mid × StateAtFrom mid fs (t - f.count) at) →
     (b ≡ false → (at : State) × Steps t f.tid s at) →
@@ -267,7 +248,7 @@ there_from base parts s (items.Frame f ∷ rest) h t l =
     (λ le. let more = there_from base [] h.0 rest h.2 (t - f.count)
     (within_rest f.count t (total (frames_of rest)) (subst (λ n. t < n) (sum_by-cons (λ (g : Frame). g.count) f (frames_of rest)) l)
     le) in (more.0, h.0, h.1, more.1))
-    (λ lt. within_frame f.end s h.0 f t h.1.goes (below_count f.count t lt))
+    (λ lt. let inside = frame_split f.end s h.0 f.tid f.count t (below_count f.count t lt) h.1.goes in (inside.0, inside.1))
 there_from base parts s (items.Part p ∷ rest) h t l =
     there_from (base_after p.rest base s) (row_after p.rest (parts ++ p ∷ [])) s rest h.1 t l
 

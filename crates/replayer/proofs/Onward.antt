@@ -5,13 +5,12 @@ use Rattle.std.proofs.lemmas.Bool.Decides.{nat_tests}
 use Rattle.std.proofs.lemmas.List.{length-drop, take_rest}
 use Rattle.std.proofs.lemmas.List.Sums.{sum_by-append, sum_by-cons}
 use Rattle.rrv_model.specs.declared.limits.TheConstants.{MAX_QUANTUM}
-use Rattle.rrv_model.specs.declared.record.End.{End}
-use Rattle.rrv_model.specs.declared.record.End.TheVariants as ends
 use Rattle.rrv_model.specs.declared.record.Frame.{Frame}
 use Rattle.rrv_model.specs.declared.record.Opening.{Opening}
 use Rattle.rrv_model.specs.State.{State}
-use Rattle.rrv_model.specs.FrameStep.{EndsInCall, EndsInFault, FrameStep, FrameStepBy, Preempts, Steps}
+use Rattle.rrv_model.specs.FrameStep.{FrameStep, FrameStepBy, Steps}
 use Rattle.rrv_model.specs.StateAt.{StateAt, StateAtFrom, total}
+use Rattle.rrv_model.proofs.Ends.{frame_join, frame_split, steps_join}
 use Rattle.rrv_model.proofs.FrameLaws.{one_end, one_state_after_frame}
 use Rattle.rrv_model.proofs.RunLaws.{at_total_first, at_total_of_first}
 use Rattle.guest_calls.specs.Guest.{state_of}
@@ -24,98 +23,12 @@ use Rattle.replayer.proofs.Kept.{at_later, frame_first, frame_part}
 
 -- ---- steps
 
-steps_join : (n m tid : ℕ) (s mid last : State) → Steps n tid s mid → Steps m tid mid last → Steps (n + m) tid s last
-steps_join zero m tid s mid last h k =
-    let e : 0 + m ≡ m = omega arith in
-    subst (λ i. Steps i tid s last) (sym e) (subst (λ (x : State). Steps m tid x last) h k)
-steps_join (suc n) m tid s mid last h k =
-    let e : suc n + m ≡ suc (n + m) = omega arith in
-    subst (λ i. Steps i tid s last) (sym e) (h.0, h.1, steps_join n m tid h.0 mid last h.2 k)
-
-steps_split : (n m tid : ℕ) (s last : State) → Steps (n + m) tid s last → (mid : State) × Steps n tid s mid × Steps m tid mid last
-steps_split zero m tid s last h =
-    let e : 0 + m ≡ m = omega arith in
-    (s, refl, subst (λ i. Steps i tid s last) e h)
-steps_split (suc n) m tid s last h =
-    let e : suc n + m ≡ suc (n + m) = omega arith in
-    let k : Steps (suc (n + m)) tid s last = subst (λ i. Steps i tid s last) e h in
-    let behind = steps_split n m tid k.0 last k.2 in
-    (behind.0, (k.0, k.1, behind.1), behind.2)
-
 -- plain steps don't end a guest
 ended_kept : (n tid : ℕ) (s mid : State) → Steps n tid s mid → mid.ended ≡ s.ended
 ended_kept zero tid s mid h = ap (λ (x : State). x.ended) h
 ended_kept (suc n) tid s mid h = ended_kept n tid h.0 mid h.2 ∙ ap (λ (x : State). x.ended) h.1.after_is
 
 -- ---- inside a frame
-
--- behind some of its steps a frame is one of the others
-frame_split : (end : End) (s new : State) (tid count n : ℕ) → n < count → FrameStepBy end s tid count new →
-    (mid : State) × Steps n tid s mid × FrameStepBy end mid tid (count - n) new
-frame_split ends.Preempt s new tid count n below h =
-    let sum : count ≡ n + (count - n) = omega arith in
-    let both = steps_split n (count - n) tid s h.last (subst (λ i. Steps i tid s h.last) sum h.steps) in
-    let by : Preempts both.0 tid (count - n) new = record { some = omega arith; last = h.last; steps = both.2; new_is = h.new_is } in
-    (both.0, both.1, by)
-frame_split (ends.Call r) s new tid count n below h =
-    let sum : count - 1 ≡ n + (count - n - 1) = omega arith in
-    let both = steps_split n (count - n - 1) tid s h.before (subst (λ i. Steps i tid s h.before) sum h.steps) in
-    let by : EndsInCall both.0 tid (count - n) r new =
-    record {
-      some = omega arith;
-      before = h.before;
-      steps = both.2;
-      called = h.called;
-      calls = h.calls;
-      answer = h.answer;
-      after = h.after;
-      answered = h.answered;
-      new_is = h.new_is;
-    } in
-    (both.0, both.1, by)
-frame_split (ends.Fault kind) s new tid count n below h =
-    let sum : count - 1 ≡ n + (count - n - 1) = omega arith in
-    let both = steps_split n (count - n - 1) tid s h.before (subst (λ i. Steps i tid s h.before) sum h.steps) in
-    let by : EndsInFault both.0 tid (count - n) kind new =
-    record { some = omega arith; before = h.before; steps = both.2; faults = h.faults; new_is = h.new_is } in
-    (both.0, both.1, by)
-frame_split ends.Stuck s new tid count n below h = absurd (omega (arith, h.no_step))
-
-frame_join : (end : End) (s mid new : State) (tid count n : ℕ) → n < count → Steps n tid s mid → FrameStepBy end mid tid (count - n) new →
-    FrameStepBy end s tid count new
-frame_join ends.Preempt s mid new tid count n below some h =
-    let sum : n + (count - n) ≡ count = omega arith in
-    let by : Preempts s tid count new =
-    record {
-      some = omega arith;
-      last = h.last;
-      steps = subst (λ i. Steps i tid s h.last) sum (steps_join n (count - n) tid s mid h.last some h.steps);
-      new_is = h.new_is;
-    } in
-    by
-frame_join (ends.Call r) s mid new tid count n below some h =
-    let sum : n + (count - n - 1) ≡ count - 1 = omega arith in
-    let all = subst (λ i. Steps i tid s h.before) sum (steps_join n (count - n - 1) tid s mid h.before some h.steps) in
-    let by : EndsInCall s tid count r new =
-    record {
-      some = omega arith;
-      before = h.before;
-      steps = all;
-      called = h.called;
-      calls = h.calls;
-      answer = h.answer;
-      after = h.after;
-      answered = h.answered;
-      new_is = h.new_is;
-    } in
-    by
-frame_join (ends.Fault kind) s mid new tid count n below some h =
-    let sum : n + (count - n - 1) ≡ count - 1 = omega arith in
-    let all = subst (λ i. Steps i tid s h.before) sum (steps_join n (count - n - 1) tid s mid h.before some h.steps) in
-    let by : EndsInFault s tid count kind new =
-    record { some = omega arith; before = h.before; steps = all; faults = h.faults; new_is = h.new_is } in
-    by
-frame_join ends.Stuck s mid new tid count n below some h = absurd (omega (arith, h.no_step))
 
 abbrev pub rest_of : ℕ → Frame → Frame
 rest_of n f = record f { count = f.count - n }

@@ -8,11 +8,12 @@ use Rattle.rrv_model.specs.declared.record.End.{End}
 use Rattle.rrv_model.specs.declared.record.End.TheVariants as ends
 use Rattle.rrv_model.specs.declared.record.Frame.{Frame}
 use Rattle.rrv_model.specs.declared.record.Opening.{Opening}
-use Rattle.rrv_model.specs.State.{State, thread_at}
-use Rattle.rrv_model.specs.FrameStep.{FrameStep, FrameStepBy}
+use Rattle.rrv_model.specs.State.{State}
+use Rattle.rrv_model.specs.FrameStep.{FrameStep}
 use Rattle.rrv_model.specs.Opening.{Opens}
-use Rattle.rrv_model.specs.Output.{Chunk, FramePuts, Output, PutFrom, put_out_by, spread, to_descriptor}
+use Rattle.rrv_model.specs.Output.{Chunk, FramePuts, Output, PutFrom, spread, to_descriptor}
 use Rattle.rrv_model.specs.StateAt.{StateAtFrom, total}
+use Rattle.rrv_model.proofs.Ends.{puts_some}
 use Rattle.rrv_model.proofs.FrameLaws.{one_state_after_frame}
 use Rattle.rrv_model.proofs.RunLaws.{at_total_first}
 use Rattle.serial_sched.specs.Slices.{CallPuts}
@@ -56,22 +57,13 @@ take_map d (suc n) (b ∷ bytes) = ap (λ (l : List (ℕ × ℕ)). (d, b) ∷ l)
 -- what was kept as put out is what the frame puts out
 pub frame_puts : (end : End) (s : State) (f : Frame) (kept : List Chunk) → CallPuts end s f kept → FramePuts s f end (chunks_by end kept)
 frame_puts (ends.Call r) s f kept h = h
-frame_puts ends.Preempt s f kept h = refl
-frame_puts (ends.Fault kind) s f kept h = refl
-frame_puts ends.Stuck s f kept h = refl
-
--- a frame that leads on puts something out
-put_by : (end : End) (s new : State) (f : Frame) → FrameStepBy end s f.tid f.count new → (chunks : List Chunk) × FramePuts s f end chunks
-put_by (ends.Call r) s new f h = (put_out_by (thread_at h.before f.tid) h.before.memory r.result, (h.before, h.steps, refl))
-put_by ends.Preempt s new f h = ([], refl)
-put_by (ends.Fault kind) s new f h = ([], refl)
-put_by ends.Stuck s new f h = ([], refl)
+frame_puts _ s f kept h = refl
 
 put_ahead : (left : List Frame) (s last : State) → StateAtFrom s left (total left) last → (chunks : List Chunk) × PutFrom s left chunks
 put_ahead [] s last h = ([], refl)
 put_ahead (f ∷ left) s last h =
     let ahead = at_total_first s f left last h in
-    let first = put_by f.end s ahead.0 f ahead.1.goes in
+    let first = puts_some f.end s ahead.0 f ahead.1.goes in
     let more = put_ahead left ahead.0 last ahead.2 in
     (first.0 ++ more.0, (ahead.0, first.0, more.0, ahead.1, first.1, more.1, refl))
 

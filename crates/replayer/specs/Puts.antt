@@ -1,7 +1,7 @@
 -- What is put out of a verified recording.
 use Rattle.std.specs.Prelude.{◌≡◌, ℕ, List, [], ◌++◌, take}
 use Rattle.rrv_model.specs.declared.record.End.{End}
-use Rattle.rrv_model.specs.declared.record.End.TheVariants.{Preempt, Call, Fault, Stuck}
+use Rattle.rrv_model.specs.declared.record.End.TheVariants.{Call}
 use Rattle.rrv_model.specs.declared.record.Frame.{Frame}
 use Rattle.rrv_model.specs.declared.record.Opening.{Opening}
 use Rattle.rrv_model.specs.State.{State}
@@ -35,9 +35,7 @@ pub record PutsSoFar (o : Opening) (frames : List Frame) (s : State) (left : Lis
   pub on : (rest : List Chunk) → PutFrom s left rest → Output o frames (done ++ rest)
   pub took : after ≡ before ++ spread done
 
--- of a frame that ends in a call, what is kept as put out
+-- of a frame that ends in a call, what is kept as put out; of another, nothing
 abbrev pub chunks_by : End → List Chunk → List Chunk
 chunks_by (Call r) kept = kept
-chunks_by Preempt kept = []
-chunks_by (Fault kind) kept = []
-chunks_by Stuck kept = []
+chunks_by _ kept = []

@@ -17,7 +17,7 @@ use crate::opened::put_parts;
 use crate::recording::Mark;
 use checkpoint::ApplyFault;
 use guest_calls::Guest;
-use rrv_model::record::{End, Frame, Item, Opening, Part, Record};
+use rrv_model::record::{Frame, Item, Opening, Part, Record};
 use rrv_model::sequence::Sequence;
 use serial_sched::{FollowFault, follow};
 use std::alloc::Global;
@@ -96,9 +96,10 @@ fn copied_frame(frame: &Frame) -> Result<Frame, VerifyFault>
 fn last_behind(frame: &Frame, before: u32) -> u32
     ensures { result ≡ thread_after frame.now before }
 {
-    match &frame.end {
-        End::Stuck => before,
-        _ => frame.tid,
+    if frame.end.has_thread() {
+        frame.tid
+    } else {
+        before
     }
 }
 

@@ -1,19 +1,19 @@
 -- A state and a frame leave one state after at most.
-use Rattle.std.proofs.Common.{◌≡◌, ℕ, zero, suc, ◌-◌, Option, Some, None, Result, Ok, Err, sym, ◌∙◌, ap, subst, refl}
+use Rattle.std.proofs.Common.{◌≡◌, ℕ, zero, suc, Option, Some, None, Result, Ok, Err, sym, ◌∙◌, ap, subst, refl}
 use Rattle.rrv_model.specs.declared.machine.FaultKind.{FaultKind}
-use Rattle.rrv_model.specs.declared.machine.GuestEnd.TheVariants as guest_ends
 use Rattle.rrv_model.specs.declared.machine.Thread.{Thread}
 use Rattle.rrv_model.specs.declared.instr.Instr.{Instr}
 use Rattle.rrv_model.specs.declared.record.End.{End}
-use Rattle.rrv_model.specs.declared.record.End.TheVariants.{Preempt, Call, Fault, Stuck}
 use Rattle.rrv_model.specs.declared.record.CallRecord.{CallRecord}
 use Rattle.rrv_model.specs.Instructions.{Decodes}
 use Rattle.rrv_model.specs.State.{State}
 use Rattle.rrv_model.specs.Step.{Hart, Step, StepOfWord, HartStep, StepsTo, CallsFrom, Outcome, Next, Called, fetched, executed, hart_of, with_hart}
 use Rattle.rrv_model.specs.Calls.{Calls}
-use Rattle.rrv_model.specs.FrameStep.{Steps, FrameStepBy, Preempts, EndsInCall, EndsInFault, closed, closed_at_end, OneStateAfterFrame}
+use Rattle.rrv_model.specs.FrameStep.{Steps, FrameStepBy, OneStateAfterFrame}
+use Rattle.rrv_model.specs.Output.{call_in}
 use Rattle.rrv_model.proofs.InstructionLaws.{one_row}
 use Rattle.rrv_model.proofs.CallLaws.{one_state_after_call, same_thread}
+use Rattle.rrv_model.proofs.Ends.{AnswersCall, closed_by, frame_parts, guest_end, plain_steps}
 
 one_decoding : (w : ℕ) (i j : Option Instr) → Decodes w i → Decodes w j → i ≡ j
 one_decoding w (Some i) (Some j) p q = ap Some (one_row w i j p q)
@@ -65,28 +65,23 @@ one_end (suc n) tid s after after' p q =
 one_called : (s s' : State) (tid : ℕ) (t t' : State) → s' ≡ s → CallsFrom s tid t → CallsFrom s' tid t' → t' ≡ t
 one_called s s' tid t t' e p q = one_call_from s tid t' t (subst (λ (m : State). CallsFrom m tid t') e q) p
 
-one_preempt : (old : State) (tid count : ℕ) (new new' : State) → Preempts old tid count new → Preempts old tid count new' → new ≡ new'
-one_preempt old tid count new new' p q = p.new_is ∙ ap closed (one_end count tid old p.last q.last p.steps q.steps) ∙ sym q.new_is
-
-one_call : (old : State) (tid count : ℕ) (r : CallRecord) (new new' : State) → EndsInCall old tid count r new →
-    EndsInCall old tid count r new' → new ≡ new'
-one_call old tid count r new new' p q =
-    let before : q.before ≡ p.before = one_end (count - 1) tid old q.before p.before q.steps p.steps in
-    let called : q.called ≡ p.called = one_called p.before q.before tid p.called q.called before p.calls q.calls in
-    let answered : Calls p.called tid q.answer r q.after = subst (λ (m : State). Calls m tid q.answer r q.after) called q.answered in
-    p.new_is ∙ ap closed (one_state_after_call p.called tid r p.answer q.answer p.after q.after p.answered answered) ∙ sym q.new_is
-
-one_fault : (old : State) (tid count : ℕ) (kind : FaultKind) (new new' : State) → EndsInFault old tid count kind new →
-    EndsInFault old tid count kind new' → new ≡ new'
-one_fault old tid count kind new new' p q =
-    p.new_is ∙ ap (closed_at_end (guest_ends.Faulted kind)) (one_end (count - 1) tid old p.before q.before p.steps q.steps) ∙ sym q.new_is
+one_answered : (o : Option CallRecord) (tid : ℕ) (s s' after after' : State) → s' ≡ s → AnswersCall o tid s after →
+    AnswersCall o tid s' after' → after ≡ after'
+one_answered None tid s s' after after' e p q = p ∙ sym e ∙ sym q
+one_answered (Some r) tid s s' after after' e (called, answer, calls, answered) (called', answer', calls', answered') =
+    let same : called' ≡ called = one_called s s' tid called called' e calls calls' in
+    one_state_after_call called tid r answer answer' after after' answered
+    (subst (λ (m : State). Calls m tid answer' r after') same answered')
 
 one_by : (end : End) (old : State) (tid count : ℕ) (new new' : State) → FrameStepBy end old tid count new →
     FrameStepBy end old tid count new' → new ≡ new'
-one_by Preempt old tid count new new' p q = one_preempt old tid count new new' p q
-one_by (Call r) old tid count new new' p q = one_call old tid count r new new' p q
-one_by (Fault kind) old tid count new new' p q = one_fault old tid count kind new new' p q
-one_by Stuck old tid count new new' p q = p.new_is ∙ sym q.new_is
+one_by end old tid count new new' p q =
+    let a = frame_parts end old tid count new p in
+    let b = frame_parts end old tid count new' q in
+    let before : b.before ≡ a.before = one_end (plain_steps end count) tid old b.before a.before b.steps a.steps in
+    a.new_is
+    ∙ ap (closed_by (guest_end end)) (one_answered (call_in end) tid a.before b.before a.after b.after before a.answers b.answers)
+    ∙ sym b.new_is
 
 pub one_state_after_frame : OneStateAfterFrame
 one_state_after_frame old frame new new' p q = one_by frame.end old frame.tid frame.count new new' p.goes q.goes

@@ -1,6 +1,7 @@
 pub mod CallLaws
 pub mod RecordingLaws
 pub mod InstructionLaws
+pub mod Ends
 pub mod FrameLaws
 pub mod FrameStays
 pub mod Examples

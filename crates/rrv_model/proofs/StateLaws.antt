@@ -1,50 +1,36 @@
 -- A frame from a state leads to a state.
-use Rattle.std.proofs.Common.{ℕ, ◌-◌, Bool, true, false, nat_le, List, [], ◌∷◌, sym, subst}
+use Rattle.std.proofs.Common.{ℕ, ◌-◌, Bool, true, false, nat_le, List, [], ◌∷◌, Option, Some, None, IfSome, sym, subst}
 use Rattle.std.specs.Prelude.{MatchBool}
-use Rattle.rrv_model.specs.declared.machine.FaultKind.{FaultKind}
-use Rattle.rrv_model.specs.declared.machine.GuestEnd.TheVariants as guest_ends
+use Rattle.rrv_model.specs.declared.machine.GuestEnd.{GuestEnd}
 use Rattle.rrv_model.specs.declared.record.CallRecord.{CallRecord}
-use Rattle.rrv_model.specs.declared.record.End.{End}
-use Rattle.rrv_model.specs.declared.record.End.TheVariants.{Preempt, Call, Fault, Stuck}
 use Rattle.rrv_model.specs.declared.record.Frame.{Frame}
-use Rattle.rrv_model.specs.State.{State, IsState}
-use Rattle.rrv_model.specs.FrameStep.{Steps, FrameStep, Preempts, EndsInCall, EndsInFault, IsStuck, FrameStepBy, FramesKeepStates, closed}
+use Rattle.rrv_model.specs.State.{State, IsEnd, IsState}
+use Rattle.rrv_model.specs.FrameStep.{Steps, FrameStep, FramesKeepStates, closed}
+use Rattle.rrv_model.specs.Output.{call_in}
 use Rattle.rrv_model.specs.StateAt.{StateAtFrom, RecordedStatesAreStates}
 use Rattle.rrv_model.proofs.CallRules.{call_keeps_state}
+use Rattle.rrv_model.proofs.Ends.{AnswersCall, closed_by, frame_parts, guest_end, guest_end_is, plain_steps}
 use Rattle.rrv_model.proofs.OpeningState.{openings_are_states}
 use Rattle.rrv_model.proofs.StateRules.{keeps-reservation, keeps-ended, steps_keep_state, ecall_keeps_state}
 
 closes : (s : State) → IsState s → IsState (closed s)
 closes s h = keeps-reservation _ s tt h
 
-preempt_keeps : (old : State) (tid count : ℕ) (new : State) → Preempts old tid count new → IsState old → IsState new
-preempt_keeps old tid count new p h = subst IsState (sym p.new_is) (closes p.last (steps_keep_state count tid old p.last p.steps h))
+closing_keeps : (o : Option GuestEnd) (s : State) → IfSome o IsEnd → IsState s → IsState (closed_by o s)
+closing_keeps None s is h = closes s h
+closing_keeps (Some end) s is h = keeps-ended end (closed s) is (closes s h)
 
-ends_in_call_keeps : (old : State) (tid count : ℕ) (r : CallRecord) (new : State) → EndsInCall old tid count r new → IsState old →
-    IsState new
-ends_in_call_keeps old tid count r new p h =
-    let before : IsState p.before = steps_keep_state (count - 1) tid old p.before p.steps h in
-    let called : IsState p.called = ecall_keeps_state p.before tid p.called p.calls before in
-    subst IsState (sym p.new_is) (closes p.after (call_keeps_state p.called tid p.answer r p.after p.answered called))
-
-fault_keeps : (old : State) (tid count : ℕ) (kind : FaultKind) (new : State) → EndsInFault old tid count kind new → IsState old →
-    IsState new
-fault_keeps old tid count kind new p h =
-    subst IsState (sym p.new_is)
-    (keeps-ended (guest_ends.Faulted kind) (closed p.before) tt
-    (closes p.before (steps_keep_state (count - 1) tid old p.before p.steps h)))
-
-stuck_keeps : (old : State) (tid count : ℕ) (new : State) → IsStuck old tid count new → IsState old → IsState new
-stuck_keeps old tid count new p h = subst IsState (sym p.new_is) (keeps-ended guest_ends.Stuck (closed old) tt (closes old h))
-
-by_end : (end : End) (old : State) (tid count : ℕ) (new : State) → FrameStepBy end old tid count new → IsState old → IsState new
-by_end Preempt old tid count new p h = preempt_keeps old tid count new p h
-by_end (Call r) old tid count new p h = ends_in_call_keeps old tid count r new p h
-by_end (Fault kind) old tid count new p h = fault_keeps old tid count kind new p h
-by_end Stuck old tid count new p h = stuck_keeps old tid count new p h
+answers_keep : (o : Option CallRecord) (tid : ℕ) (before after : State) → AnswersCall o tid before after → IsState before → IsState after
+answers_keep None tid before after e h = subst IsState (sym e) h
+answers_keep (Some r) tid before after (called, answer, calls, answered) h =
+    call_keeps_state called tid answer r after answered (ecall_keeps_state before tid called calls h)
 
 pub frames_keep_states : FramesKeepStates
-frames_keep_states old frame new h p = by_end frame.end old frame.tid frame.count new p.goes h
+frames_keep_states old frame new h step =
+    let p = frame_parts frame.end old frame.tid frame.count new step.goes in
+    let before : IsState p.before = steps_keep_state (plain_steps frame.end frame.count) frame.tid old p.before p.steps h in
+    let after : IsState p.after = answers_keep (call_in frame.end) frame.tid p.before p.after p.answers before in
+    subst IsState (sym p.new_is) (closing_keeps (guest_end frame.end) p.after (guest_end_is frame.end) after)
 
 -- ---- recorded guests
 

@@ -24,6 +24,7 @@
 //! - `recorded_states_are_states`: at each count of its instructions a recorded guest was in a state.
 //! - `checkpoints_exist`: a state that runs and has no reservation is described, against any state with its opening break, by
 //!   parts that have a text.
+//! - `End::has_thread`: whether a frame that ended so has a thread; `End::is_preempt`: whether that was preempted.
 //! - `Item::into_opening`: the opening that an item is; None exactly if it is another. `Opening::into_name`: its name.
 #![tactic(auto)]
 

@@ -1,4 +1,5 @@
 pub mod OneStep
+pub mod Reached
 pub mod Ecalls
 pub mod RecordedAnswers
 pub mod SliceLaws

@@ -252,16 +252,3 @@ module _ {O : Type 0} (gives : Gives O) (old new : GuestValue) (choice : Choice)
         answered = record { called = called; reaches = reaches; answered = answered };
         unasked = λ no. unasked (λ asks. no (record { called = called; reaches = reaches; asks = asks }));
       })
-
--- ---- a guest of which no thread runs
-
-abbrev stuck : Frame
-stuck = record { tid = 0; count = 0; end = ends.Stuck }
-
-pub stuck_slice : {O : Type 0} (gives : Gives O) (old new : GuestValue) (choice : Choice) (outside : O) (f : Frame) → f ≡ stuck →
-    FrameStep (state_of old) f (state_of new) → new.ran ≡ counted old.ran 0 → new.put ≡ old.put →
-    guest_snapshots new ≡ guest_snapshots old → IsSliceOf gives old choice f new outside outside
-stuck_slice gives old new choice outside f is step ran put snapshots =
-    same_frame gives old new choice outside outside stuck f is
-    (quiet_slice gives old new choice outside outside stuck refl (subst (λ (x : Frame). FrameStep (state_of old) x (state_of new)) is step)
-    (refl, refl) tt (record { ran = ran; put = put; snapshots = snapshots; environment = refl }))

@@ -1,13 +1,13 @@
 -- Where the steps of a frame lead.
-use Rattle.std.specs.Prelude.{◌≡◌, ℕ, ◌-◌, ◌<◌, ◌≤◌, ◌⊎◌, None, Result, Ok, Err}
+use Rattle.std.specs.Prelude.{◌≡◌, ℕ, ◌-◌, ◌<◌, ◌≤◌, ◌⊎◌, MatchBool, MatchOption, None, Result, Ok, Err}
 use Rattle.rrv_model.specs.declared.limits.TheConstants.{MAX_QUANTUM}
 use Rattle.rrv_model.specs.declared.machine.FaultKind.{FaultKind}
 use Rattle.rrv_model.specs.declared.record.End.{End}
-use Rattle.rrv_model.specs.declared.record.End.TheVariants as frame_ends
 use Rattle.rrv_model.specs.declared.record.Frame.{Frame}
 use Rattle.rrv_model.specs.State.{State, thread_at}
 use Rattle.rrv_model.specs.Step.{CallsFrom, FaultsFrom, ThreadMayStore}
 use Rattle.rrv_model.specs.FrameStep.{FrameStepBy, Steps}
+use Rattle.rrv_model.specs.Output.{call_in, has_thread}
 use Rattle.rv_machine.specs.declared.run.RunEnd.{RunEnd}
 use Rattle.rv_machine.specs.declared.run.RunEnd.TheVariants.{Limit, Call, Fault, Memory}
 use Rattle.guest_calls.specs.Growth.{CallMayGrow}
@@ -48,12 +48,13 @@ pub record CallMeetsNoMemory (old : State) (tid count : ℕ) : Type 0 where
   pub reaches : ReachesCall count tid old called
   pub grows : CallMayGrow called tid (thread_at called tid)
 
--- so on the way to such an end
+-- so on the way to such an end, of a frame that has a thread
 abbrev pub EndMeetsNoMemory : End → State → ℕ → ℕ → Type 0
-EndMeetsNoMemory frame_ends.Preempt old tid count = MeetsNoMemory old tid count
-EndMeetsNoMemory (frame_ends.Call r) old tid count = MeetsNoMemory old tid count ⊎ CallMeetsNoMemory old tid count
-EndMeetsNoMemory (frame_ends.Fault kind) old tid count = MeetsNoMemory old tid count
-EndMeetsNoMemory frame_ends.Stuck old tid count = ⊥
+EndMeetsNoMemory end old tid count =
+    MatchBool (has_thread end)
+    (MatchOption (call_in end) (MeetsNoMemory old tid count)
+    (λ _. MeetsNoMemory old tid count ⊎ CallMeetsNoMemory old tid count))
+    ⊥
 
 -- what following a frame of such an end comes to: the state that it leads to, or why there is none
 abbrev pub Follows : {T : Type 0} → End → State → ℕ → ℕ → Result T FollowFault → State → Type 0

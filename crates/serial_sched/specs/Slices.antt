@@ -1,14 +1,14 @@
 -- What the slice of a choice does.
-use Rattle.std.specs.Prelude.{◌≡◌, ℕ, ◌^◌, ◌<◌, ◌≤◌, ◌⊎◌, List, Option, None, IfNone, IfSome}
+use Rattle.std.specs.Prelude.{◌≡◌, ℕ, ◌^◌, ◌<◌, ◌≤◌, ◌⊎◌, Bool, true, false, List, Option, None, IfNone, IfSome}
 use Rattle.rrv_model.specs.declared.limits.TheConstants.{MAX_QUANTUM, MIN_QUANTUM}
 use Rattle.rrv_model.specs.declared.record.Choice.{Choice}
 use Rattle.rrv_model.specs.declared.record.End.{End}
-use Rattle.rrv_model.specs.declared.record.End.TheVariants.{Preempt, Call, Fault, Stuck}
+use Rattle.rrv_model.specs.declared.record.End.TheVariants.{Call}
 use Rattle.rrv_model.specs.declared.record.Frame.{Frame}
 use Rattle.rrv_model.specs.State.{State, thread_at, IsRunning}
 use Rattle.rrv_model.specs.Step.{CallsFrom, ThreadMayStore, ThreadMayTakeMemory}
 use Rattle.rrv_model.specs.FrameStep.{Steps, FrameStep}
-use Rattle.rrv_model.specs.Output.{Chunk, FramePuts, call_in}
+use Rattle.rrv_model.specs.Output.{Chunk, FramePuts, call_in, has_thread, is_preempt}
 use Rattle.rrv_model.specs.RecordText.{HasFrameText}
 use Rattle.guest_calls.specs.declared.put.Put.{Put}
 use Rattle.guest_calls.specs.Growth.{CallMayGrow}
@@ -37,12 +37,15 @@ pub record FindsNoMemory (old : State) (tid count : ℕ) : Type 0 where
 abbrev pub IsWhole : State → ℕ → ℕ → ℕ → Type 0
 IsWhole old tid count quantum = (count ≡ quantum) ⊎ ((count < quantum) × FindsNoMemory old tid count)
 
--- the frame is one of the chosen thread and within the quantum, unless no thread runs
+-- the frame is one of the chosen thread and within the quantum, unless it has no thread; whole if that was preempted
+abbrev pub FitsIf : (thread preempt : Bool) → State → Frame → Choice → Type 0
+FitsIf false preempt old f choice = Unit {0}
+FitsIf true true old f choice = (f.tid ≡ choice.tid) × IsWhole old f.tid f.count choice.quantum
+FitsIf true false old f choice = (f.tid ≡ choice.tid) × (f.count ≤ choice.quantum)
+
+-- so by how it ended
 abbrev pub FitsChoice : End → State → Frame → Choice → Type 0
-FitsChoice Preempt old f choice = (f.tid ≡ choice.tid) × IsWhole old f.tid f.count choice.quantum
-FitsChoice (Call r) old f choice = (f.tid ≡ choice.tid) × (f.count ≤ choice.quantum)
-FitsChoice (Fault kind) old f choice = (f.tid ≡ choice.tid) × (f.count ≤ choice.quantum)
-FitsChoice Stuck old f choice = Unit {0}
+FitsChoice end old f choice = FitsIf (has_thread end) (is_preempt end) old f choice
 
 -- what a call put out is what the frame puts out
 abbrev pub CallPuts : End → State → Frame → List Chunk → Type 0

@@ -9,6 +9,7 @@ use Rattle.rrv_model.specs.declared.record.End.TheVariants as ends
 use Rattle.rrv_model.specs.RecordText.{fault_number}
 use Rattle.rrv_model.specs.State.{State, register, thread_at}
 use Rattle.rrv_model.specs.FrameStep.{FrameStep}
+use Rattle.rrv_model.specs.Output.{has_thread}
 use Rattle.trace_text.specs.Lines.{fault_name, word_text, written_len}
 
 -- ---- places
@@ -22,12 +23,10 @@ next_text (Some t) = codes " pc=" ++ word_text t.regs.pc
 abbrev pub from_and_to : (from to : ℕ) → List ℕ
 from_and_to from to = codes " from=" ++ (decimal from ++ (codes " to=" ++ decimal to))
 
--- a frame that is stuck ran no thread
+-- and where the frame's thread goes on, if it has one
 abbrev pub places_text : End → (from to : ℕ) → Option Thread → List ℕ
-places_text ends.Preempt from to thread = from_and_to from to ++ next_text thread
-places_text (ends.Call r) from to thread = from_and_to from to ++ next_text thread
-places_text (ends.Fault kind) from to thread = from_and_to from to ++ next_text thread
-places_text ends.Stuck from to thread = from_and_to from to
+places_text end from to thread =
+    if has_thread end then from_and_to from to ++ next_text thread else from_and_to from to
 
 -- ---- names
 
@@ -102,11 +101,8 @@ stuck_event guest index from =
 
 -- the event of a frame
 abbrev pub event_line : (guest index : ℕ) → End → (from tid count : ℕ) → Option Thread → List ℕ
-event_line guest index ends.Preempt from tid count thread = run_event guest index ends.Preempt from tid count thread
-event_line guest index (ends.Call r) from tid count thread = run_event guest index (ends.Call r) from tid count thread
-event_line guest index (ends.Fault kind) from tid count thread =
-    run_event guest index (ends.Fault kind) from tid count thread
-event_line guest index ends.Stuck from tid count thread = stuck_event guest index from
+event_line guest index end from tid count thread =
+    if has_thread end then run_event guest index end from tid count thread else stuck_event guest index from
 
 -- ---- laws
 

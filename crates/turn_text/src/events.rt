@@ -57,17 +57,17 @@ impl<'a> fmt::Display for EventLine<'a> {
 
     fn fmt<W: fmt::Write>(&self, f: &mut fmt::Formatter<W>) -> fmt::Result {
         let thread = self.guest.thread(self.frame.tid);
-        match &self.frame.end {
-            End::Preempt | End::Call(_) | End::Fault(_) => write_run(
-                f,
-                self.guest_number,
-                self.index,
-                self.frame,
-                self.from,
-                thread,
-            ),
-            End::Stuck => write_stuck(f, self.guest_number, self.index, self.from),
+        if !self.frame.end.has_thread() {
+            return write_stuck(f, self.guest_number, self.index, self.from);
         }
+        write_run(
+            f,
+            self.guest_number,
+            self.index,
+            self.frame,
+            self.from,
+            thread,
+        )
     }
 }
 

@@ -8,13 +8,13 @@ ghost use Rattle.turn_text.specs.Turns.{next_text, places_text};
 
 use guest_calls::Guest;
 use rrv_model::machine::Thread;
-use rrv_model::record::{End, Frame};
+use rrv_model::record::Frame;
 use std::fmt;
 use trace_text::write_word;
 
 /// The places of a frame, after a space and without a newline, as in ` from=3716 to=3723 pc=0001012c`: how many
 /// instructions ran before it and up to its end, and the address of its thread's next instruction, which is `none` if
-/// the thread is gone. A frame that is stuck has no thread.
+/// the thread is gone. It is left out where no thread ran.
 #[derive(Drop)]
 pub struct PlacesText<'a> {
     frame: &'a Frame,
@@ -48,12 +48,10 @@ impl<'a> fmt::Display for PlacesText<'a> {
         let from = self.from;
         let to = self.to;
         write!(f, " from={from} to={to}")?;
-        match &self.frame.end {
-            End::Preempt | End::Call(_) | End::Fault(_) => {
-                write_next(f, self.guest.thread(self.frame.tid))
-            }
-            End::Stuck => Ok(()),
+        if !self.frame.end.has_thread() {
+            return Ok(());
         }
+        write_next(f, self.guest.thread(self.frame.tid))
     }
 }
 
