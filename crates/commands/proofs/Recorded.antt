@@ -10,7 +10,7 @@ use Rattle.recorder.specs.Recorded.{opening_of}
 use Rattle.trace_log.specs.Kept.{LogValue}
 use Rattle.session.specs.declared.job.Job.{Job}
 use Rattle.session.specs.declared.report.GuestReport.{GuestReport}
-use Rattle.session.specs.Gains.{Device}
+use Rattle.trace_disk.specs.Devices.{Device}
 use Rattle.session.specs.Sessions.{AreReported, HasRun, IsLeft, IsReported}
 use Rattle.session.specs.Works.{Choosers, IsRecordedFrom, Sinks, opening_for}
 use Rattle.commands.specs.Jobs.{AreJobs, IsJob, Terms}

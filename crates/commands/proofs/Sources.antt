@@ -40,11 +40,13 @@ read_failed e index disk_faults.Memory is other = inr is
 source_refused : (e : Refusal) (fault : VerifyFault) (records : List Record) → 1 ≤ length records → e ≡ verify_told fault →
     RefusesSource fault records → RefusesGuest e records
 source_refused e verify_faults.BadOpening records some is refuses = subst (λ (r : Refusal). RefusesGuest r records) (sym is) (some, refuses)
-source_refused e (verify_faults.Mismatch index) records some is refuses = subst (λ (r : Refusal). RefusesGuest r records) (sym is) refuses
+source_refused e (verify_faults.Mismatch index) records some is refuses =
+    subst (λ (r : Refusal). RefusesGuest r records) (sym is) (some, refuses)
 source_refused e (verify_faults.BadCheckpoint index) records some is refuses =
-    subst (λ (r : Refusal). RefusesGuest r records) (sym is) refuses
+    subst (λ (r : Refusal). RefusesGuest r records) (sym is) (some, refuses)
 source_refused e verify_faults.Memory records some is refuses = subst (λ (r : Refusal). RefusesGuest r records) (sym is) refuses
-source_refused e (verify_faults.Unreadable index) records some is refuses = subst (λ (r : Refusal). RefusesGuest r records) (sym is) refuses
+source_refused e (verify_faults.Unreadable index) records some is refuses =
+    subst (λ (r : Refusal). RefusesGuest r records) (sym is) (some, refuses)
 
 -- a verification is refused as its source's is
 pub guest_refused : {T : Type 0} (result : Result T Refusal) (records : List Record) → 1 ≤ length records →

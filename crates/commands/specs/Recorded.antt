@@ -7,7 +7,7 @@ use Rattle.host.specs.Stream.{opening_bytes}
 use Rattle.recorder.specs.Recorded.{opening_of}
 use Rattle.trace_log.specs.Kept.{Keeps, LogValue}
 use Rattle.session.specs.declared.report.GuestReport.{GuestReport}
-use Rattle.session.specs.Gains.{Device}
+use Rattle.trace_disk.specs.Devices.{Device}
 use Rattle.session.specs.Works.{IsRecordedFrom}
 use Rattle.commands.specs.Jobs.{Terms}
 use Rattle.commands.specs.Printed.{name_at}

@@ -5,8 +5,8 @@ use Rattle.rrv_model.specs.declared.record.Record.{Record}
 use Rattle.recover.specs.declared.fault.OpenFault.{OpenFault}
 use Rattle.recover.specs.Opened.{IsFailure, IsFaultOf}
 use Rattle.replayer.specs.declared.fault.VerifyFault.TheVariants as verify_faults
-use Rattle.replayer.specs.Refusals.{RefusesVerify}
 use Rattle.replayer.specs.Sourced.{RefusesSource}
+use Rattle.reverse_step.specs.declared.fault.SeekFault.TheVariants as seek_faults
 use Rattle.commands.specs.declared.refusal.Refusal.{Refusal}
 use Rattle.commands.specs.declared.refusal.Refusal.TheVariants as refusals
 use Rattle.commands.specs.Told.{open_told}
@@ -24,18 +24,15 @@ IsFailed e = (e ≡ refusals.DeviceFailed) ⊎ (e ≡ refusals.Memory)
 -- there was no memory
 abbrev pub RefusesGuest : Refusal → List Record → Type 0
 RefusesGuest refusals.NoSuchGuest records = records ≡ []
-RefusesGuest refusals.BadOpening records =
-    (1 ≤ length records) × RefusesVerify verify_faults.BadOpening records
-RefusesGuest (refusals.Mismatch index) records = RefusesVerify (verify_faults.Mismatch index) records
-RefusesGuest (refusals.BadCheckpoint index) records = RefusesVerify (verify_faults.BadCheckpoint index) records
 RefusesGuest refusals.Memory records = 1 ≤ length records
-RefusesGuest (refusals.Unreadable index) records = RefusesSource (verify_faults.Unreadable index) records
+RefusesGuest (refusals.Verify verify_faults.Memory) records = ⊥
+RefusesGuest (refusals.Verify fault) records = (1 ≤ length records) × RefusesSource fault records
 RefusesGuest _ records = ⊥
 
 -- why the state so many instructions before a place isn't printed
 abbrev pub RefusesPlace : Refusal → (total from count : ℕ) → Type 0
-RefusesPlace refusals.PastEnd total from count = total < from
-RefusesPlace refusals.BeforeStart total from count = (from ≤ total) × (from < count)
+RefusesPlace (refusals.Seek seek_faults.PastEnd) total from count = total < from
+RefusesPlace (refusals.Seek seek_faults.BeforeStart) total from count = (from ≤ total) × (from < count)
 RefusesPlace refusals.Memory total from count = Unit {0}
 RefusesPlace refusals.OutputFailed total from count = Unit {0}
 RefusesPlace _ total from count = ⊥

@@ -24,23 +24,19 @@ create_told create_faults.CannotOpen = refusals.CannotOpenStore
 create_told create_faults.DeviceFailed = refusals.DeviceFailed
 
 abbrev pub open_told : OpenFault → Refusal
-open_told open_faults.NotAStore = refusals.NotAStore
-open_told (open_faults.Damaged segment) = refusals.Damaged segment
 open_told open_faults.DeviceFailed = refusals.DeviceFailed
 open_told open_faults.Memory = refusals.Memory
-open_told open_faults.NewerVersion = refusals.NewerVersion
+open_told fault = refusals.Open fault
 
 abbrev pub session_told : SessionFault → Refusal
 session_told session_faults.DeviceFailed = refusals.DeviceFailed
-session_told session_faults.StoreFull = refusals.StoreFull
 session_told session_faults.Memory = refusals.Memory
 session_told (session_faults.SinkFailed guest) = refusals.OutputFailed
 session_told fault = refusals.Session fault
 
 abbrev pub seek_told : SeekFault → Refusal
-seek_told seek_faults.BeforeStart = refusals.BeforeStart
-seek_told seek_faults.PastEnd = refusals.PastEnd
 seek_told seek_faults.Memory = refusals.Memory
+seek_told fault = refusals.Seek fault
 
 abbrev pub output_told : OutputFault → Refusal
 output_told output_faults.SinkFailed = refusals.OutputFailed
@@ -49,15 +45,12 @@ output_told output_faults.Memory = refusals.Memory
 -- of a guest's record
 abbrev pub read_told : ℕ → ReadFault → Refusal
 read_told index read_faults.DeviceFailed = refusals.DeviceFailed
-read_told index read_faults.Damaged = refusals.Unreadable index
+read_told index read_faults.Damaged = refusals.Verify (verify_faults.Unreadable index)
 read_told index read_faults.Memory = refusals.Memory
 
 abbrev pub verify_told : VerifyFault → Refusal
-verify_told (verify_faults.Mismatch index) = refusals.Mismatch index
-verify_told (verify_faults.BadCheckpoint index) = refusals.BadCheckpoint index
-verify_told verify_faults.BadOpening = refusals.BadOpening
 verify_told verify_faults.Memory = refusals.Memory
-verify_told (verify_faults.Unreadable index) = refusals.Unreadable index
+verify_told fault = refusals.Verify fault
 
 -- of a guest's file
 abbrev pub elf_told : ℕ → ElfFault → Refusal

@@ -52,9 +52,10 @@ IsDumped form records old new =
 -- why records aren't printed that are replayed: those before the one that is named are a recording, and with it they are none
 abbrev pub RefusesTurns : Refusal → List Record → Type 0
 RefusesTurns refusals.NoSuchGuest records = records ≡ []
-RefusesTurns refusals.BadOpening records = RefusesVerify verify_faults.BadOpening (take 1 records)
-RefusesTurns (refusals.Mismatch index) records = RefusesVerify (verify_faults.Mismatch index) (take (suc index) records)
-RefusesTurns (refusals.BadCheckpoint index) records =
+RefusesTurns (refusals.Verify verify_faults.BadOpening) records = RefusesVerify verify_faults.BadOpening (take 1 records)
+RefusesTurns (refusals.Verify (verify_faults.Mismatch index)) records =
+    RefusesVerify (verify_faults.Mismatch index) (take (suc index) records)
+RefusesTurns (refusals.Verify (verify_faults.BadCheckpoint index)) records =
     RefusesVerify (verify_faults.BadCheckpoint index) (take (suc index) records)
 RefusesTurns refusals.DeviceFailed records = 1 ≤ length records
 RefusesTurns refusals.Memory records = 1 ≤ length records

@@ -7,7 +7,7 @@ ghost use Rattle.choices.specs.Recorded.{choices_text, ended_line, line_of};
 ghost use Rattle.commands.specs.Stores.{RefusesChoices};
 
 use crate::files::read_whole;
-use crate::printing::{finish, in_blocks, print_line};
+use crate::printing::{OutputFailed, finish, in_blocks, print_line};
 use crate::refusal::Refusal;
 use choices::{BadChoices, choices_in, line_of};
 use replayer::Verified;
@@ -58,9 +58,8 @@ pub(crate) fn choices_in_files<R: Files + Input + AllocGlobal>(
 }
 
 /// Prints the line of a frame's choice, where it has one.
-fn print_choice<W: Write>(frame: &Frame, out: &mut W) -> Result<(), Refusal>
+fn print_choice<W: Write>(frame: &Frame, out: &mut W) -> Result<(), OutputFailed>
     ensures printed { OnOk result (Appends (W.contents out.old) (W.contents out.new) (ended_line (line_of frame.now))) }
-    ensures refused { IfErr result (λ e. e ≡ Refusal.OutputFailed) }
 {
     match line_of(frame) {
         Some(line) => print_line(out, &line),
@@ -69,9 +68,8 @@ fn print_choice<W: Write>(frame: &Frame, out: &mut W) -> Result<(), Refusal>
 }
 
 /// Prints the choices of frames, a line each.
-fn print_choices<W: Write>(frames: &[Frame], out: &mut W) -> Result<(), Refusal>
+fn print_choices<W: Write>(frames: &[Frame], out: &mut W) -> Result<(), OutputFailed>
     ensures printed { OnOk result (Appends (W.contents out.old) (W.contents out.new) (choices_text frames.now)) }
-    ensures refused { IfErr result (λ e. e ≡ Refusal.OutputFailed) }
 {
     for frame in frames {
         print_choice(frame, out)?;

@@ -8,9 +8,10 @@ use crate::record::record_images;
 use crate::refusal::Refusal;
 use crate::replaying::tell;
 use crate::store::{Store, opened};
-use crate::verifying::end_in;
+use crate::verifying::verified_in;
 use command_line::{DumpForm, Then};
 use elf_load::Image;
+use replayer::VerifiedEnd;
 use std::alloc::Global;
 use std::io::Write;
 use std::sync::Wait;
@@ -69,7 +70,7 @@ fn shown<R: AllocGlobal + Clock, O: Write, E: Write + Drop>(
 ) -> Result<(), Refusal> {
     let mut store = store;
     dump(rt.alloc(), &mut store, 0, DumpForm::Lines, out)?;
-    let end = end_in(rt, rt.alloc(), store, 0, false, err)?;
+    let end: VerifiedEnd = verified_in(rt, rt.alloc(), store, 0, false, err)?;
     tell(rt.alloc(), &end, false, out)
 }
 

@@ -5,8 +5,9 @@ use crate::refusal::Refusal;
 use crate::reports::print_report;
 use crate::store::{Store, opened};
 use crate::stored::StoredGuest;
-use crate::verifying::{extent_of, verified_end};
+use crate::verifying::{extent_of, verified};
 use guest_calls::Outside;
+use replayer::VerifiedEnd;
 use rrv_model::sink::Sink;
 use serial_sched::Chooser;
 use session::{GuestReport, Job, SessionFault};
@@ -112,7 +113,14 @@ fn print_ended<R: Clock, D: Disk + Drop, W: Write>(
         guest,
         withheld: None,
     };
-    let end = verified_end(rt, alloc, &mut source, all, false, &mut io::sink());
+    let end: Result<VerifiedEnd, Refusal> = verified(
+        rt,
+        alloc,
+        &mut source,
+        all,
+        false,
+        &mut io::sink(),
+    );
     if let Ok(end) = end {
         let report = GuestReport {
             number: guest,

@@ -65,7 +65,8 @@ fn print_guest<D: Disk, W: Write>(
         count.frames,
         count.instructions,
     );
-    print_line(out, &line)
+    print_line(out, &line)?;
+    Ok(())
 }
 
 /// Prints a line for each guest, by rising number.

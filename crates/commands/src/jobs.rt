@@ -10,8 +10,9 @@ use crate::refusal::Refusal;
 use choices::Schedule;
 use command_line::Then;
 use elf_load::Image;
-use host::{Machine, StreamSink, Streams, opening_random};
+use host::{HostOutside, StreamSink, Streams, opening_random};
 use rrv_model::record::Choice;
+use rrv_model::refusal::Memory;
 use session::{Job, SessionFault};
 use std::alloc::Global;
 use std::io::Write;
@@ -19,7 +20,7 @@ use std::sync::Mutex;
 use std::time::{Clock, Instant};
 
 /// A guest whose threads run by choices and then in turns, with the host as its environment, and whose output goes to the two streams.
-pub(crate) type HostJob<'a, 's, R, O, E> = Job<Schedule, Machine<'a, R>, StreamSink<'s, O, E>>;
+pub(crate) type HostJob<'a, 's, R, O, E> = Job<Schedule, HostOutside<'a, R>, StreamSink<'s, O, E>>;
 
 /// What the guests of a recording share, beside the streams.
 #[derive(Drop)]
@@ -37,9 +38,8 @@ pub(crate) struct Shared<'a, R: Clock> {
 }
 
 /// The name of the guest at this place of the line: `g`, and the place in decimal.
-pub(crate) fn name_of(alloc: Global, place: usize) -> Result<Vec<u8>, Refusal>
+pub(crate) fn name_of(alloc: Global, place: usize) -> Result<Vec<u8>, Memory>
     ensures name { IfOk result (λ name. name.items ≡ name_at place) }
-    ensures refused { IfErr result (λ e. e ≡ Refusal.Memory) }
 {
     let name = format!(in alloc; "g{place}")?;
     Ok(name.into_bytes())
@@ -70,10 +70,9 @@ fn schedule_of<R: Clock>(
     alloc: Global,
     shared: &Shared<'_, R>,
     place: usize,
-) -> Result<Schedule, Refusal>
+) -> Result<Schedule, Memory>
     ensures schedule { IfOk result (λ schedule. schedule ≡ plan_at (terms_of shared.now.input.now shared.now.seed
         shared.now.quantum shared.now.every shared.now.choices.now shared.now.then) place) }
-    ensures refused { IfErr result (λ e. e ≡ Refusal.Memory) }
 {
     let choices = Vec::from_slice(alloc, choices_at(shared.choices, place))?;
     match shared.then {
@@ -89,10 +88,9 @@ fn job_of<'a, 's, R: Clock, O: Write + Drop, E: Write + Drop>(
     streams: &'s Mutex<Streams<O, E>>,
     place: u32,
     image: Image,
-) -> Result<HostJob<'a, 's, R, O, E>, Refusal>
+) -> Result<HostJob<'a, 's, R, O, E>, Memory>
     ensures job { IfOk result (λ job. IsJob (terms_of shared.now.input.now shared.now.seed shared.now.quantum
         shared.now.every shared.now.choices.now shared.now.then) place image job) }
-    ensures refused { IfErr result (λ e. e ≡ Refusal.Memory) }
 {
     Ok(Job {
         elf: image.into_file(),
@@ -100,7 +98,7 @@ fn job_of<'a, 's, R: Clock, O: Write + Drop, E: Write + Drop>(
         random: opening_random(&shared.seed, place),
         every: shared.every,
         chooser: schedule_of(alloc, shared, place as usize)?,
-        outside: Machine::new(shared.rt, shared.start, shared.input, &shared.seed, place),
+        outside: HostOutside::new(shared.rt, shared.start, shared.input, &shared.seed, place),
         sink: StreamSink::new(streams),
     })
 }

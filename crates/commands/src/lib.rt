@@ -10,8 +10,8 @@
 //!   calls it over a file, and the line of no words over a disk in memory.
 //! - `opened`, `looked` (private): a store and its records as `recover::open` or `recover::read` has them, for any disk; a refusal
 //!   is the one that the bytes have, failures aside. That a store is read alone if it can't be written or locked is tested.
-//! - `guest_in`, `verified_in`, `end_in` (private): the guest of a number, and its records, or where they end, verified as they
-//!   are read from the disk one at a time. `NoSuchGuest` comes exactly if the store has none of that number, and other refusals
+//! - `guest_in`, `verified_in` (private): the guest of a number, and its records, or where they end, verified as they are read
+//!   from the disk one at a time. `NoSuchGuest` comes exactly if the store has none of that number, and other refusals
 //!   are those of `verify_source`. This and what follows of printed records is said of an honest disk on which the records
 //!   stand; a file isn't one.
 //! - `print_turns` (private): if it returns Ok, a writer that tells its bytes got the text of each record by the instructions
@@ -32,7 +32,7 @@
 //! - `lasts_of`, `misfits_of` (private): of each job the thread that its schedule chose last, and the first choice that didn't
 //!   fit.
 //! - `read_program`: all bytes of the file, and at most 2,097,152, else `CannotReadFile` or out of memory.
-//! - `verified`, `verified_end` (private): the record that they report as unreadable is one that the source says it withheld.
+//! - `verified` (private): the record that it reports as unreadable is one that the source says it withheld.
 //!   `StoredGuest`, the source over a store, says so of the place that it was last asked for and did not give.
 //! - `print_put` (private): bytes for descriptor 2 are appended to the errors, all others to the output, whole.
 //! - `run`: status 2 only for a bad line, and 0 never for one. A call of help ends with 0 or 1: no contract says that its

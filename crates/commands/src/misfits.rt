@@ -5,7 +5,7 @@ ghost use Rattle.std.specs.Io.KnownBytes.{Appends};
 ghost use Rattle.commands.specs.Misfits.{misfit_text, misfits_from};
 ghost use Rattle.commands.specs.Printed.{with_newline};
 
-use crate::printing::print_line;
+use crate::printing::{OutputFailed, print_line};
 use crate::refusal::Refusal;
 use choices::{Misfit, Schedule};
 use guest_calls::Outside;
@@ -54,10 +54,12 @@ pub(crate) fn misfits_of<O: Outside + Drop, S: Sink + Drop>(
 }
 
 /// Prints a line for each choice that didn't fit.
-pub(crate) fn print_misfits<W: Write>(misfits: &[GuestMisfit], out: &mut W) -> Result<(), Refusal>
+pub(crate) fn print_misfits<W: Write>(
+    misfits: &[GuestMisfit],
+    out: &mut W,
+) -> Result<(), OutputFailed>
     ensures printed { OnOk result (Appends (W.contents out.old) (W.contents out.new)
         (flat_map (λ m. with_newline (misfit_text m)) misfits.now)) }
-    ensures refused { IfErr result (λ e. e ≡ Refusal.OutputFailed) }
 {
     for misfit in misfits {
         print_line(out, misfit)?;

@@ -1,6 +1,6 @@
 //! What is printed.
 
-ghost use Rattle.std.specs.Prelude.{◌≡◌, ◌≢◌, IfErr, IfSome, OnOk};
+ghost use Rattle.std.specs.Prelude.{◌≡◌, ◌≢◌, IfSome, OnOk};
 ghost use Rattle.std.specs.Io.KnownBytes.{Appends, Keeps};
 ghost use Rattle.commands.specs.Printed.{with_newline};
 
@@ -9,17 +9,20 @@ use std::alloc::Global;
 use std::fmt::Display;
 use std::io::{BufWriter, Write};
 
+/// The writer did not take what was printed.
+#[derive(Clone, Copy, Debug)]
+pub(crate) struct OutputFailed;
+
 /// A writer that collects what it is given, and writes it in blocks.
 pub(crate) fn in_blocks<W: Write + Drop>(alloc: Global, out: W) -> Result<BufWriter<W>, Refusal> {
     BufWriter::new(alloc, out).map_err(|_| Refusal::Memory)
 }
 
 /// Prints a text.
-pub(crate) fn print_text<W: Write, T: Display>(out: &mut W, text: &T) -> Result<(), Refusal>
+pub(crate) fn print_text<W: Write, T: Display>(out: &mut W, text: &T) -> Result<(), OutputFailed>
     ensures printed { OnOk result (IfSome (T.output text.now) (Appends (W.contents out.old) (W.contents out.new))) }
-    ensures refused { IfErr result (λ e. e ≡ Refusal.OutputFailed) }
 {
-    write!(out, "{text}").map_err(|_| Refusal::OutputFailed)
+    write!(out, "{text}").map_err(|_| OutputFailed)
 }
 
 /// Prints a text in one write, so that nothing of another program comes between its parts. Where there is no memory to put it together,
@@ -28,25 +31,21 @@ pub(crate) fn print_whole<W: Write, T: Display>(
     alloc: Global,
     text: &T,
     out: &mut W,
-) -> Result<(), Refusal>
+) -> Result<(), OutputFailed>
     ensures printed { OnOk result (IfSome (T.output text.now) (Appends (W.contents out.old) (W.contents out.new))) }
-    ensures refused { IfErr result (λ e. e ≡ Refusal.OutputFailed) }
 {
     match text.to_string(alloc) {
-        Ok(whole) => out
-            .write_all(whole.as_bytes())
-            .map_err(|_| Refusal::OutputFailed),
+        Ok(whole) => out.write_all(whole.as_bytes()).map_err(|_| OutputFailed),
         Err(_) => print_text(out, text),
     }
 }
 
 /// Prints a text and a newline.
-pub(crate) fn print_line<W: Write, T: Display>(out: &mut W, line: &T) -> Result<(), Refusal>
+pub(crate) fn print_line<W: Write, T: Display>(out: &mut W, line: &T) -> Result<(), OutputFailed>
     ensures printed { OnOk result (IfSome (T.output line.now)
         (λ text. Appends (W.contents out.old) (W.contents out.new) (with_newline text))) }
-    ensures refused { IfErr result (λ e. e ≡ Refusal.OutputFailed) }
 {
-    writeln!(out, "{line}").map_err(|_| Refusal::OutputFailed)
+    writeln!(out, "{line}").map_err(|_| OutputFailed)
 }
 
 /// Writes what was collected.

@@ -5,6 +5,7 @@ ghost use Rattle.std.specs.IoError.{error_kind};
 ghost use Rattle.commands.specs.Told.{create_told, elf_told, open_told, output_told, read_told, seek_told, session_told, verify_told};
 ghost use Rattle.commands.specs.declared.refusal.Refusal.TheVariants as refusals;
 
+use crate::printing::OutputFailed;
 use command_line::BadSeed;
 use elf_load::ElfFault;
 use recover::{OpenFault, ReadFault};
@@ -39,39 +40,18 @@ pub enum Refusal {
     /// A call of the disk failed.
     #[error("device failed")]
     DeviceFailed,
-    /// The store is as long as it may be, or has as many segments.
-    #[error("store full")]
-    StoreFull,
-    /// The disk holds no store.
-    #[error("not a store")]
-    NotAStore,
-    /// A segment of the store isn't whole, or holds no record.
-    #[error("damaged segment {segment}")]
-    Damaged { segment: u32 },
-    /// A newer version wrote the store.
-    #[error("newer version")]
-    NewerVersion,
-    /// A record of the store was not read: the store no longer holds it, or the device failed.
-    #[error("record {index} unreadable")]
-    Unreadable { index: usize },
-    /// A record doesn't follow from those before it.
-    #[error("record {index} does not replay")]
-    Mismatch { index: usize },
-    /// The parts of which this record is the last don't describe the state there.
-    #[error("checkpoint {index} is wrong")]
-    BadCheckpoint { index: usize },
-    /// The first record is no opening of a guest.
-    #[error("bad opening")]
-    BadOpening,
+    /// The disk holds no store that can be opened.
+    #[error("{fault}")]
+    Open { fault: OpenFault },
+    /// The guest's records are no recording, or one of them was not read.
+    #[error("{fault}")]
+    Verify { fault: VerifyFault },
     /// The store has no guest of this number.
     #[error("no such guest")]
     NoSuchGuest,
-    /// The place lies before the start.
-    #[error("before the start")]
-    BeforeStart,
-    /// The place lies past the end.
-    #[error("past the end")]
-    PastEnd,
+    /// The place lies outside the recording.
+    #[error("{fault}")]
+    Seek { fault: SeekFault },
     /// The session met what only a session meets.
     #[error("{fault}")]
     Session { fault: SessionFault },
@@ -92,13 +72,20 @@ pub enum Refusal {
     Memory,
 }
 
+impl From<OutputFailed> for Refusal {
+    ghost from_gives = { λ _ e. e ≡ refusals.OutputFailed };
+
+    fn from(_: OutputFailed) -> Self {
+        Refusal::OutputFailed
+    }
+}
+
 impl From<SessionFault> for Refusal {
     ghost from_gives = { λ fault e. e ≡ session_told fault };
 
     fn from(fault: SessionFault) -> Self {
         match fault {
             SessionFault::DeviceFailed => Refusal::DeviceFailed,
-            SessionFault::StoreFull => Refusal::StoreFull,
             SessionFault::Memory => Refusal::Memory,
             SessionFault::SinkFailed { .. } => Refusal::OutputFailed,
             fault => Refusal::Session { fault },
@@ -146,9 +133,8 @@ impl From<SeekFault> for Refusal {
 
     fn from(fault: SeekFault) -> Self {
         match fault {
-            SeekFault::BeforeStart => Refusal::BeforeStart,
-            SeekFault::PastEnd => Refusal::PastEnd,
             SeekFault::Memory => Refusal::Memory,
+            fault => Refusal::Seek { fault },
         }
     }
 }
@@ -193,11 +179,8 @@ impl From<VerifyFault> for Refusal {
 
     fn from(fault: VerifyFault) -> Self {
         match fault {
-            VerifyFault::Mismatch { index } => Refusal::Mismatch { index },
-            VerifyFault::BadCheckpoint { index } => Refusal::BadCheckpoint { index },
-            VerifyFault::BadOpening => Refusal::BadOpening,
-            VerifyFault::Unreadable { index } => Refusal::Unreadable { index },
             VerifyFault::Memory => Refusal::Memory,
+            fault => Refusal::Verify { fault },
         }
     }
 }
@@ -207,11 +190,9 @@ impl From<OpenFault> for Refusal {
 
     fn from(fault: OpenFault) -> Self {
         match fault {
-            OpenFault::NotAStore => Refusal::NotAStore,
-            OpenFault::Damaged { segment } => Refusal::Damaged { segment },
             OpenFault::DeviceFailed => Refusal::DeviceFailed,
             OpenFault::Memory => Refusal::Memory,
-            OpenFault::NewerVersion => Refusal::NewerVersion,
+            fault => Refusal::Open { fault },
         }
     }
 }
@@ -245,8 +226,10 @@ impl Refusal {
     {
         match fault {
             ReadFault::DeviceFailed => Refusal::DeviceFailed,
-            ReadFault::Damaged => Refusal::Unreadable {
-                index: index as usize,
+            ReadFault::Damaged => Refusal::Verify {
+                fault: VerifyFault::Unreadable {
+                    index: index as usize,
+                },
             },
             ReadFault::Memory => Refusal::Memory,
         }

@@ -1,14 +1,13 @@
 //! The end of a verified recording, told, and its output, put out again.
 
-ghost use Rattle.std.specs.Prelude.{◌≡◌, [], IfErr, OnOk};
+ghost use Rattle.std.specs.Prelude.{◌≡◌, [], OnOk};
 ghost use Rattle.std.specs.Io.KnownBytes.{Appends};
 ghost use Rattle.guest_calls.specs.Guest.{state_of};
 ghost use Rattle.trace_text.specs.Lines.{verify_line};
 ghost use Rattle.commands.specs.Printed.{with_newline};
-ghost use Rattle.commands.specs.Stores.{RefusesPrint};
 ghost use Rattle.commands.specs.Turns.{end_told};
 
-use crate::printing::{finish, in_blocks, print_line, print_put, print_text};
+use crate::printing::{OutputFailed, finish, in_blocks, print_line, print_put, print_text};
 use crate::refusal::Refusal;
 use end_text::EndLines;
 use replayer::{Verified, VerifiedEnd};
@@ -19,20 +18,18 @@ use std::sync::Wait;
 use trace_text::VerifyLine;
 
 /// Prints how many records and instructions a recording has, and how it ends.
-fn print_end<W: Write>(end: &VerifiedEnd, out: &mut W) -> Result<(), Refusal>
+fn print_end<W: Write>(end: &VerifiedEnd, out: &mut W) -> Result<(), OutputFailed>
     ensures printed { OnOk result (Appends (W.contents out.old) (W.contents out.new)
         (with_newline (verify_line end.now.len end.now.total (state_of end.now.guest).ended))) }
-    ensures refused { IfErr result RefusesPrint }
 {
     let line = VerifyLine::new(end.len as u64, end.total, end.guest.ended());
     print_line(out, &line)
 }
 
 /// Prints the same and, where `is_long` says so, what ended the guest.
-fn print_told<W: Write>(end: &VerifiedEnd, is_long: bool, out: &mut W) -> Result<(), Refusal>
+fn print_told<W: Write>(end: &VerifiedEnd, is_long: bool, out: &mut W) -> Result<(), OutputFailed>
     ensures printed { OnOk result (Appends (W.contents out.old) (W.contents out.new)
         (end_told is_long end.now.len end.now.total end.now.last (state_of end.now.guest))) }
-    ensures refused { IfErr result RefusesPrint }
 {
     print_end(end, out)?;
     if !is_long {

@@ -62,7 +62,8 @@ pub(crate) fn print_report<W: Write>(
         return Ok(());
     }
     let lines = EndLines::new(guest, guest.ran(), last);
-    print_text(out, &lines)
+    print_text(out, &lines)?;
+    Ok(())
 }
 
 /// Prints how each guest ended, in the order of the line.

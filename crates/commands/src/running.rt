@@ -15,7 +15,7 @@ use crate::refusal::Refusal;
 use crate::replaying::tell;
 use crate::store::{make_store, open_store};
 use crate::terminals::Terminals;
-use crate::verifying::end_in;
+use crate::verifying::verified_in;
 use clap::error::ErrorKind as LineFault;
 use command_line::{GuestOf, Request, line};
 use replayer::VerifiedEnd;
@@ -85,7 +85,8 @@ pub fn report<O: Write, E: Write>(
     match error.kind() {
         LineFault::OutOfMemory => report_refusal(alloc, &Refusal::Memory, err),
         LineFault::DisplayHelp | LineFault::DisplayVersion => {
-            report_result(alloc, print_whole(alloc, error, out), err)
+            let printed = print_whole(alloc, error, out).map_err(Refusal::from);
+            report_result(alloc, printed, err)
         }
         _ => {
             let _ = print_whole(alloc, error, err);
@@ -222,5 +223,5 @@ fn guest_end<R: Files<File = File> + AllocGlobal + Clock, E: Write + Drop>(
     err: &mut E,
 ) -> Result<VerifiedEnd, Refusal> {
     let store = open_store(rt, guest.store)?;
-    end_in(rt, rt.alloc(), store, guest.number, is_shown, err)
+    verified_in(rt, rt.alloc(), store, guest.number, is_shown, err)
 }

@@ -8,7 +8,7 @@ ghost use Rattle.reverse_step.specs.Changes.{IsLastChange};
 ghost use Rattle.commands.specs.Printed.{IsFoundText, IsStateText, place_in, ranges_lines};
 ghost use Rattle.commands.specs.Stores.{RefusesPlace};
 
-use crate::printing::{finish, in_blocks, print_line, print_text};
+use crate::printing::{OutputFailed, finish, in_blocks, print_line, print_text};
 use crate::refusal::Refusal;
 use command_line::{MemoryRange, Place};
 use guest_calls::Guest;
@@ -62,10 +62,13 @@ fn cursor_back<'a>(
 }
 
 /// Prints the bytes of some ranges of a guest's memory.
-fn print_ranges<W: Write>(guest: &Guest, ranges: &[MemoryRange], out: &mut W) -> Result<(), Refusal>
+fn print_ranges<W: Write>(
+    guest: &Guest,
+    ranges: &[MemoryRange],
+    out: &mut W,
+) -> Result<(), OutputFailed>
     ensures printed { OnOk result (Appends (W.contents out.old) (W.contents out.new)
         (ranges_lines (state_of guest.now).memory ranges.now)) }
-    ensures refused { IfErr result (λ e. e ≡ Refusal.OutputFailed) }
 {
     for range in ranges {
         let lines = MemoryLines::new(guest.space(), range.address, range.length);
@@ -80,12 +83,11 @@ fn print_state<W: Write>(
     steps: u64,
     ranges: &[MemoryRange],
     out: &mut W,
-) -> Result<(), Refusal>
+) -> Result<(), OutputFailed>
     requires { steps ≡ total cursor.now.verified.frames }
     ensures printed { OnOk result ((text : List ℕ)
         × IsStateText cursor.now.verified.opening cursor.now.verified.frames ranges.now cursor.now.place text
         × Appends (W.contents out.old) (W.contents out.new) text) }
-    ensures refused { IfErr result (λ e. e ≡ Refusal.OutputFailed) }
 {
     let guest = cursor.guest();
     let lines = StateLines::new(guest, cursor.place(), steps);
@@ -110,7 +112,8 @@ fn print_back<W: Write>(
         RefusesPlace e (total verified.now.frames) (place_in (total verified.now.frames) from) count) }
 {
     let cursor = cursor_back(alloc, verified, place_in(from, verified), count)?;
-    print_state(&cursor, verified.total(), ranges, out)
+    print_state(&cursor, verified.total(), ranges, out)?;
+    Ok(())
 }
 
 /// Prints the state before the last change, below a place, of the byte at an address, or that there is none.
@@ -132,8 +135,8 @@ fn print_last<W: Write>(
 {
     let mut cursor = cursor_at(alloc, verified, place_in(from, verified))?;
     match cursor.last_change(alloc, address)? {
-        Some(_) => print_state(&cursor, verified.total(), ranges, out),
-        None => print_line(out, &"unchanged"),
+        Some(_) => Ok(print_state(&cursor, verified.total(), ranges, out)?),
+        None => Ok(print_line(out, &"unchanged")?),
     }
 }
 

@@ -7,7 +7,7 @@ ghost use Rattle.guest_calls.specs.Guest.{state_of};
 ghost use Rattle.recover.specs.Spots.{records_of, StandOn};
 ghost use Rattle.commands.specs.Turns.{IsDumped, PrintsTurns, RefusesTurns, dump_end, turn_text};
 
-use crate::printing::{print_line, print_text};
+use crate::printing::{OutputFailed, print_line, print_text};
 use crate::refusal::Refusal;
 use crate::store::{guest_in, record_in};
 use command_line::DumpForm;
@@ -27,10 +27,9 @@ fn print_turn<W: Write>(
     from: u64,
     following: &Following,
     out: &mut W,
-) -> Result<(), Refusal>
+) -> Result<(), OutputFailed>
     ensures printed { OnOk result (Appends (W.contents out.old) (W.contents out.new)
         (turn_text form entry.now from following.now.total (state_of following.now.guest))) }
-    ensures refused { IfErr result (λ e. e ≡ Refusal.OutputFailed) }
 {
     let guest = following.guest();
     match form {
@@ -44,9 +43,8 @@ fn print_turn<W: Write>(
 }
 
 /// Prints what ends the text of all records.
-fn print_dump_end<W: Write>(form: DumpForm, out: &mut W) -> Result<(), Refusal>
+fn print_dump_end<W: Write>(form: DumpForm, out: &mut W) -> Result<(), OutputFailed>
     ensures printed { OnOk result (Appends (W.contents out.old) (W.contents out.new) (dump_end form)) }
-    ensures refused { IfErr result (λ e. e ≡ Refusal.OutputFailed) }
 {
     match form {
         DumpForm::Lines | DumpForm::Places => Ok(()),
@@ -99,5 +97,6 @@ pub(crate) fn print_turns<D: Disk, W: Write>(
 {
     let guest = guest_in(lists, number)?;
     print_turns_of(alloc, lists, disk, guest, form, out)?;
-    print_dump_end(form, out)
+    print_dump_end(form, out)?;
+    Ok(())
 }

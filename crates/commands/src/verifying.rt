@@ -1,11 +1,11 @@
 //! The verification of a guest's records.
 
-ghost use Rattle.std.specs.Prelude.{◌≡◌, IfErr, IfOk, length};
+ghost use Rattle.std.specs.Prelude.{◌≡◌, IfErr, IfOk, List, length};
+ghost use Rattle.rrv_model.specs.declared.record.Record.{Record};
 ghost use Rattle.rrv_model.specs.Recording.{frames_of, items_of};
 ghost use Rattle.rrv_model.specs.Recovered.{of_guest};
 ghost use Rattle.rrv_model.specs.StateAt.{total};
 ghost use Rattle.recover.specs.Spots.{records_of, StandOn};
-ghost use Rattle.replayer.specs.declared.fault.VerifyFault.{VerifyFault};
 ghost use Rattle.replayer.specs.Sourced.{IsEndOf, NamesWithheld, RefusesSource};
 ghost use Rattle.replayer.specs.Verified.{Keeps};
 ghost use Rattle.commands.specs.Stores.{RefusesGuest};
@@ -16,7 +16,9 @@ use crate::store::{Store, guest_in};
 use crate::stored::StoredGuest;
 use progress::{Count, VerifyProgress};
 use recover::Lists;
-use replayer::{Source, Verified, VerifiedEnd, verify_source_end, verify_source_watched};
+use replayer::{
+    Source, Verified, VerifiedEnd, VerifyFault, Watch, verify_source_end, verify_source_watched,
+};
 use std::alloc::Global;
 use std::io::Write;
 use std::sync::atomic::AtomicBool;
@@ -34,16 +36,56 @@ pub(crate) fn extent_of(lists: &Lists, guest: u32) -> Count
     }
 }
 
-/// The recording that a source's records are. How far it is, of `all`, goes to `err`, where `is_shown` says so.
-fn verified<R: Clock, S: Source, E: Write + Drop>(
+/// What is kept of records as they are verified: their recording, or where it ends.
+pub(crate) trait Kept: Sized + Drop {
+    /// That it is of just these records.
+    ghost is_of: { Self → List Record → Type 0 };
+
+    /// Verifies the records that a source gives, one at a time, and tells after each how far it is.
+    fn verify<S: Source, W: Watch>(
+        alloc: Global,
+        source: &mut S,
+        watch: &mut W,
+    ) -> Result<Self, VerifyFault>
+        ensures is_of { S.honest source.old → IfOk result (λ kept. is_of kept (S.records source.old)) }
+        ensures refused { S.honest source.old → IfErr result (λ fault. RefusesSource fault (S.records source.old)) }
+        ensures names { IfErr result (NamesWithheld S.withheld_at source.new) };
+}
+
+impl Kept for Verified {
+    ghost is_of = { Keeps };
+
+    fn verify<S: Source, W: Watch>(
+        alloc: Global,
+        source: &mut S,
+        watch: &mut W,
+    ) -> Result<Verified, VerifyFault> {
+        verify_source_watched(alloc, source, watch)
+    }
+}
+
+impl Kept for VerifiedEnd {
+    ghost is_of = { IsEndOf };
+
+    fn verify<S: Source, W: Watch>(
+        alloc: Global,
+        source: &mut S,
+        watch: &mut W,
+    ) -> Result<VerifiedEnd, VerifyFault> {
+        verify_source_end(alloc, source, watch)
+    }
+}
+
+/// What is kept of a source's records, verified. How far it is, of `all`, goes to `err`, where `is_shown` says so.
+pub(crate) fn verified<K: Kept, R: Clock, S: Source, E: Write + Drop>(
     rt: &R,
     alloc: Global,
     source: &mut S,
     all: Count,
     is_shown: bool,
     err: &mut E,
-) -> Result<Verified, Refusal>
-    ensures keeps { S.honest source.old → IfOk result (λ verified. Keeps verified (S.records source.old)) }
+) -> Result<K, Refusal>
+    ensures is_of { S.honest source.old → IfOk result (λ kept. K.is_of kept (S.records source.old)) }
     ensures refused { S.honest source.old → IfErr result (λ e.
         (fault : VerifyFault) × (e ≡ verify_told fault) × RefusesSource fault (S.records source.old)) }
     ensures names { IfErr result (λ e.
@@ -51,44 +93,22 @@ fn verified<R: Clock, S: Source, E: Write + Drop>(
 {
     let line = AtomicBool::new(false);
     let mut progress = VerifyProgress::new(rt, err, &line, all, is_shown);
-    let result = verify_source_watched(alloc, source, &mut progress);
+    let result = K::verify(alloc, source, &mut progress);
     progress.end();
     Ok(result?)
 }
 
-/// Where the recording that a source's records are ends. How far it is, of `all`, goes to `err`, where `is_shown` says so.
-pub(crate) fn verified_end<R: Clock, S: Source, E: Write + Drop>(
-    rt: &R,
-    alloc: Global,
-    source: &mut S,
-    all: Count,
-    is_shown: bool,
-    err: &mut E,
-) -> Result<VerifiedEnd, Refusal>
-    ensures ends { S.honest source.old → IfOk result (λ end. IsEndOf end (S.records source.old)) }
-    ensures refused { S.honest source.old → IfErr result (λ e.
-        (fault : VerifyFault) × (e ≡ verify_told fault) × RefusesSource fault (S.records source.old)) }
-    ensures names { IfErr result (λ e.
-        (fault : VerifyFault) × (e ≡ verify_told fault) × NamesWithheld S.withheld_at source.new fault) }
-{
-    let line = AtomicBool::new(false);
-    let mut progress = VerifyProgress::new(rt, err, &line, all, is_shown);
-    let result = verify_source_end(alloc, source, &mut progress);
-    progress.end();
-    Ok(result?)
-}
-
-/// The recording of the guest of this number of a store, whose records are read one at a time.
-pub(crate) fn verified_in<R: Clock, D: Disk + Drop, E: Write + Drop>(
+/// What is kept of the recording of the guest of this number of a store, whose records are read one at a time.
+pub(crate) fn verified_in<K: Kept, R: Clock, D: Disk + Drop, E: Write + Drop>(
     rt: &R,
     alloc: Global,
     store: Store<D>,
     number: u64,
     is_shown: bool,
     err: &mut E,
-) -> Result<Verified, Refusal>
-    ensures keeps { StandOn D.honest D.state store.disk store.lists
-        → IfOk result (λ verified. Keeps verified (of_guest number (records_of store.lists))) }
+) -> Result<K, Refusal>
+    ensures is_of { StandOn D.honest D.state store.disk store.lists
+        → IfOk result (λ kept. K.is_of kept (of_guest number (records_of store.lists))) }
     ensures refused { StandOn D.honest D.state store.disk store.lists
         → IfErr result (λ e. RefusesGuest e (of_guest number (records_of store.lists))) }
 {
@@ -102,30 +122,4 @@ pub(crate) fn verified_in<R: Clock, D: Disk + Drop, E: Write + Drop>(
         withheld: None,
     };
     verified(rt, alloc, &mut source, all, is_shown, err)
-}
-
-/// Where the recording of the guest of this number of a store ends. Its records are read one at a time, and none is kept.
-pub(crate) fn end_in<R: Clock, D: Disk + Drop, E: Write + Drop>(
-    rt: &R,
-    alloc: Global,
-    store: Store<D>,
-    number: u64,
-    is_shown: bool,
-    err: &mut E,
-) -> Result<VerifiedEnd, Refusal>
-    ensures ends { StandOn D.honest D.state store.disk store.lists
-        → IfOk result (λ end. IsEndOf end (of_guest number (records_of store.lists))) }
-    ensures refused { StandOn D.honest D.state store.disk store.lists
-        → IfErr result (λ e. RefusesGuest e (of_guest number (records_of store.lists))) }
-{
-    let Store { lists, disk } = store;
-    let guest = guest_in(&lists, number)?;
-    let all = extent_of(&lists, guest);
-    let mut source = StoredGuest {
-        lists,
-        disk,
-        guest,
-        withheld: None,
-    };
-    verified_end(rt, alloc, &mut source, all, is_shown, err)
 }

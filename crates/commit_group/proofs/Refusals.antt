@@ -4,6 +4,7 @@ use Rattle.std.specs.Prelude.{Option}
 use Rattle.rrv_model.specs.declared.record.Record.{Record}
 use Rattle.store_model.specs.CrashModel.{DiskState}
 use Rattle.rrv_model.specs.Recovered.{body_text}
+use Rattle.trace_disk.specs.Devices.{Device}
 use Rattle.trace_log.specs.Kept.{LogValue, IsPastLimit}
 use Rattle.commit_core.specs.World.{World, store_text}
 use Rattle.commit_core.specs.World.Stage.{Idle}
@@ -83,38 +84,38 @@ of_same {D = D} Holds old new log log' seat same h =
 
 -- ---- the turns
 
-pub shortages_are_events : {D : Type 0} (honest : D → Type 0) (state : D → DiskState) (faults : D → ℕ) →
-    ShortagesAreEvents honest state faults
+pub shortages_are_events : {D : Type 0} (device : Device D) → ShortagesAreEvents device
 unfolding received with_waiting
-shortages_are_events {D = D} honest state faults old new log log' w rest turn before queue =
+shortages_are_events {D = D} device old new log log' w rest turn before queue =
     let b = new.first_guest in
     let u = received w turn.more rest in
-    let stands = received_stands state b old log w turn.more rest before in
-    let both = of_same (λ f l. StandsFor state (base b) f l u) (after_receive old b turn.more) new log log' turn.seat turn.refused stands in
-    comes_by (StandsFor state (base b) new log') w (received w turn.more rest) (pops turn.more rest) rest
+    let stands = received_stands device.state b old log w turn.more rest before in
+    let both = of_same (λ f l. StandsFor device.state (base b) f l u) (after_receive old b turn.more) new log log' turn.seat turn.refused
+    stands in
+    comes_by (StandsFor device.state (base b) new log') w (received w turn.more rest) (pops turn.more rest) rest
     (pops_schedule w turn.more rest queue) (received_by w turn.more rest queue) both refl refl
 
-pub limits_are_events : {D : Type 0} (honest : D → Type 0) (state : D → DiskState) (faults : D → ℕ) → LimitsAreEvents honest state faults
+pub limits_are_events : {D : Type 0} (device : Device D) → LimitsAreEvents device
 unfolding received with_waiting
-limits_are_events {D = D} honest state faults old new log log' w rest turn before queue =
+limits_are_events {D = D} device old new log log' w rest turn before queue =
     let b = new.first_guest in
     let u = received w turn.more rest in
     let v = after u Halt in
     let count = turn.refused.count in
     let f = after_halt (after_receive old b turn.more) in
     let stands =
-    halted_stands state (base b) (after_receive old b turn.more) log u (received_stands state b old log w turn.more rest before) in
-    let never = past_limit state (base b) f log v count stands turn.refused.past in
-    let both = of_same (λ g l. StandsFor state (base b) g l v) f new log log' turn.seat turn.refused.same stands in
-    comes_by (λ end. StandsFor state (base b) new log' end × (CanWrite end count → ⊥)) w v (pops turn.more rest ++ Halt ∷ []) rest
+    halted_stands device.state (base b) (after_receive old b turn.more) log u
+    (received_stands device.state b old log w turn.more rest before) in
+    let never = past_limit device.state (base b) f log v count stands turn.refused.past in
+    let both = of_same (λ g l. StandsFor device.state (base b) g l v) f new log log' turn.seat turn.refused.same stands in
+    comes_by (λ end. StandsFor device.state (base b) new log' end × (CanWrite end count → ⊥)) w v (pops turn.more rest ++ Halt ∷ []) rest
     (schedule-append w (pops turn.more rest) (Halt ∷ []) (pops_schedule w turn.more rest queue) (tt, tt))
     (run-append w (pops turn.more rest) (Halt ∷ []) ∙ ap (λ (x : World). after x Halt) (received_by w turn.more rest queue))
     (both, never) refl refl
 
-pub halted_turns_are_no_events : {D : Type 0} (honest : D → Type 0) (state : D → DiskState) (faults : D → ℕ) →
-    HaltedTurnsAreNoEvents honest state faults
-halted_turns_are_no_events {D = D} honest state faults stage first old new log log' w refused stands = (
+pub halted_turns_are_no_events : {D : Type 0} (device : Device D) → HaltedTurnsAreNoEvents device
+halted_turns_are_no_events {D = D} device stage first old new log log' w refused stands = (
   stands.halted ∙ refused.0,
-  of_same (λ f l. StandsAt state stage first f l w) old new log log' refused.1 refused.2 stands,
-  of_same (λ f l. StandsFor state first f l w) old new log log' refused.1 refused.2,
+  of_same (λ f l. StandsAt device.state stage first f l w) old new log log' refused.1 refused.2 stands,
+  of_same (λ f l. StandsFor device.state first f l w) old new log log' refused.1 refused.2,
 )

@@ -9,6 +9,7 @@ use Rattle.rrv_model.specs.declared.record.Record.{Record}
 use Rattle.store_model.specs.CrashModel.{DiskState}
 use Rattle.rrv_model.specs.Recovered.{body_text, of_guest}
 use Rattle.store_model.specs.StoreCalls.{after_disk_calls, commit_calls, DiskCall, IsStopped}
+use Rattle.trace_disk.specs.Devices.{Device}
 use Rattle.trace_log.specs.Kept.{Keeps, LogValue, IsWithinLimits}
 use Rattle.commit_core.specs.World.{World, Flusher, joined, stored_bodies, committed_count, store_text}
 use Rattle.commit_core.specs.World.Stage.{Idle, Broken}
@@ -245,11 +246,11 @@ module _ {D : Type 0} (state : D → DiskState) (first : ℕ) (old : FlusherValu
 
 -- ---- a turn
 
-module _ {D : Type 0} (honest : D → Type 0) (state : D → DiskState) (faults : D → ℕ) (old new : FlusherValue) (log log' : LogValue D)
+module _ {D : Type 0} (device : Device D) (old new : FlusherValue) (log log' : LogValue D)
     (k : ℕ) (w : World) (rest : List Record)
-    (turn : TurnCommits honest state faults old new log log' k) (is_honest : honest log.disk)
-    (before : StandsFor state (base new.first_guest) old log w) (queue : w.queue ≡ turn.more ++ rest) where
-  stands : StandsAt state Idle (base new.first_guest) old log w
+    (turn : TurnCommits device old new log log' k) (is_honest : device.honest log.disk)
+    (before : StandsFor device.state (base new.first_guest) old log w) (queue : w.queue ≡ turn.more ++ rest) where
+  stands : StandsAt device.state Idle (base new.first_guest) old log w
   stands = before.stands
 
   -- the world once the turn has received
@@ -258,11 +259,11 @@ module _ {D : Type 0} (honest : D → Type 0) (state : D → DiskState) (faults 
 
   waiting_is : u.flusher.waiting ≡ old.waiting ++ turn.more
   unfolding u
-  waiting_is = received_waiting state (base new.first_guest) old log w turn.more rest before
+  waiting_is = received_waiting device.state (base new.first_guest) old log w turn.more rest before
 
   can : CanWrite u k
   unfolding u
-  can = received_can state (base new.first_guest) old log w turn.more rest before k turn.flushed.commits.batch
+  can = received_can device.state (base new.first_guest) old log w turn.more rest before k turn.flushed.commits.batch
       turn.flushed.commits.committed.within_limits turn.few
 
   reaches_u : Reaches w u
@@ -322,7 +323,7 @@ module _ {D : Type 0} (honest : D → Type 0) (state : D → DiskState) (faults 
   u_calls : commit_calls (gate_place u) (length (stored_bodies u)) (body_text (take k u.flusher.waiting))
       ≡ commit_calls log.gate log.segments (next_body (old.waiting ++ turn.more) k)
   unfolding u
-  u_calls = received_calls state (base new.first_guest) old log w turn.more rest before k
+  u_calls = received_calls device.state (base new.first_guest) old log w turn.more rest before k
 
   u_stored : stored_bodies u ≡ stored_bodies w
   unfolding u received with_waiting
@@ -345,7 +346,7 @@ module _ {D : Type 0} (honest : D → Type 0) (state : D → DiskState) (faults 
       (λ i. same_x.bodies i ++ map body_text (x_flusher i).finished) ∙ one_body_more w.bodies u.flusher.finished (take k u.flusher.waiting)
       ∙ (λ i. (w.bodies ++ map body_text (u_finished i)) ++ body_text (batch_is i) ∷ [])
 
-  x_disk : x.disk ≡ state log'.disk
+  x_disk : x.disk ≡ device.state log'.disk
   unfolding x
   x_disk =
       disk_after u k
@@ -353,13 +354,13 @@ module _ {D : Type 0} (honest : D → Type 0) (state : D → DiskState) (faults 
       ∙ ap (λ (d : DiskState). after_disk_calls d (commit_calls log.gate log.segments (next_body (old.waiting ++ turn.more) k))) stands.disk
       ∙ sym (turn.flushed.commits.committed.calls is_honest)
 
-  x_keeps : Keeps state log' (stored_bodies w ++ next_body (old.waiting ++ turn.more) k ∷ [])
+  x_keeps : Keeps device.state log' (stored_bodies w ++ next_body (old.waiting ++ turn.more) k ∷ [])
   x_keeps = let h =
       turn.flushed.commits.committed.kept (stored_bodies w) is_honest before.keeps in
       record { settled = h.settled; gate = h.gate; segments = h.segments }
 
   -- and then all counts are published
-  told_all : (y : World) → HasPublished w.guests x y → ComesTo (StandsFor state (base new.first_guest) new log') w rest
+  told_all : (y : World) → HasPublished w.guests x y → ComesTo (StandsFor device.state (base new.first_guest) new log') w rest
   told_all y h =
       let s = turn.seat in
       let guests : w.guests ≡ new.group.guests = stands.guests ∙ ap (λ (f : FlusherValue). f.group.guests) (sym s) in
@@ -389,25 +390,25 @@ module _ {D : Type 0} (honest : D → Type 0) (state : D → DiskState) (faults 
             disk = h.disk ∙ x_disk;
           };
           hand = hand;
-          keeps = subst (Keeps state log') (sym ((λ i. h.bodies i ++ map body_text (h.flusher i).finished) ∙ x_stored)) x_keeps;
+          keeps = subst (Keeps device.state log') (sym ((λ i. h.bodies i ++ map body_text (h.flusher i).finished) ∙ x_stored)) x_keeps;
         };
         queue = h.queue ∙ same_x.left;
         recorders = h.recorders ∙ same_x.recorders;
       }
 
-  is_events : ComesTo (StandsFor state (base new.first_guest) new log') w rest
+  is_events : ComesTo (StandsFor device.state (base new.first_guest) new log') w rest
   is_events = let p = publishes w.guests x (let e = same_x.guests in omega arith) in told_all p.0 p.1
 
-pub turns_are_events : {D : Type 0} (honest : D → Type 0) (state : D → DiskState) (faults : D → ℕ) → TurnsAreEvents honest state faults
-turns_are_events honest state faults old new log log' k w rest turn is_honest stands queue =
-    is_events honest state faults old new log log' k w rest turn is_honest stands queue
+pub turns_are_events : {D : Type 0} (device : Device D) → TurnsAreEvents device
+turns_are_events device old new log log' k w rest turn is_honest stands queue =
+    is_events device old new log log' k w rest turn is_honest stands queue
 
 -- ---- a turn whose commit was stopped
 
-module _ {D : Type 0} (honest : D → Type 0) (state : D → DiskState) (faults : D → ℕ) (old new : FlusherValue) (log log' : LogValue D)
+module _ {D : Type 0} (device : Device D) (old new : FlusherValue) (log log' : LogValue D)
     (w : World) (rest : List Record)
-    (turn : TurnRefused honest state faults old new log log' DeviceFailed) (is_honest : honest log.disk)
-    (before : StandsFor state (base new.first_guest) old log w) (queue : w.queue ≡ turn.more ++ rest) where
+    (turn : TurnRefused device old new log log' DeviceFailed) (is_honest : device.honest log.disk)
+    (before : StandsFor device.state (base new.first_guest) old log w) (queue : w.queue ≡ turn.more ++ rest) where
   abbrev count : ℕ
   count = turn.refused.count
 
@@ -416,29 +417,29 @@ module _ {D : Type 0} (honest : D → Type 0) (state : D → DiskState) (faults 
   received_all = received w turn.more rest
 
   unfoldable failed : World
-  failed = stopped_world received_all count (state log'.disk)
+  failed = stopped_world received_all count (device.state log'.disk)
 
   failed_reached : Reaches w failed
   unfolding failed received_all
   failed_reached =
       let v = received w turn.more rest in
       let stands = before.stands in
-      let can = received_can state (base new.first_guest) old log w turn.more rest before count turn.refused.batch
+      let can = received_can device.state (base new.first_guest) old log w turn.more rest before count turn.refused.batch
       turn.refused.stopped.within_limits turn.few in
-      let calls = received_calls state (base new.first_guest) old log w turn.more rest before count in
-      let disk : v.disk ≡ state log.disk = received_disk state (base new.first_guest) old log w turn.more rest before in
+      let calls = received_calls device.state (base new.first_guest) old log w turn.more rest before count in
+      let disk : v.disk ≡ device.state log.disk = received_disk device.state (base new.first_guest) old log w turn.more rest before in
       let stopped : IsStopped v.disk (commit_calls (gate_place v) (length (stored_bodies v)) (body_text (take count v.flusher.waiting)))
-      (state log'.disk) =
-      subst (λ (c : List DiskCall). IsStopped v.disk c (state log'.disk)) (sym calls)
+      (device.state log'.disk) =
+      subst (λ (c : List DiskCall). IsStopped v.disk c (device.state log'.disk)) (sym calls)
       (subst (λ (d : DiskState). IsStopped d (commit_calls log.gate log.segments (next_body (old.waiting ++ turn.more) count))
-      (state log'.disk)) (sym disk) (turn.refused.stopped.calls is_honest)) in
-      reaches_both w v (stopped_world v count (state log'.disk)) (receives w turn.more rest queue)
-      (stops v count (state log'.disk) can stopped)
+      (device.state log'.disk)) (sym disk) (turn.refused.stopped.calls is_honest)) in
+      reaches_both w v (stopped_world v count (device.state log'.disk)) (receives w turn.more rest queue)
+      (stops v count (device.state log'.disk) can stopped)
 
   halted_reached : Reaches w (after failed Halt)
   halted_reached = reaches_both w failed (after failed Halt) failed_reached (reaches_one failed Halt tt)
 
-  failure_is_events : ComesTo (StandsAt state Broken (base new.first_guest) new log') w rest
+  failure_is_events : ComesTo (StandsAt device.state Broken (base new.first_guest) new log') w rest
   unfolding failed received_all stopped_world received with_waiting
   failure_is_events =
       let s = turn.seat in
@@ -451,7 +452,7 @@ module _ {D : Type 0} (honest : D → Type 0) (state : D → DiskState) (faults 
           guests = stands.guests ∙ ap (λ (f : FlusherValue). f.group.guests) (sym s);
           first_is = stands.first_is;
           finished = stands.finished ∙ ap (λ (f : FlusherValue). f.committed) (sym s);
-          waiting = take-append-drop count all ∙ received_waiting state (base new.first_guest) old log w turn.more rest before
+          waiting = take-append-drop count all ∙ received_waiting device.state (base new.first_guest) old log w turn.more rest before
               ∙ ap (λ (f : FlusherValue). f.waiting) (sym s);
           told = λ g low. stands.told g low ∙ ap (λ (f : FlusherValue). slice_index f.told g) (sym s);
           totals = λ g low. stands.totals g low ∙ ap (λ (f : FlusherValue). slice_index f.totals g) (sym s);
@@ -463,7 +464,6 @@ module _ {D : Type 0} (honest : D → Type 0) (state : D → DiskState) (faults 
         recorders = refl;
       }
 
-pub failures_are_events : {D : Type 0} (honest : D → Type 0) (state : D → DiskState) (faults : D → ℕ) →
-    FailuresAreEvents honest state faults
-failures_are_events honest state faults old new log log' w rest turn is_honest stands queue =
-    failure_is_events honest state faults old new log log' w rest turn is_honest stands queue
+pub failures_are_events : {D : Type 0} (device : Device D) → FailuresAreEvents device
+failures_are_events device old new log log' w rest turn is_honest stands queue =
+    failure_is_events device old new log log' w rest turn is_honest stands queue

@@ -3,6 +3,7 @@ use Rattle.std.specs.Prelude.{◌≡◌, ℕ, ◌+◌, ◌<◌, ◌≤◌, true,
 use Rattle.std.specs.List.{range_with_len}
 use Rattle.rrv_model.specs.declared.record.Record.{Record}
 use Rattle.store_model.specs.CrashModel.{DiskState}
+use Rattle.trace_disk.specs.Devices.{Device}
 use Rattle.trace_log.specs.Kept.{Keeps, LogValue}
 use Rattle.commit_core.specs.World.{World, Stage, joined, committed_count, stored_bodies}
 use Rattle.commit_core.specs.World.Stage.{Idle, Broken}
@@ -51,20 +52,20 @@ pub record ComesTo (Holds : World → Type 0) (w : World) (rest : List Record) :
 -- A turn that commits comes to what events of the world do. Let the seat and the log stand for the flusher of a world,
 -- whose queue begins with what the turn received: then some events may happen there, and the seat and the log stand for
 -- the flusher of the world behind them.
-abbrev pub TurnsAreEvents : {D : Type 0} → (D → Type 0) → (D → DiskState) → (D → ℕ) → Type 0
-TurnsAreEvents {D = D} honest state faults =
+abbrev pub TurnsAreEvents : {D : Type 0} → Device D → Type 0
+TurnsAreEvents {D = D} device =
     (old new : FlusherValue) (log log' : LogValue D) (count : ℕ) (w : World) (rest : List Record)
-    → (turn : TurnCommits honest state faults old new log log' count) → honest log.disk
-    → StandsFor state (base new.first_guest) old log w → w.queue ≡ turn.more ++ rest
-    → ComesTo (StandsFor state (base new.first_guest) new log') w rest
+    → (turn : TurnCommits device old new log log' count) → device.honest log.disk
+    → StandsFor device.state (base new.first_guest) old log w → w.queue ≡ turn.more ++ rest
+    → ComesTo (StandsFor device.state (base new.first_guest) new log') w rest
 
 -- So does one whose commit a failed call of the disk stopped: the flusher is then broken, and halted as the seat is.
-abbrev pub FailuresAreEvents : {D : Type 0} → (D → Type 0) → (D → DiskState) → (D → ℕ) → Type 0
-FailuresAreEvents {D = D} honest state faults =
+abbrev pub FailuresAreEvents : {D : Type 0} → Device D → Type 0
+FailuresAreEvents {D = D} device =
     (old new : FlusherValue) (log log' : LogValue D) (w : World) (rest : List Record)
-    → (turn : TurnRefused honest state faults old new log log' DeviceFailed) → honest log.disk
-    → StandsFor state (base new.first_guest) old log w → w.queue ≡ turn.more ++ rest
-    → ComesTo (StandsAt state Broken (base new.first_guest) new log') w rest
+    → (turn : TurnRefused device old new log log' DeviceFailed) → device.honest log.disk
+    → StandsFor device.state (base new.first_guest) old log w → w.queue ≡ turn.more ++ rest
+    → ComesTo (StandsAt device.state Broken (base new.first_guest) new log') w rest
 
 -- ---- turns that commit nothing
 
@@ -86,29 +87,29 @@ pub record ComesBy (events : List Event) (Holds : World → Type 0) (w : World) 
   pub recorders : (run w events).recorders ≡ w.recorders
 
 -- A turn that found no memory only received.
-abbrev pub ShortagesAreEvents : {D : Type 0} → (D → Type 0) → (D → DiskState) → (D → ℕ) → Type 0
-ShortagesAreEvents {D = D} honest state faults =
+abbrev pub ShortagesAreEvents : {D : Type 0} → Device D → Type 0
+ShortagesAreEvents {D = D} device =
     (old new : FlusherValue) (log log' : LogValue D) (w : World) (rest : List Record)
-    → (turn : TurnRefused honest state faults old new log log' Memory)
-    → StandsFor state (base new.first_guest) old log w → w.queue ≡ turn.more ++ rest
-    → ComesBy (pops turn.more rest) (StandsFor state (base new.first_guest) new log') w rest
+    → (turn : TurnRefused device old new log log' Memory)
+    → StandsFor device.state (base new.first_guest) old log w → w.queue ≡ turn.more ++ rest
+    → ComesBy (pops turn.more rest) (StandsFor device.state (base new.first_guest) new log') w rest
 
 -- One whose batch is past a limit received, and halted; no more may that batch be written in the world.
-abbrev pub LimitsAreEvents : {D : Type 0} → (D → Type 0) → (D → DiskState) → (D → ℕ) → Type 0
-LimitsAreEvents {D = D} honest state faults =
+abbrev pub LimitsAreEvents : {D : Type 0} → Device D → Type 0
+LimitsAreEvents {D = D} device =
     (old new : FlusherValue) (log log' : LogValue D) (w : World) (rest : List Record)
-    → (turn : TurnRefused honest state faults old new log log' TooLong)
-    → StandsFor state (base new.first_guest) old log w → w.queue ≡ turn.more ++ rest
+    → (turn : TurnRefused device old new log log' TooLong)
+    → StandsFor device.state (base new.first_guest) old log w → w.queue ≡ turn.more ++ rest
     → ComesBy (pops turn.more rest ++ Halt ∷ [])
-    (λ end. StandsFor state (base new.first_guest) new log' end × (CanWrite end turn.refused.count → ⊥)) w rest
+    (λ end. StandsFor device.state (base new.first_guest) new log' end × (CanWrite end turn.refused.count → ⊥)) w rest
 
 -- One of a group that was halted earlier did nothing: the flusher of the world has halted, and all stands as it stood.
-abbrev pub HaltedTurnsAreNoEvents : {D : Type 0} → (D → Type 0) → (D → DiskState) → (D → ℕ) → Type 0
-HaltedTurnsAreNoEvents {D = D} honest state faults =
+abbrev pub HaltedTurnsAreNoEvents : {D : Type 0} → Device D → Type 0
+HaltedTurnsAreNoEvents {D = D} device =
     (stage : Stage) (first : ℕ) (old new : FlusherValue) (log log' : LogValue D) (w : World)
-    → RefusesTurn honest state faults old new log log' Halted → StandsAt state stage first old log w
-    → (w.flusher.halted ≡ true) × StandsAt state stage first new log' w
-    × (StandsFor state first old log w → StandsFor state first new log' w)
+    → RefusesTurn device old new log log' Halted → StandsAt device.state stage first old log w
+    → (w.flusher.halted ≡ true) × StandsAt device.state stage first new log' w
+    × (StandsFor device.state first old log w → StandsFor device.state first new log' w)
 
 -- up to this guest's the leave words are those that the seat knows
 abbrev pub WordsStand : World → FlusherValue → ℕ → Type 0

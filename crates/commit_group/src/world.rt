@@ -7,27 +7,27 @@ use trace_disk::Disk;
 
 /// A turn that commits is a list of the world's events.
 pub fn turns_are_events<D: Disk>()
-    ensures { TurnsAreEvents D.honest D.state D.faults }
+    ensures { TurnsAreEvents D.Disk }
 {}
 
 /// And so is one that a failed call of the disk stopped.
 pub fn failures_are_events<D: Disk>()
-    ensures { FailuresAreEvents D.honest D.state D.faults }
+    ensures { FailuresAreEvents D.Disk }
 {}
 
 /// One that found no memory only received.
 pub fn shortages_are_events<D: Disk>()
-    ensures { ShortagesAreEvents D.honest D.state D.faults }
+    ensures { ShortagesAreEvents D.Disk }
 {}
 
 /// One whose records would have passed a limit of the store received, and halted.
 pub fn limits_are_events<D: Disk>()
-    ensures { LimitsAreEvents D.honest D.state D.faults }
+    ensures { LimitsAreEvents D.Disk }
 {}
 
 /// One of a group that was halted earlier did nothing.
 pub fn halted_turns_are_no_events<D: Disk>()
-    ensures { HaltedTurnsAreNoEvents D.honest D.state D.faults }
+    ensures { HaltedTurnsAreNoEvents D.Disk }
 {}
 
 /// One that answered `Idle` looked at leave words, and in the world not all guests have left with all committed.

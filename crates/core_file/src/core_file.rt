@@ -10,6 +10,7 @@ ghost use Rattle.guest_calls.specs.Guest.{state_of};
 ghost use Rattle.core_file.specs.Core.{core_of, head, run_bytes};
 ghost use Rattle.core_file.specs.Runs.{AreAlike, Fits};
 
+use crate::counts::Counts;
 use crate::headers::{put_elf_header, put_headers, put_padding};
 use crate::notes::put_notes;
 use crate::runs::{Run, collect_runs};
@@ -76,11 +77,15 @@ fn head_of(alloc: Global, threads: &Threads, runs: &[Run], first: u32) -> Result
 {
     let parts = threads.to_parts(alloc)?;
     let (headers, count) = (1 + runs.len() as u32, parts.len() as u32);
+    let counts = Counts {
+        headers,
+        threads: count,
+    };
     let mut out = Vec::new(alloc);
     put_elf_header(&mut out, headers as u16)?;
-    put_headers(&mut out, count, runs)?;
+    put_headers(&mut out, counts, runs)?;
     put_notes(&mut out, parts.as_slice(), first)?;
-    put_padding(&mut out, headers, count)?;
+    put_padding(&mut out, counts)?;
     Ok(out)
 }
 

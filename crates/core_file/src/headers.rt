@@ -1,10 +1,11 @@
 //! The headers of a core file (System V ABI, "ELF Header" and "Program Header").
 
-ghost use Rattle.std.specs.Prelude.{◌≡◌, ◌++◌, ◌<◌, ◌≤◌, ◌^◌, ◌+◌, ◌-◌, ◌*◌, flat_map, length, OnOk, All};
+ghost use Rattle.std.specs.Prelude.{◌≡◌, ◌++◌, ◌<◌, ◌≤◌, ◌^◌, ◌+◌, ◌-◌, ◌*◌, flat_map, OnOk, All};
 ghost use Rattle.core_file.specs.Headers.{elf_header, file_fields, header_text, identification, table_fields, zeros};
 ghost use Rattle.core_file.specs.Core.{headers_text, load_header, note_header, notes_end, notes_offset, pages_offset};
 ghost use Rattle.core_file.specs.Runs.{Fits};
 
+use crate::counts::Counts;
 use crate::numbers::{put_half, put_number, put_zeros};
 use crate::runs::Run;
 use rrv_model::limits::PAGE_BYTES;
@@ -114,34 +115,28 @@ fn notes_offset(headers: u32) -> u32
 }
 
 /// Where the notes end, in bytes.
-fn notes_end(headers: u32, threads: u32) -> u32
-    requires headers { headers ≤ 16385 }
-    requires threads { threads ≤ 16 }
-    ensures { result ≡ notes_end headers threads }
+fn notes_end(counts: Counts) -> u32
+    ensures { result ≡ notes_end counts.headers counts.threads }
 {
-    notes_offset(headers) + NOTE_BYTES * threads
+    notes_offset(counts.headers) + NOTE_BYTES * counts.threads
 }
 
 /// Where the pages begin, in bytes.
-fn pages_offset(headers: u32, threads: u32) -> u32
-    requires headers { headers ≤ 16385 }
-    requires threads { threads ≤ 16 }
-    ensures { result ≡ pages_offset headers threads }
+fn pages_offset(counts: Counts) -> u32
+    ensures { result ≡ pages_offset counts.headers counts.threads }
 {
-    (notes_end(headers, threads) + (PAGE_BYTES - 1)) / PAGE_BYTES * PAGE_BYTES
+    (notes_end(counts) + (PAGE_BYTES - 1)) / PAGE_BYTES * PAGE_BYTES
 }
 
 /// The header of the notes.
-fn note_header(headers: u32, threads: u32) -> ProgramHeader
-    requires headers { headers ≤ 16385 }
-    requires threads { threads ≤ 16 }
-    ensures { result ≡ note_header headers threads }
+fn note_header(counts: Counts) -> ProgramHeader
+    ensures { result ≡ note_header counts.headers counts.threads }
 {
     ProgramHeader {
         kind: PT_NOTE,
-        offset: notes_offset(headers),
+        offset: notes_offset(counts.headers),
         address: 0,
-        file_len: NOTE_BYTES * threads,
+        file_len: NOTE_BYTES * counts.threads,
         memory_len: 0,
         flags: 0,
         align: 4,
@@ -166,15 +161,12 @@ fn load_header(pages_at: u32, run: &Run) -> ProgramHeader
 }
 
 /// The header of the notes, and those of the runs.
-pub(crate) fn put_headers(out: &mut Vec<u8>, threads: u32, runs: &[Run]) -> Result<(), AllocError>
-    requires few { length runs.now ≤ 16384 }
-    requires threads { threads ≤ 16 }
-    requires fit { All Fits runs.now }
-    ensures { OnOk result (out.new.items ≡ out.old.items ++ headers_text (1 + length runs.now) threads runs.now) }
+pub(crate) fn put_headers(out: &mut Vec<u8>, counts: Counts, runs: &[Run]) -> Result<(), AllocError>
+    requires { All Fits runs.now }
+    ensures { OnOk result (out.new.items ≡ out.old.items ++ headers_text counts.headers counts.threads runs.now) }
 {
-    let headers = 1 + runs.len() as u32;
-    put_header(out, &note_header(headers, threads))?;
-    put_loads(out, pages_offset(headers, threads), runs)
+    put_header(out, &note_header(counts))?;
+    put_loads(out, pages_offset(counts), runs)
 }
 
 /// The headers of the runs, where the pages begin here.
@@ -191,14 +183,9 @@ fn put_loads(out: &mut Vec<u8>, pages_at: u32, runs: &[Run]) -> Result<(), Alloc
 }
 
 /// Zeros from the end of the notes to the first page.
-pub(crate) fn put_padding(out: &mut Vec<u8>, headers: u32, threads: u32) -> Result<(), AllocError>
-    requires headers { headers ≤ 16385 }
-    requires threads { threads ≤ 16 }
+pub(crate) fn put_padding(out: &mut Vec<u8>, counts: Counts) -> Result<(), AllocError>
     ensures { OnOk result (out.new.items ≡ out.old.items
-        ++ zeros (pages_offset headers threads - notes_end headers threads)) }
+        ++ zeros (pages_offset counts.headers counts.threads - notes_end counts.headers counts.threads)) }
 {
-    put_zeros(
-        out,
-        pages_offset(headers, threads) - notes_end(headers, threads),
-    )
+    put_zeros(out, pages_offset(counts) - notes_end(counts))
 }

@@ -16,6 +16,7 @@
 #![tactic(auto)]
 
 mod core_file;
+mod counts;
 mod headers;
 mod laws;
 mod notes;

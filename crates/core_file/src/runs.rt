@@ -1,6 +1,6 @@
 //! Runs of pages.
 
-ghost use Rattle.std.specs.Prelude.{◌≡◌, ◌+◌, ◌<◌, ◌≤◌, ◌^◌, ◌==◌, Some, length, reverse, IfOk, OnOk, All};
+ghost use Rattle.std.specs.Prelude.{◌≡◌, ◌+◌, ◌<◌, ◌^◌, ◌==◌, Some, length, reverse, IfOk, OnOk, All, ◌≤◌};
 ghost use Rattle.std.specs.List.{list_all};
 ghost use Rattle.rrv_model.specs.RecordText.{bit, permissions_byte};
 ghost use Rattle.rrv_model.specs.Memory.{page_bytes};
@@ -73,10 +73,7 @@ pub(crate) fn collect_runs(alloc: Global, space: &Space) -> Result<Vec<Run>, Mem
     let _ = space.page_count();
     let mut runs = Vec::new(alloc);
     let mut least = 0;
-    while let Some(number) = space.next_page(least) {
-        let Some(page) = space.page(number) else {
-            unreachable!()
-        };
+    while let Some((number, page)) = space.page_from(least) {
         let (flags, is_blank) = (flags_of(page.permissions), is_blank(page.bytes));
         add_page(&mut runs, number, flags, is_blank)?;
         least = number + 1;

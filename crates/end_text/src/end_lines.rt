@@ -1,20 +1,17 @@
 //! The printed lines of how a guest ended.
 
-ghost use Rattle.std.specs.Prelude.{◌≡◌, Some, flat_map};
+ghost use Rattle.std.specs.Prelude.{◌≡◌, Some};
 ghost use Rattle.std.specs.Fmt.{WritesOnOk};
-ghost use Rattle.std.specs.FinMap.{entries};
 ghost use Rattle.rrv_model.specs.State.{thread_at, AreRegs};
-ghost use Rattle.guest_threads.specs.Threads.{thread_map};
 ghost use Rattle.guest_calls.specs.Guest.{state_of};
 ghost use Rattle.end_text.specs.Ends.{address_text, cause_text, end_lines, exit_line, fault_line};
 ghost use Rattle.end_text.specs.Ends.{faulting_text, instruction_text, last_text, place_text, wait_line};
 
 use crate::faulting::{fault_address, instruction_of, mapped_word};
 use guest_calls::Guest;
-use guest_threads::Threads;
-use rrv_model::machine::{FaultKind, GuestEnd, Regs};
+use rrv_model::machine::{FaultKind, GuestEnd, Regs, Thread};
 use std::fmt;
-use trace_text::{fault_name, write_word};
+use trace_text::{ThreadText, fault_name, write_each, write_word};
 
 /// The lines that tell how a guest ended behind so many instructions, each with its newline. A fault: its kind, the
 /// thread that ran last, its instruction and the address of the fault. A stuck guest: where each thread waits, by
@@ -48,7 +45,7 @@ impl<'a> fmt::Display for EndLines<'a> {
             Some(GuestEnd::Faulted(kind)) => {
                 write_fault(f, self.guest, kind, self.place, self.last)
             }
-            Some(GuestEnd::Stuck) => write_waits(f, self.guest.threads()),
+            Some(GuestEnd::Stuck) => write_each::<Wait, W>(f, self.guest.threads()),
         }
     }
 }
@@ -72,22 +69,18 @@ fn write_last<W: fmt::Write>(f: &mut fmt::Formatter<W>, last: u32) -> fmt::Resul
     write!(f, " thread {last}")
 }
 
-/// The lines of all threads that wait, by rising tid.
-fn write_waits<W: fmt::Write>(f: &mut fmt::Formatter<W>, threads: &Threads) -> fmt::Result
-    ensures { WritesOnOk W.write_str_gives f.old result
-        (flat_map (λ e. wait_line e.0 e.1.waits_at) (entries (thread_map threads.now.threads))) f.new }
-{
-    // the proof opens the threads here, for what holds of their tids
-    let _ = threads.live();
-    for tid in 1..threads.next_tid() {
-        if let Some(thread) = threads.get(tid) {
-            write_wait(f, tid, thread.waits_at)?;
-        }
+/// The line of a thread that waits.
+struct Wait;
+
+impl ThreadText for Wait {
+    ghost text = { λ tid thread. wait_line tid thread.waits_at };
+
+    fn write<W: fmt::Write>(f: &mut fmt::Formatter<W>, tid: u32, thread: &Thread) -> fmt::Result {
+        write_wait(f, tid, thread.waits_at)
     }
-    Ok(())
 }
 
-/// The line of a thread that waits.
+/// The line of a thread that waits here, if it does.
 fn write_wait<W: fmt::Write>(
     f: &mut fmt::Formatter<W>,
     tid: u32,

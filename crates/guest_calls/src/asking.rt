@@ -19,6 +19,7 @@ use crate::outside::Outside;
 use crate::request::Request;
 use crate::room::Room;
 use guest_opening::has_bytes;
+use guest_pages::AddressSpace;
 use rrv_model::record::CallRecord;
 use rrv_model::refusal::Memory;
 use std::alloc::Global;

@@ -217,7 +217,10 @@ impl Guest {
         ensures { IfOk result (λ bytes. bytes.items ≡ bytes_at (state_of self.now).memory address count) }
     {
         let mut bytes = vec![in alloc; 0u8; count as usize]?;
-        self.space.load(address, bytes.as_mut_slice()).unwrap();
+        self.space
+            .space()
+            .load(address, bytes.as_mut_slice())
+            .unwrap();
         Ok(bytes)
     }
 

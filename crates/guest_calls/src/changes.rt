@@ -10,6 +10,7 @@ ghost use Rattle.guest_calls.specs.Guest.{state_of};
 ghost use Rattle.guest_calls.specs.Carries.{KeepsRest};
 
 use crate::guest::Guest;
+use guest_pages::AddressSpace;
 use rrv_model::machine::{GuestEnd, Regs, Thread};
 use rrv_model::refusal::Memory;
 

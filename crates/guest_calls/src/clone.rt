@@ -17,6 +17,7 @@ ghost use Rattle.guest_calls.specs.Growth.{Succeeds};
 use crate::calls::{BAD_ADDRESS, CallResult, INVALID, TRY_AGAIN, failure};
 use crate::changes::{A0, with_register};
 use crate::guest::Guest;
+use guest_pages::AddressSpace;
 use guest_threads::Threads;
 use rrv_model::machine::{Regs, Thread};
 use rrv_model::record::{CallRecord, Written};

@@ -48,7 +48,7 @@ impl Guest {
         if thread.regs.registers[13] != 0 {
             return Ok(self.answer(alloc, tid, failure(NO_SUCH_CALL)));
         }
-        let Some(word) = self.space.load_word(address) else {
+        let Some(word) = self.space.space().load_word(address) else {
             return Ok(self.answer(alloc, tid, failure(BAD_ADDRESS)));
         };
         if word != thread.regs.registers[12] {

@@ -7,6 +7,7 @@
 //! A guest. Its state meets the rules of a state at all times.
 //!
 //! - `Guest::open`: the opening state. `Guest::start`: that of an opening, refused exactly if there is none, out of memory aside.
+//!   `starting_image`: the image of the file with which a guest of a name starts, refused likewise.
 //! - `run_thread`, `step_thread`: n plain steps, and what ended them.
 //! - `call`: a row of the call relation, with an answer that the environment gave to the row's question. The environment is
 //!   asked once at most, and not if the row doesn't ask. At a refusal it was not asked.
@@ -43,6 +44,7 @@ mod writev;
 
 pub use fault::{OpeningFault, SetPageFault, SetRestFault};
 pub use guest::Guest;
+pub use opening::starting_image;
 pub use outside::Outside;
 pub use put::Put;
 pub use rv_machine::{Run, RunEnd};

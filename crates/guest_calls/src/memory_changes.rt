@@ -8,7 +8,7 @@ ghost use Rattle.guest_calls.specs.Guest.{state_of};
 ghost use Rattle.guest_calls.specs.Carries.{KeepsRest, pages_mapped};
 
 use crate::guest::Guest;
-use guest_pages::PageFault;
+use guest_pages::{AddressSpace, PageFault};
 use rrv_model::limits::PAGE_BYTES;
 use rrv_model::machine::Permissions;
 use rrv_model::refusal::Memory;

@@ -10,7 +10,7 @@ ghost use Rattle.guest_calls.specs.Snapshots.{guest_snapshots};
 
 use crate::fault::{SetPageFault, SetRestFault};
 use crate::guest::Guest;
-use guest_pages::{PageFault, PageView, Snapshot};
+use guest_pages::{AddressSpace, PageFault, PageView, Snapshot};
 use guest_threads::{PartsFault, Threads};
 use rrv_model::record::CheckpointRest;
 use rrv_model::refusal::Memory;

@@ -12,5 +12,6 @@ pub mod WordStores
 pub mod WholePages
 pub mod OwnPages
 pub mod Spaces
+pub mod Stays
 pub mod PutRefusals
 pub mod Live

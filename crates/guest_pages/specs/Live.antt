@@ -1,10 +1,10 @@
 -- How many pages there are: those of a space and of its live snapshots, a shared one counted once.
-use Rattle.std.specs.Prelude.{◌≡◌, ℕ, ◌+◌, ◌-◌, ◌/◌, ◌==◌, if◌then◌else◌, List, Option, Some, None}
-use Rattle.rrv_model.specs.Memory.{page_bytes}
+use Rattle.std.specs.Prelude.{◌≡◌, ℕ, ◌+◌, ◌-◌, ◌/◌, ◌==◌, if◌then◌else◌, List, Option, Some, None, Result, OnOk, OnErr}
+use Rattle.rrv_model.specs.Memory.{page_bytes, stored}
 use Rattle.page_tables.specs.Contents.{contents_of, sum_below}
 use Rattle.page_tables.specs.Changes.{added, added_at, freed, is_listed}
 use Rattle.guest_pages.specs.declared.page.PageView.{PageView}
-use Rattle.guest_pages.specs.Space.{SpaceValue, snapshots_of}
+use Rattle.guest_pages.specs.Space.{SpaceValue, memory_of, snapshots_of, CanFill, KeepsOwn}
 use Rattle.guest_pages.specs.Stores.{word_pages}
 
 abbrev pub live_of : SpaceValue → ℕ
@@ -47,3 +47,20 @@ added_words s places = added_at (is_listed (word_pages places)) (contents_of s).
 abbrev pub SetsLive : ℕ → Option PageView → SpaceValue → SpaceValue → Type 0
 SetsLive n None old new = live_of new + freed_for old n ≡ live_of old
 SetsLive n (Some v) old new = live_of new ≡ live_of old + added_for old n
+
+-- ---- bytes that are filled in
+
+-- they stand from a on; what was the space's own still is, and no page comes or goes
+pub record Fills (a : ℕ) (bytes : List ℕ) (old new : SpaceValue) : Type 0 where
+  pub memory : memory_of new ≡ stored a bytes (memory_of old)
+  pub snapshots : snapshots_of new ≡ snapshots_of old
+  pub live : live_of new ≡ live_of old
+  pub own : KeepsOwn old new
+
+-- count bytes from a can be filled in, at the cost of pages of their own, and no memory changes; a call that is refused changes nothing
+pub record Prepares {T E : Type 0} (result : Result T E) (a count : ℕ) (old new : SpaceValue) : Type 0 where
+  pub ready : OnOk result (CanFill new a count)
+  pub memory : memory_of new ≡ memory_of old
+  pub err : OnErr result (new ≡ old)
+  pub snapshots : snapshots_of new ≡ snapshots_of old
+  pub live : OnOk result (live_of new ≡ live_of old + added_across old a count)

@@ -51,6 +51,12 @@ SameAt pages others q = page_at pages q ≡ page_at others q
 abbrev pub AreOwnIn : SpaceValue → ℕ → ℕ → Type 0
 AreOwnIn s first count = (q : ℕ) → first ≤ q → q < first + count → IsOwn (contents_of s) q
 
+-- other pages than count from first stay, and so do those of snapshots
+pub record KeepsOutside (first count : ℕ) (old new : SpaceValue) : Type 0 where
+  pub below : (q : ℕ) → q < first → (contents_of new).pages q ≡ (contents_of old).pages q
+  pub above : (q : ℕ) → first + count ≤ q → (contents_of new).pages q ≡ (contents_of old).pages q
+  pub kept : (contents_of new).kept ≡ (contents_of old).kept
+
 -- the numbers below n that don't have a property, rising
 pub record ListsOthers (P : ℕ → Type 0) (n : ℕ) (numbers : List ℕ) : Type 0 where
   pub rising : IsStrictlyIncreasing numbers

@@ -16,6 +16,11 @@ IsNextPage m least None = (q : ℕ) → least ≤ q → is_mapped m q ≡ false
 IsNextPage m least (Some n) =
     (least ≤ n) × (n < 0x80000) × (is_mapped m n ≡ true) × ((q : ℕ) → least ≤ q → q < n → is_mapped m q ≡ false)
 
+-- the least mapped page from this number on, and what it is
+abbrev pub IsPageFrom : Memory → ℕ → Option (ℕ × PageView) → Type 0
+IsPageFrom m least None = IsNextPage m least None
+IsPageFrom m least (Some found) = IsNextPage m least (Some found.0) × IsPageOf m found.0 (Some found.1)
+
 -- two memories have the same at every address of page n
 abbrev pub SameOn : ℕ → Memory → Memory → Type 0
 SameOn n before now = (a : ℕ) → a / page_bytes ≡ n → before a ≡ now a

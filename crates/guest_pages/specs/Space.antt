@@ -1,5 +1,5 @@
 -- What an address space stands for.
-use Rattle.std.specs.Prelude.{◌≡◌, ℕ, ◌+◌, ◌/◌, ◌%◌, ◌<◌, ◌≤◌, Bool, true, false, if◌then◌else◌, length, Option, Some, None, IfSome, is_some, IsTrue, slice_index}
+use Rattle.std.specs.Prelude.{◌≡◌, ℕ, ◌+◌, ◌/◌, ◌%◌, ◌<◌, ◌≤◌, Bool, true, false, if◌then◌else◌, length, Option, Some, None, IfSome, is_some, IsTrue, slice_index, Result, OnOk, OnErr}
 use Rattle.std.specs.Option.{option_map}
 use Rattle.std.specs.Int.{w8, w16, w32, from_le_bytes}
 use Rattle.rrv_model.specs.Memory.{Memory, Cell, readable, writable, executable, all_cells, can_read, can_write, can_execute, bytes_at, page_bytes, page_count}
@@ -42,6 +42,19 @@ snapshots_in kept n = option_map memory_in (kept n)
 -- the memory of each live snapshot, by its token's number
 abbrev pub snapshots_of : SpaceValue → ℕ → Option Memory
 snapshots_of s = snapshots_in (contents_of s).kept
+
+-- ---- what a change leaves
+
+-- the memory is this now, and no snapshot changes
+pub record Becomes (m : Memory) (old new : SpaceValue) : Type 0 where
+  pub memory : memory_of new ≡ m
+  pub snapshots : snapshots_of new ≡ snapshots_of old
+
+-- so it is where a call is not refused; one that is refused changes nothing
+pub record BecomesOrStays {T E : Type 0} (result : Result T E) (m : Memory) (old new : SpaceValue) : Type 0 where
+  pub ok : OnOk result (memory_of new ≡ m)
+  pub err : OnErr result (new ≡ old)
+  pub snapshots : snapshots_of new ≡ snapshots_of old
 
 -- ---- what holds of every space
 

@@ -1,14 +1,15 @@
 //! Loads and stores of an address space.
 
-ghost use Rattle.std.specs.Prelude.{◌≡◌, ℕ, ◌+◌, ◌<◌, ◌≤◌, ◌^◌, OnOk, OnErr, IfErr, IsTrue, IsSome, None, true, false, length, slice_index, ◌%◌, ◌*◌, ◌/◌};
-ghost use Rattle.std.specs.Int.{w8, w16, w32, to_le_bytes};
+ghost use Rattle.std.specs.Prelude.{◌≡◌, ℕ, ◌+◌, ◌<◌, ◌≤◌, ◌^◌, OnOk, OnErr, IfErr, IsTrue, IsSome, None, true, false, length, slice_index, ◌%◌, ◌/◌, ◌*◌};
+ghost use Rattle.std.specs.Int.{w8, w16, to_le_bytes};
 ghost use Rattle.rrv_model.specs.Memory.{byte_or_zero, bytes_at, page_bytes, readable, writable, all_cells, stored};
 ghost use Rattle.page_tables.specs.Contents.{contents_of};
 ghost use Rattle.page_tables.specs.Changes.{IsOwn};
-ghost use Rattle.guest_pages.specs.Live.{added_across, live_of};
-ghost use Rattle.guest_pages.specs.Space.{memory_of, snapshots_of, fetched_word, loaded_byte, loaded_half, loaded_word, cell_byte, page_at, page_passes, test_of, present, CanFill, IsLoadRefusal, IsStoreRefusal, KeepsOwn};
+ghost use Rattle.guest_pages.specs.Live.{added_across, live_of, Fills, Prepares};
+ghost use Rattle.guest_pages.specs.Space.{memory_of, snapshots_of, fetched_word, loaded_byte, loaded_half, loaded_word, cell_byte, page_at, page_passes, test_of, present, BecomesOrStays, CanFill, IsLoadRefusal, IsStoreRefusal};
 
 use crate::address_space::Space;
+use crate::addressing::AddressSpace;
 use crate::fault::PageFault;
 use crate::mapping::list_not_own;
 use crate::page::{Access, allows, copy_bytes, half_at, word_at};
@@ -124,9 +125,7 @@ impl Space {
         ensures { (k : ℕ) → k < length into.old → slice_index into.new k
             ≡ byte_or_zero (memory_of self.now (address + k)) }
     {
-        let Some(page) = self.tables.page((address / 4096) as u32) else {
-            unreachable!();
-        };
+        let page = self.tables.page((address / 4096) as u32).unwrap();
         copy_bytes(page.bytes, (address % 4096) as usize, into);
     }
 
@@ -189,10 +188,9 @@ impl Space {
     #[tactic(auto, using(crate::proofs::Cells::writes_in_page, crate::proofs::Cells::is_in_page))]
     pub fn store_byte(&mut self, address: u32, value: u8) -> Result<(), PageFault>
         ensures allowed { OnOk result (IsTrue (writable (memory_of self.old) address 1)) }
-        ensures stored { OnOk result (memory_of self.new ≡ stored address (to_le_bytes w8 value) (memory_of self.old)) }
+        ensures stored { BecomesOrStays result
+            (stored address (to_le_bytes w8 value) (memory_of self.old)) self.old self.new }
         ensures refused { IfErr result (IsStoreRefusal (memory_of self.old) address 1) }
-        ensures err { OnErr result (self.new ≡ self.old) }
-        ensures snapshots { snapshots_of self.new ≡ snapshots_of self.old }
         ensures live { OnOk result (live_of self.new ≡ live_of self.old + added_across self.old address 1) }
     {
         self.tables
@@ -205,11 +203,9 @@ impl Space {
     #[tactic(auto, using(crate::proofs::Cells::writes_in_page, crate::proofs::Cells::is_in_page))]
     pub fn store_half(&mut self, address: u32, value: u16) -> Result<(), PageFault>
         ensures allowed { OnOk result (IsTrue (writable (memory_of self.old) address 2)) }
-        ensures stored { OnOk result (memory_of self.new
-            ≡ stored address (to_le_bytes w16 value) (memory_of self.old)) }
+        ensures stored { BecomesOrStays result
+            (stored address (to_le_bytes w16 value) (memory_of self.old)) self.old self.new }
         ensures refused { IfErr result (IsStoreRefusal (memory_of self.old) address 2) }
-        ensures err { OnErr result (self.new ≡ self.old) }
-        ensures snapshots { snapshots_of self.new ≡ snapshots_of self.old }
         ensures live { OnOk result (live_of self.new ≡ live_of self.old + added_across self.old address 2) }
     {
         let at = (address % 4096) as usize;
@@ -220,36 +216,14 @@ impl Space {
         Ok(())
     }
 
-    /// Stores a word, its low byte first: all bytes or none, refused as [`Space::store`] is.
-    #[inline(always)]
-    #[tactic(auto, using(crate::proofs::Cells::writes_in_page, crate::proofs::Cells::is_in_page))]
-    pub fn store_word(&mut self, address: u32, value: u32) -> Result<(), PageFault>
-        ensures allowed { OnOk result (IsTrue (writable (memory_of self.old) address 4)) }
-        ensures stored { OnOk result (memory_of self.new
-            ≡ stored address (to_le_bytes w32 value) (memory_of self.old)) }
-        ensures refused { IfErr result (IsStoreRefusal (memory_of self.old) address 4) }
-        ensures err { OnErr result (self.new ≡ self.old) }
-        ensures snapshots { snapshots_of self.new ≡ snapshots_of self.old }
-        ensures live { OnOk result (live_of self.new ≡ live_of self.old + added_across self.old address 4) }
-    {
-        let at = (address % 4096) as usize;
-        if at > 4092 {
-            return self.store(address, &value.to_le_bytes());
-        }
-        self.tables.put_word(address / 4096, at, value)?;
-        Ok(())
-    }
-
     /// Stores bytes: all or none. Refused with NotMapped where any byte isn't there, else with NotAllowed where any may not
     /// be written. To store no byte is never refused.
     #[inline(never)]
     pub fn store(&mut self, address: u32, bytes: &[u8]) -> Result<(), PageFault>
         ensures allowed { OnOk result (IsTrue (writable (memory_of self.old) address (length bytes.now))) }
-        ensures stored { OnOk result (memory_of self.new ≡ stored address bytes.now (memory_of self.old)) }
+        ensures stored { BecomesOrStays result (stored address bytes.now (memory_of self.old)) self.old self.new }
         ensures refused { IfErr result (IsStoreRefusal (memory_of self.old) address (length bytes.now)) }
         ensures some { OnErr result (1 ≤ length bytes.now) }
-        ensures err { OnErr result (self.new ≡ self.old) }
-        ensures snapshots { snapshots_of self.new ≡ snapshots_of self.old }
         ensures live { OnOk result (live_of self.new
             ≡ live_of self.old + added_across self.old address (length bytes.now)) }
     {
@@ -258,44 +232,13 @@ impl Space {
         Ok(())
     }
 
-    /// Tests whether so many bytes can be stored, and makes ready for them, which changes no memory: a [`Space::fill`] of them
-    /// then takes none. Pages that snapshots share are copied, all or none. Refused as [`Space::store`] is, so that memory is
-    /// wanted here and not at the fill.
-    pub fn prepare(&mut self, address: u32, count: usize) -> Result<(), PageFault>
-        ensures allowed { OnOk result (IsTrue (writable (memory_of self.old) address count)) }
-        ensures ready { OnOk result (CanFill self.new address count) }
-        ensures refused { IfErr result (IsStoreRefusal (memory_of self.old) address count) }
-        ensures some { OnErr result (1 ≤ count) }
-        ensures memory { memory_of self.new ≡ memory_of self.old }
-        ensures err { OnErr result (self.new ≡ self.old) }
-        ensures snapshots { snapshots_of self.new ≡ snapshots_of self.old }
-        ensures live { OnOk result (live_of self.new ≡ live_of self.old + added_across self.old address count) }
-    {
-        if !self.passes(address, count, Access::Presence) {
-            return Err(PageFault::NotMapped);
-        }
-        if !self.passes(address, count, Access::Write) {
-            return Err(PageFault::NotAllowed);
-        }
-        if count == 0 {
-            return Ok(());
-        }
-        // the proof opens the space here, for what holds of its pages
-        let _ = &self.tables;
-        self.own_pages(address, count)
-    }
-
     /// Makes the pages of some bytes that are there the space's own, all or none.
-    fn own_pages(&mut self, address: u32, count: usize) -> Result<(), PageFault>
+    pub(crate) fn own_pages(&mut self, address: u32, count: usize) -> Result<(), PageFault>
         requires some { 1 ≤ count }
         requires low { address + count ≤ 2 ^ 32 }
         requires there { IsTrue (present (memory_of self.old) address count) }
-        ensures ready { OnOk result (CanFill self.new address count) }
+        ensures prepared { Prepares result address count self.old self.new }
         ensures refused { IfErr result (λ fault. fault ≡ PageFault.Memory) }
-        ensures memory { memory_of self.new ≡ memory_of self.old }
-        ensures err { OnErr result (self.new ≡ self.old) }
-        ensures snapshots { snapshots_of self.new ≡ snapshots_of self.old }
-        ensures live { OnOk result (live_of self.new ≡ live_of self.old + added_across self.old address count) }
     {
         let first = address / 4096;
         let last = ((u64::from(address) + count as u64 - 1) / 4096) as u32;
@@ -308,39 +251,20 @@ impl Space {
         Ok(())
     }
 
-    /// Writes bytes that are there in pages that no snapshot shares, whatever their permissions, as a loader does. It takes no
-    /// memory.
-    pub fn fill(&mut self, address: u32, bytes: &[u8])
-        requires { CanFill self.old address (length bytes.now) }
-        ensures memory { memory_of self.new ≡ stored address bytes.now (memory_of self.old) }
-        ensures snapshots { snapshots_of self.new ≡ snapshots_of self.old }
-        ensures live { live_of self.new ≡ live_of self.old }
-        ensures own { KeepsOwn self.old self.new }
-    {
-        // the proof opens the space here, for what holds of its pages
-        let _ = &self.tables;
-        self.fill_pages(address, bytes);
-    }
-
     /// Writes bytes that are there into a space with no snapshot, whatever their permissions. It takes no memory.
     pub fn fill_unshared(&mut self, address: u32, bytes: &[u8])
         requires there { IsTrue (present (memory_of self.old) address (length bytes.now)) }
         requires alone { (n : ℕ) → snapshots_of self.old n ≡ None }
-        ensures memory { memory_of self.new ≡ stored address bytes.now (memory_of self.old) }
-        ensures snapshots { snapshots_of self.new ≡ snapshots_of self.old }
-        ensures live { live_of self.new ≡ live_of self.old }
+        ensures { Fills address bytes.now self.old self.new }
     {
         self.tables.all_own();
         self.fill_pages(address, bytes);
     }
 
-    fn fill_pages(&mut self, address: u32, bytes: &[u8])
+    pub(crate) fn fill_pages(&mut self, address: u32, bytes: &[u8])
         requires fill { CanFill self.old address (length bytes.now) }
         requires low { address + length bytes.now ≤ 2 ^ 32 }
-        ensures memory { memory_of self.new ≡ stored address bytes.now (memory_of self.old) }
-        ensures snapshots { snapshots_of self.new ≡ snapshots_of self.old }
-        ensures live { live_of self.new ≡ live_of self.old }
-        ensures own { KeepsOwn self.old self.new }
+        ensures { Fills address bytes.now self.old self.new }
     {
         let mut at = u64::from(address);
         let mut rest = bytes;
@@ -357,17 +281,14 @@ impl Space {
         requires low { address < 2 ^ 32 }
         requires own { IsOwn (contents_of self.old) (address / page_bytes) }
         requires fits { address % 4096 + length bytes.now ≤ 4096 }
-        ensures memory { memory_of self.new ≡ stored address bytes.now (memory_of self.old) }
-        ensures snapshots { snapshots_of self.new ≡ snapshots_of self.old }
-        ensures live { live_of self.new ≡ live_of self.old }
-        ensures own { KeepsOwn self.old self.new }
+        ensures { Fills address bytes.now self.old self.new }
     {
         self.tables
             .write((address / 4096) as u32, (address % 4096) as usize, bytes);
     }
 
     /// Whether all bytes of a range pass.
-    fn passes(&self, address: u32, count: usize, access: Access) -> bool
+    pub(crate) fn passes(&self, address: u32, count: usize, access: Access) -> bool
         ensures { result ≡ all_cells (test_of access) (memory_of self.now) address count }
     {
         let Ok(count) = u32::try_from(count) else {

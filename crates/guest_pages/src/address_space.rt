@@ -1,24 +1,20 @@
 //! The address space.
 
-ghost use Rattle.std.specs.Prelude.{◌≡◌, ◌≢◌, ℕ, ◌+◌, ◌<◌, ◌≤◌, ◌^◌, OnOk, OnErr, IfErr, IfOk, IsTrue, IsSome, IsSomeAnd, Some, None, true, false, length, ◌%◌, ◌*◌, ◌/◌, ◌↔◌, if◌then◌else◌};
+ghost use Rattle.std.specs.Prelude.{◌≡◌, ◌≢◌, ℕ, ◌+◌, ◌<◌, ◌≤◌, ◌^◌, OnOk, OnErr, IfErr, IfOk, IsTrue, IsSome, IsSomeAnd, Some, None, false, ◌↔◌, true, ◌%◌, length, ◌/◌};
 ghost use Rattle.std.specs.Result.{IsErrOf};
-ghost use Rattle.rrv_model.specs.Memory.{all_free, all_mapped, highest_free_up_to, mapped, no_memory, page_bytes, protected, unmapped, page_count, is_mapped, IsMemory};
-ghost use Rattle.guest_pages.specs.Live.{HasNoSnapshot, SetsLive, added_for, added_in, freed_for, freed_in, live_of};
-ghost use Rattle.guest_pages.specs.Space.{memory_of, snapshots_of};
-ghost use Rattle.guest_pages.specs.Mapping.{AreOwnIn, IsMapRefusal, covered};
-ghost use Rattle.guest_pages.specs.Snapshots.{AreChanges, IsNextPage, IsPageOf};
+ghost use Rattle.rrv_model.specs.Memory.{all_free, all_mapped, highest_free_up_to, mapped, no_memory, page_count, is_mapped, IsMemory};
+ghost use Rattle.guest_pages.specs.Live.{HasNoSnapshot, added_for, freed_for, live_of};
+ghost use Rattle.guest_pages.specs.Space.{memory_of, snapshots_of, Becomes, BecomesOrStays};
+ghost use Rattle.guest_pages.specs.Mapping.{IsMapRefusal};
+ghost use Rattle.guest_pages.specs.Snapshots.{AreChanges, IsNextPage, IsPageFrom, IsPageOf};
 ghost use Rattle.guest_pages.specs.WholePages.{with_page, MayHave};
 
 use crate::fault::PageFault;
-use crate::mapping::{
-    all_there, clear_pages, count_missing, first_there, is_there, list_changed, list_not_own,
-    protect_range, remove_range, same_pages, union, view_of,
-};
+use crate::mapping::{all_there, first_there, is_there, list_changed, same_pages, view_of};
 use crate::page::{PageView, has_page_bytes};
 use crate::snapshot::Snapshot;
 use page_tables::PageTables;
 use rrv_model::limits::MAX_PAGES;
-use rrv_model::machine::Permissions;
 use rrv_model::refusal::Memory;
 use std::alloc::Global;
 use std::marker::Model;
@@ -83,73 +79,6 @@ impl Space {
         same_pages(&self.tables, &other.tables)
     }
 
-    /// Maps count pages of zeros from a page on, each of its own, in place of what was there. They lie from 0x1000 up to
-    /// 0x7FFFFFFF. Refused with TooManyPages where more than 16,384 pages would be mapped, else with Memory where a growth is
-    /// refused. Where all of them are the space's own already it takes no memory, and is not refused.
-    pub fn map(&mut self, page: u32, count: u32, permissions: Permissions) -> Result<(), PageFault>
-        requires low { 1 ≤ page }
-        requires high { page + count ≤ 0x80000 }
-        requires readable { IsTrue permissions.write → IsTrue permissions.read }
-        ensures mapped { OnOk result (memory_of self.new
-            ≡ mapped (page * page_bytes) (count * page_bytes) permissions (memory_of self.old)) }
-        ensures refused { IfErr result (IsMapRefusal
-            (mapped (page * page_bytes) (count * page_bytes) permissions (memory_of self.old))) }
-        ensures err { OnErr result (self.new ≡ self.old) }
-        ensures grows { OnErr result (AreOwnIn self.old page count → ⊥) }
-        ensures snapshots { snapshots_of self.new ≡ snapshots_of self.old }
-        ensures live { OnOk result (live_of self.new ≡ live_of self.old + added_in self.old page count) }
-    {
-        let more = count_missing(&self.tables, page, count);
-        if self.mapped + more > MAX_PAGES {
-            return Err(PageFault::TooManyPages);
-        }
-        let Ok(numbers) = list_not_own(self.alloc, &self.tables, page, count) else {
-            return Err(PageFault::Memory);
-        };
-        let Ok(()) = self.tables.own_each(numbers.as_slice()) else {
-            return Err(PageFault::Memory);
-        };
-        clear_pages(&mut self.tables, page, count, permissions);
-        self.mapped += more;
-        Ok(())
-    }
-
-    /// Takes count pages away from a page on; where there is none, nothing happens. It takes no memory.
-    pub fn unmap(&mut self, page: u32, count: u32)
-        requires { page + count < 2 ^ 32 }
-        ensures memory { memory_of self.new ≡ unmapped (page * page_bytes) (count * page_bytes) (memory_of self.old) }
-        ensures snapshots { snapshots_of self.new ≡ snapshots_of self.old }
-        ensures live { live_of self.new + freed_in self.old page count ≡ live_of self.old }
-    {
-        let gone = remove_range(&mut self.tables, page, count);
-        self.mapped -= gone;
-    }
-
-    /// Sets the permissions of all pages of a range. Refused with NotMapped where any isn't there. It takes no memory.
-    pub fn protect(
-        &mut self,
-        page: u32,
-        count: u32,
-        permissions: Permissions,
-    ) -> Result<(), PageFault>
-        requires low { page + count < 2 ^ 32 }
-        requires readable { IsTrue permissions.write → IsTrue permissions.read }
-        ensures allowed { OnOk result (IsTrue (all_mapped (memory_of self.old) page count)) }
-        ensures protected { OnOk result (memory_of self.new
-            ≡ protected (page * page_bytes) (count * page_bytes) permissions (memory_of self.old)) }
-        ensures refused { IfErr result (λ fault. (fault ≡ PageFault.NotMapped)
-            × (all_mapped (memory_of self.old) page count ≡ false)) }
-        ensures err { OnErr result (self.new ≡ self.old) }
-        ensures snapshots { snapshots_of self.new ≡ snapshots_of self.old }
-        ensures live { live_of self.new ≡ live_of self.old }
-    {
-        if !self.is_mapped(page, count) {
-            return Err(PageFault::NotMapped);
-        }
-        protect_range(&mut self.tables, page, count, permissions);
-        Ok(())
-    }
-
     /// Whether all pages of a range are mapped.
     pub fn is_mapped(&self, page: u32, count: u32) -> bool
         requires { page + count < 2 ^ 32 }
@@ -181,67 +110,13 @@ impl Space {
         None
     }
 
-    /// Adds permissions to a page, which is mapped with zeros where it wasn't there, as a loader does. Refused as
-    /// [`Space::map`] is.
-    pub fn cover(&mut self, page: u32, permissions: Permissions) -> Result<(), PageFault>
-        requires low { 1 ≤ page }
-        requires high { page < 0x80000 }
-        requires readable { IsTrue permissions.write → IsTrue permissions.read }
-        ensures covered { OnOk result (memory_of self.new ≡ covered page permissions (memory_of self.old)) }
-        ensures refused { IfErr result (IsMapRefusal (covered page permissions (memory_of self.old))) }
-        ensures err { OnErr result (self.new ≡ self.old) }
-        ensures grows { OnErr result (is_mapped (memory_of self.old) page ≡ false) }
-        ensures snapshots { snapshots_of self.new ≡ snapshots_of self.old }
-        ensures live { OnOk result (live_of self.new
-            ≡ live_of self.old + (if is_mapped (memory_of self.old) page then 0 else 1)) }
-    {
-        // a page that isn't there is counted nowhere
-        self.tables.all_own();
-        if let Some(there) = self.tables.page(page) {
-            let joined = union(there.permissions, permissions);
-            self.tables.set_permissions(page, joined);
-            return Ok(());
-        }
-        if self.mapped >= MAX_PAGES {
-            return Err(PageFault::TooManyPages);
-        }
-        let Ok(()) = self.tables.place(page, permissions, &[0; 4096]) else {
-            return Err(PageFault::Memory);
-        };
-        self.mapped += 1;
-        Ok(())
-    }
-
-    /// Puts a page with its permissions and bytes, as [`Space::page`] reads one, in place of what was there; None unmaps it.
-    /// Refused with TooManyPages where more than 16,384 pages would be mapped, which is only where the page wasn't mapped;
-    /// else with Memory where a growth is refused, which may be over a mapped page too. To unmap is never refused.
-    pub fn set_page(&mut self, number: u32, page: Option<PageView<'_>>) -> Result<(), PageFault>
-        requires { MayHave number page }
-        ensures set { OnOk result (memory_of self.new ≡ with_page number page.entry (memory_of self.old)) }
-        ensures refused { IfErr result (IsMapRefusal (with_page number page.entry (memory_of self.old))) }
-        ensures err { OnErr result (self.new ≡ self.old) }
-        ensures some { OnErr result (IsSome page.entry) }
-        ensures too_many { IsErrOf result PageFault.TooManyPages → is_mapped (memory_of self.old) number ≡ false }
-        ensures snapshots { snapshots_of self.new ≡ snapshots_of self.old }
-        ensures live { OnOk result (SetsLive number page.entry self.old self.new) }
-    {
-        match page {
-            Some(page) => self.put_page(number, page),
-            None => {
-                self.remove_page(number);
-                Ok(())
-            }
-        }
-    }
-
     /// Puts a page in place of what was there.
-    fn put_page(&mut self, number: u32, page: PageView<'_>) -> Result<(), PageFault>
+    pub(crate) fn put_page(&mut self, number: u32, page: PageView<'_>) -> Result<(), PageFault>
         requires { MayHave number (Some page) }
-        ensures set { OnOk result (memory_of self.new ≡ with_page number (Some page.entry) (memory_of self.old)) }
+        ensures set { BecomesOrStays result
+            (with_page number (Some page.entry) (memory_of self.old)) self.old self.new }
         ensures refused { IfErr result (IsMapRefusal (with_page number (Some page.entry) (memory_of self.old))) }
-        ensures err { OnErr result (self.new ≡ self.old) }
         ensures too_many { IsErrOf result PageFault.TooManyPages → is_mapped (memory_of self.old) number ≡ false }
-        ensures snapshots { snapshots_of self.new ≡ snapshots_of self.old }
         ensures live { OnOk result (live_of self.new ≡ live_of self.old + added_for self.old number) }
     {
         has_page_bytes(page.bytes);
@@ -262,9 +137,8 @@ impl Space {
     }
 
     /// Takes a page away, where there is one.
-    fn remove_page(&mut self, number: u32)
-        ensures memory { memory_of self.new ≡ with_page number None (memory_of self.old) }
-        ensures snapshots { snapshots_of self.new ≡ snapshots_of self.old }
+    pub(crate) fn remove_page(&mut self, number: u32)
+        ensures removed { Becomes (with_page number None (memory_of self.old)) self.old self.new }
         ensures live { live_of self.new + freed_for self.old number ≡ live_of self.old }
     {
         // a page that isn't there is counted nowhere
@@ -274,35 +148,6 @@ impl Space {
         }
         self.tables.remove(number);
         self.mapped -= 1;
-    }
-
-    /// Keeps the memory as it is, under the token that it gives, and adds no page. Refused where a growth is.
-    pub fn snapshot(&mut self) -> Result<Snapshot, Memory>
-        ensures kept { IfOk result (λ token. snapshots_of self.new token ≡ Some (memory_of self.old)) }
-        ensures fresh { IfOk result (λ token. snapshots_of self.old token ≡ None) }
-        ensures others { IfOk result (λ token. (n : ℕ) → n ≢ token →
-            snapshots_of self.new n ≡ snapshots_of self.old n) }
-        ensures memory { memory_of self.new ≡ memory_of self.old }
-        ensures live { live_of self.new ≡ live_of self.old }
-        ensures err { OnErr result (self.new ≡ self.old) }
-    {
-        let number = self.tables.keep()?;
-        Ok(Snapshot::new(number))
-    }
-
-    /// Lets a snapshot go, whose token is then spent. Once none is left, the pages that there are are those that are mapped. It
-    /// takes no memory.
-    pub fn drop_snapshot(&mut self, snapshot: Snapshot)
-        requires { IsSome (snapshots_of self.old snapshot) }
-        ensures gone { snapshots_of self.new snapshot ≡ None }
-        ensures others { (n : ℕ) → n ≢ snapshot → snapshots_of self.new n ≡ snapshots_of self.old n }
-        ensures memory { memory_of self.new ≡ memory_of self.old }
-        ensures fewer { live_of self.new ≤ live_of self.old }
-        ensures least { page_count (memory_of self.new) ≤ live_of self.new }
-        ensures last { HasNoSnapshot self.new → live_of self.new ≡ page_count (memory_of self.new) }
-    {
-        self.tables.release(snapshot.number());
-        self.tables.all_own();
     }
 
     /// The numbers of the pages that differ from a live snapshot's in bytes, in permissions or in being mapped, rising.
@@ -329,6 +174,15 @@ impl Space {
         ensures { IsNextPage (memory_of self.now) least result }
     {
         self.tables.next(least)
+    }
+
+    /// The least mapped page from a number on, with its permissions and bytes. It takes no memory.
+    pub fn page_from(&self, least: u32) -> Option<(u32, PageView<'_>)>
+        ensures { IsPageFrom (memory_of self.now) least result }
+    {
+        let number = self.next_page(least)?;
+        let page = self.page(number)?;
+        Some((number, page))
     }
 
     /// A page as a live snapshot has it, as [`Space::page`] reads it.

@@ -4,7 +4,8 @@
 //!
 //! # Contracts
 //!
-//! An address space, which stands for a plain memory.
+//! An address space, which stands for a plain memory. The calls that change it are those of the trait `AddressSpace`, which has
+//! their clauses.
 //!
 //! - `map`, `unmap`, `protect`, `cover`, `fill`, loads, stores and fetches: the changes and reads of the definitions, also
 //!   across pages. A refusal is the lowest that applies. The page limit is the definitions'. No snapshot sees a change.
@@ -22,19 +23,22 @@
 //! - `snapshot`: its memory stays, whatever is stored, mapped, unmapped or protected later.
 //! - `try_clone`: the same memory once more, with no snapshot.
 //! - `changed_since`: exactly the pages that differ from a snapshot.
-//! - `page`, `snapshot_page`: a page's permissions and bytes.
+//! - `page`, `snapshot_page`: a page's permissions and bytes. `page_from`: those of the least page from a number on.
 #![tactic(auto)]
 
 mod access;
 mod address_space;
+mod addressing;
 mod copying;
 mod fault;
 mod mapping;
 mod page;
 mod snapshot;
+mod space_calls;
 mod words;
 
 pub use address_space::Space;
+pub use addressing::AddressSpace;
 pub use fault::PageFault;
 pub use page::PageView;
 pub use snapshot::Snapshot;

@@ -7,7 +7,7 @@ ghost use Rattle.page_tables.specs.Contents.{contents_of};
 ghost use Rattle.page_tables.specs.Changes.{IsOwn, is_listed, shown, with_permissions};
 ghost use Rattle.guest_pages.specs.Live.{freed_in, live_of};
 ghost use Rattle.guest_pages.specs.Space.{memory_of, AreEachPage};
-ghost use Rattle.guest_pages.specs.Mapping.{missing, clear_page, union, AreOwnIn, SameAt, ListsOthers};
+ghost use Rattle.guest_pages.specs.Mapping.{missing, clear_page, union, AreOwnIn, KeepsOutside, SameAt, ListsOthers};
 ghost use Rattle.guest_pages.specs.Stores.{word_pages};
 ghost use Rattle.guest_pages.specs.WholePages.{page_of};
 
@@ -87,9 +87,7 @@ pub(crate) fn clear_pages(tables: &mut PageTables, first: u32, count: u32, permi
     requires own { AreOwnIn tables.old first count }
     ensures cleared { (q : ℕ) → first ≤ q → q < first + count →
         (contents_of tables.new).pages q ≡ Some (clear_page permissions) }
-    ensures below { (q : ℕ) → q < first → (contents_of tables.new).pages q ≡ (contents_of tables.old).pages q }
-    ensures above { (q : ℕ) → first + count ≤ q → (contents_of tables.new).pages q ≡ (contents_of tables.old).pages q }
-    ensures kept { (contents_of tables.new).kept ≡ (contents_of tables.old).kept }
+    ensures others { KeepsOutside first count tables.old tables.new }
     ensures live { live_of tables.new ≡ live_of tables.old }
 {
     for number in first..first + count {
@@ -113,9 +111,7 @@ pub(crate) fn remove_range(tables: &mut PageTables, first: u32, count: u32) -> u
     requires low { first + count < 2 ^ 32 }
     requires each { AreEachPage (contents_of tables.old).pages }
     ensures removed { (q : ℕ) → first ≤ q → q < first + count → (contents_of tables.new).pages q ≡ None }
-    ensures below { (q : ℕ) → q < first → (contents_of tables.new).pages q ≡ (contents_of tables.old).pages q }
-    ensures above { (q : ℕ) → first + count ≤ q → (contents_of tables.new).pages q ≡ (contents_of tables.old).pages q }
-    ensures kept { (contents_of tables.new).kept ≡ (contents_of tables.old).kept }
+    ensures others { KeepsOutside first count tables.old tables.new }
     ensures count { page_count (memory_of tables.new) + result ≡ page_count (memory_of tables.old) }
     ensures live { live_of tables.new + freed_in tables.old first count ≡ live_of tables.old }
 {
@@ -142,9 +138,7 @@ pub(crate) fn protect_range(
     requires low { first + count < 2 ^ 32 }
     ensures protected { (q : ℕ) → first ≤ q → q < first + count → (contents_of tables.new).pages q
         ≡ option_map (with_permissions permissions) ((contents_of tables.old).pages q) }
-    ensures below { (q : ℕ) → q < first → (contents_of tables.new).pages q ≡ (contents_of tables.old).pages q }
-    ensures above { (q : ℕ) → first + count ≤ q → (contents_of tables.new).pages q ≡ (contents_of tables.old).pages q }
-    ensures kept { (contents_of tables.new).kept ≡ (contents_of tables.old).kept }
+    ensures others { KeepsOutside first count tables.old tables.new }
     ensures live { live_of tables.new ≡ live_of tables.old }
 {
     for number in first..first + count {

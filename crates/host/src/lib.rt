@@ -4,7 +4,7 @@
 //!
 //! # Contracts
 //!
-//! - `Machine`: an environment. Input is read in order, as much as there is and is asked for, and each guest reads it from its
+//! - `HostOutside`: an environment. Input is read in order, as much as there is and is asked for, and each guest reads it from its
 //!   start. Random bytes are the next ones of a stream that seed and guest determine: the SHA-256 of the two and a counter, for
 //!   each counter in turn. The monotonic clock never goes back. That a clock tells the right time is in no contract.
 //! - `opening_random`: the first 16 bytes of the SHA-256 of seed, guest and 2^32 - 1.
@@ -14,12 +14,12 @@
 #![tactic(auto)]
 
 mod clocks;
-mod machine;
+mod host_outside;
 mod patient;
 mod random;
 mod streams;
 
-pub use machine::Machine;
+pub use host_outside::HostOutside;
 pub use patient::Patient;
 pub use random::opening_random;
 pub use streams::{StreamSink, Streams};

@@ -1,7 +1,7 @@
 //! Lines of instructions.
 
 use crate::lines::{number, number_or_none};
-use guest_pages::Space;
+use guest_pages::{AddressSpace, Space};
 use rrv_model::machine::{FaultKind, Permissions, Regs, Reservation};
 use rv_decode::{decode, encode};
 use rv_machine::{Stepped, step};

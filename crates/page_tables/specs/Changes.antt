@@ -1,5 +1,5 @@
 -- How calls change what page tables contain.
-use Rattle.std.specs.Prelude.{◌≡◌, ◌≢◌, ℕ, ◌+◌, ◌<◌, ◌≤◌, ◌==◌, Bool, true, false, if◌then◌else◌, List, [], ◌∷◌, Option, Some, None, IsSome, slice_set, replicate}
+use Rattle.std.specs.Prelude.{◌≡◌, ◌≢◌, ℕ, ◌+◌, ◌<◌, ◌≤◌, ◌==◌, Bool, true, false, if◌then◌else◌, List, [], ◌∷◌, Option, Some, None, IsSome, IfSome, IsSomeAnd, Result, OnOk, OnErr, IfErr, slice_set, replicate}
 use Rattle.std.specs.List.{list_any}
 use Rattle.std.specs.Option.{option_map}
 use Rattle.rrv_model.specs.declared.machine.Permissions.{Permissions}
@@ -7,7 +7,8 @@ use Rattle.page_tables.specs.declared.pool.Page.{Page}
 use Rattle.page_tables.specs.declared.page_tables.PageView.{PageView}
 use Rattle.page_tables.specs.declared.page_tables.PutFault.{PutFault}
 use Rattle.page_tables.specs.declared.page_tables.PutFault.TheVariants as errors
-use Rattle.page_tables.specs.Contents.{PageValue, Contents, FillPage, sum_below}
+use Rattle.page_tables.specs.Contents.{PageValue, TablesValue, Contents, FillPage, contents_of, sum_below}
+use Rattle.slab.specs.Slab.{Slab, get, slab_len}
 
 -- the current table alone has page n: to write it takes no memory
 abbrev pub IsOwn : Contents → ℕ → Type 0
@@ -27,6 +28,23 @@ pub record IsRewritten (bytes : List ℕ) (p q : Page) : Type 0 where
   pub count : q.count ≡ p.count
   pub bytes_are : q.bytes.value ≡ bytes
   pub filled : FillPage q.bytes.value
+
+-- bytes are written over those of a page from a place on, and fill it still
+pub record WritesOver (at : ℕ) (bs old new : List ℕ) : Type 0 where
+  pub put : new ≡ written old at bs
+  pub filled : FillPage new
+
+-- of the pool's pages only the one of this key changes, to what this makes of it
+pub record ChangesPage (key : ℕ) (change : Option Page → Option Page) (old new : Slab Page) : Type 0 where
+  pub here : get new key ≡ change (get old key)
+  pub others : (k : ℕ) → k ≢ key → get new k ≡ get old k
+  pub room : new.capacity ≡ old.capacity
+
+-- bytes are written into the pool's page of this key from a place on, and nothing else changes
+pub record Rewrites (key at : ℕ) (bs : List ℕ) (old new : Slab Page) : Type 0 where
+  pub here : IfSome (get old key) (λ p. IsSomeAnd (get new key) (IsRewritten (written p.bytes.value at bs) p))
+  pub others : (k : ℕ) → k ≢ key → get new k ≡ get old k
+  pub len : slab_len new ≡ slab_len old
 
 -- nothing changes but page n of the current table, and how many pages there are
 pub record KeepsOthers (n : ℕ) (old new : Contents) : Type 0 where
@@ -147,6 +165,13 @@ abbrev pub IsPutRefusal : Option PageValue → PutFault → Type 0
 IsPutRefusal page errors.NotMapped = page ≡ None
 IsPutRefusal page errors.NotAllowed = IsSome page × (allows_write page ≡ false)
 IsPutRefusal page errors.Memory = allows_write page ≡ true
+
+-- bytes are written into page n from a place on, which may be written; where the write is refused, nothing changes
+pub record Puts {T : Type 0} (result : Result T PutFault) (n at : ℕ) (bs : List ℕ) (old new : TablesValue) : Type 0 where
+  pub allowed : OnOk result (allows_write ((contents_of old).pages n) ≡ true)
+  pub written : OnOk result (IsWritten n at bs (contents_of old) (contents_of new))
+  pub refused : IfErr result (IsPutRefusal ((contents_of old).pages n))
+  pub err : OnErr result (new ≡ old)
 
 -- ---- several pages
 

@@ -1,9 +1,9 @@
 //! The current table, those of live snapshots, and the pool of the pages that they share.
 
-ghost use Rattle.std.specs.Prelude.{◌≡◌, ◌≢◌, ℕ, ◌+◌, ◌<◌, ◌≤◌, OnOk, OnErr, IfOk, IfErr, IfSome, IsSome, IsSomeAnd, IsTrue, Some, None, true, false, length, replicate, option_copied, ◌↔◌};
+ghost use Rattle.std.specs.Prelude.{◌≡◌, ◌≢◌, ℕ, ◌+◌, ◌<◌, ◌≤◌, OnOk, OnErr, IfOk, IfSome, IsSome, IsSomeAnd, None, true, false, length, replicate, option_copied, IsTrue, Some, ◌↔◌};
 ghost use Rattle.std.specs.Int.{w8, w16, w32, to_le_bytes};
 ghost use Rattle.page_tables.specs.Contents.{contents_of, page_total, ArePages};
-ghost use Rattle.page_tables.specs.Changes.{IsOwn, AreOwn, AreOwned, allows_read, allows_write, allows_execute, IsPutRefusal, bytes_if, IsWritten, IsPlaced, IsRemoved, IsProtected, IsKept, IsReleased, IsNext, IsUnshared, is_listed, shown};
+ghost use Rattle.page_tables.specs.Changes.{IsOwn, AreOwn, AreOwned, allows_read, allows_write, allows_execute, IsPutRefusal, bytes_if, IsWritten, IsPlaced, IsRemoved, IsProtected, IsKept, IsReleased, IsNext, IsUnshared, Puts, is_listed, shown};
 ghost use Rattle.page_tables.specs.Sharing.{IsTableOf, pages_in};
 ghost use Rattle.page_tables.specs.Table.{entry_at};
 ghost use Rattle.slab.specs.Slab.{get};
@@ -264,11 +264,7 @@ impl PageTables {
     #[inline(always)]
     pub fn put_byte(&mut self, number: u32, at: usize, value: u8) -> Result<(), PutFault>
         requires { at + 1 ≤ 4096 }
-        ensures allowed { OnOk result (allows_write ((contents_of self.old).pages number) ≡ true) }
-        ensures written { OnOk result (IsWritten number at (to_le_bytes w8 value)
-            (contents_of self.old) (contents_of self.new)) }
-        ensures refused { IfErr result (IsPutRefusal ((contents_of self.old).pages number)) }
-        ensures err { OnErr result (self.new ≡ self.old) }
+        ensures { Puts result number at (to_le_bytes w8 value) self.old self.new }
     {
         let entry = self.table.entry(number);
         if !entry.permissions.write {
@@ -287,11 +283,7 @@ impl PageTables {
     #[inline(always)]
     pub fn put_half(&mut self, number: u32, at: usize, value: u16) -> Result<(), PutFault>
         requires { at + 2 ≤ 4096 }
-        ensures allowed { OnOk result (allows_write ((contents_of self.old).pages number) ≡ true) }
-        ensures written { OnOk result (IsWritten number at (to_le_bytes w16 value)
-            (contents_of self.old) (contents_of self.new)) }
-        ensures refused { IfErr result (IsPutRefusal ((contents_of self.old).pages number)) }
-        ensures err { OnErr result (self.new ≡ self.old) }
+        ensures { Puts result number at (to_le_bytes w16 value) self.old self.new }
     {
         let entry = self.table.entry(number);
         if !entry.permissions.write {
@@ -310,11 +302,7 @@ impl PageTables {
     #[inline(always)]
     pub fn put_word(&mut self, number: u32, at: usize, value: u32) -> Result<(), PutFault>
         requires { at + 4 ≤ 4096 }
-        ensures allowed { OnOk result (allows_write ((contents_of self.old).pages number) ≡ true) }
-        ensures written { OnOk result (IsWritten number at (to_le_bytes w32 value)
-            (contents_of self.old) (contents_of self.new)) }
-        ensures refused { IfErr result (IsPutRefusal ((contents_of self.old).pages number)) }
-        ensures err { OnErr result (self.new ≡ self.old) }
+        ensures { Puts result number at (to_le_bytes w32 value) self.old self.new }
     {
         let entry = self.table.entry(number);
         if !entry.permissions.write {
@@ -346,9 +334,7 @@ impl PageTables {
     fn put_shared(&mut self, number: u32, at: usize, bytes: &[u8]) -> Result<(), PutFault>
         requires allowed { allows_write ((contents_of self.old).pages number) ≡ true }
         requires fits { at + length bytes.now ≤ 4096 }
-        ensures written { OnOk result (IsWritten number at bytes.now (contents_of self.old) (contents_of self.new)) }
-        ensures refused { IfErr result (IsPutRefusal ((contents_of self.old).pages number)) }
-        ensures err { OnErr result (self.new ≡ self.old) }
+        ensures { Puts result number at bytes.now self.old self.new }
     {
         let Ok(()) = self.unshare(number) else {
             return Err(PutFault::Memory);

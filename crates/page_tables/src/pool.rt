@@ -1,9 +1,9 @@
 //! The pages of a pool, and how many tables have each.
 
-ghost use Rattle.std.specs.Prelude.{◌≡◌, ◌≢◌, ℕ, ◌+◌, ◌-◌, ◌<◌, ◌≤◌, ◌^◌, ◌==◌, if◌then◌else◌, IfOk, OnOk, OnErr, IfSome, IsSome, IsSomeAnd, Some, None, true, false, length};
+ghost use Rattle.std.specs.Prelude.{◌≡◌, ◌≢◌, ℕ, ◌+◌, ◌-◌, ◌<◌, ◌≤◌, ◌^◌, ◌==◌, if◌then◌else◌, IfOk, OnOk, IfSome, IsSomeAnd, Some, None, length, OnErr, true, false, IsSome};
 ghost use Rattle.std.specs.Int.{w8, w16, w32, to_le_bytes};
 ghost use Rattle.slab.specs.Slab.{get, slab_len, ContainsKey, HasRoomFor, Updates};
-ghost use Rattle.page_tables.specs.Changes.{written, IsRewritten};
+ghost use Rattle.page_tables.specs.Changes.{ChangesPage, Rewrites, WritesOver};
 ghost use Rattle.page_tables.specs.Contents.{FillPage};
 ghost use Rattle.page_tables.specs.Sharing.{with_count, lowered, lowered_by, raised, raised_by, IsTableOf};
 ghost use Rattle.page_tables.specs.Table.{entry_at};
@@ -26,10 +26,8 @@ pub struct Page {
 /// Sets how many tables have a page.
 pub(crate) fn set_count(pool: &mut Slab<Page>, key: usize, count: u32)
     requires { ContainsKey pool.old key }
-    ensures here { get pool.new key ≡ with_count count (get pool.old key) }
-    ensures others { (k : ℕ) → k ≢ key → get pool.new k ≡ get pool.old k }
+    ensures count { ChangesPage key (with_count count) pool.old pool.new }
     ensures len { slab_len pool.new ≡ slab_len pool.old }
-    ensures room { pool.new.capacity ≡ pool.old.capacity }
 {
     let page = &mut pool[key];
     page.count = count;
@@ -38,11 +36,9 @@ pub(crate) fn set_count(pool: &mut Slab<Page>, key: usize, count: u32)
 /// One table less has a page. One that none has leaves the pool.
 pub(crate) fn lower(pool: &mut Slab<Page>, key: usize)
     requires { IsSomeAnd (get pool.old key) (λ p. 1 ≤ p.count) }
-    ensures here { get pool.new key ≡ lowered (get pool.old key) }
-    ensures others { (k : ℕ) → k ≢ key → get pool.new k ≡ get pool.old k }
+    ensures count { ChangesPage key lowered pool.old pool.new }
     ensures len { IfSome (get pool.old key) (λ p.
         slab_len pool.new + (if p.count == 1 then 1 else 0) ≡ slab_len pool.old) }
-    ensures room { pool.new.capacity ≡ pool.old.capacity }
 {
     let count = pool[key].count;
     if count > 1 {
@@ -68,8 +64,7 @@ pub(crate) fn raise_all(pool: &mut Slab<Page>, table: &Table)
 
 fn raise(pool: &mut Slab<Page>, key: usize)
     requires { IsSomeAnd (get pool.old key) (λ p. p.count < 2 ^ 32 - 1) }
-    ensures here { get pool.new key ≡ raised (get pool.old key) }
-    ensures others { (k : ℕ) → k ≢ key → get pool.new k ≡ get pool.old k }
+    ensures count { ChangesPage key raised pool.old pool.new }
     ensures len { slab_len pool.new ≡ slab_len pool.old }
 {
     let count = pool[key].count;
@@ -95,10 +90,7 @@ pub(crate) fn lower_all(pool: &mut Slab<Page>, table: &Table)
 pub(crate) fn put_byte(pool: &mut Slab<Page>, key: usize, at: usize, value: u8)
     requires there { ContainsKey pool.old key }
     requires fits { at + 1 ≤ 4096 }
-    ensures here { IfSome (get pool.old key) (λ p. IsSomeAnd (get pool.new key)
-        (IsRewritten (written p.bytes.value at (to_le_bytes w8 value)) p)) }
-    ensures others { (k : ℕ) → k ≢ key → get pool.new k ≡ get pool.old k }
-    ensures len { slab_len pool.new ≡ slab_len pool.old }
+    ensures { Rewrites key at (to_le_bytes w8 value) pool.old pool.new }
 {
     let page = &mut pool[key];
     write_byte(&mut page.bytes, at, value);
@@ -109,10 +101,7 @@ pub(crate) fn put_byte(pool: &mut Slab<Page>, key: usize, at: usize, value: u8)
 pub(crate) fn put_half(pool: &mut Slab<Page>, key: usize, at: usize, value: u16)
     requires there { ContainsKey pool.old key }
     requires fits { at + 2 ≤ 4096 }
-    ensures here { IfSome (get pool.old key) (λ p. IsSomeAnd (get pool.new key)
-        (IsRewritten (written p.bytes.value at (to_le_bytes w16 value)) p)) }
-    ensures others { (k : ℕ) → k ≢ key → get pool.new k ≡ get pool.old k }
-    ensures len { slab_len pool.new ≡ slab_len pool.old }
+    ensures { Rewrites key at (to_le_bytes w16 value) pool.old pool.new }
 {
     let page = &mut pool[key];
     write_half(&mut page.bytes, at, value);
@@ -123,10 +112,7 @@ pub(crate) fn put_half(pool: &mut Slab<Page>, key: usize, at: usize, value: u16)
 pub(crate) fn put_word(pool: &mut Slab<Page>, key: usize, at: usize, value: u32)
     requires there { ContainsKey pool.old key }
     requires fits { at + 4 ≤ 4096 }
-    ensures here { IfSome (get pool.old key) (λ p. IsSomeAnd (get pool.new key)
-        (IsRewritten (written p.bytes.value at (to_le_bytes w32 value)) p)) }
-    ensures others { (k : ℕ) → k ≢ key → get pool.new k ≡ get pool.old k }
-    ensures len { slab_len pool.new ≡ slab_len pool.old }
+    ensures { Rewrites key at (to_le_bytes w32 value) pool.old pool.new }
 {
     let page = &mut pool[key];
     write_word(&mut page.bytes, at, value);
@@ -136,10 +122,7 @@ pub(crate) fn put_word(pool: &mut Slab<Page>, key: usize, at: usize, value: u32)
 pub(crate) fn put_bytes(pool: &mut Slab<Page>, key: usize, at: usize, from: &[u8])
     requires there { ContainsKey pool.old key }
     requires fits { at + length from.now ≤ 4096 }
-    ensures here { IfSome (get pool.old key) (λ p. IsSomeAnd (get pool.new key)
-        (IsRewritten (written p.bytes.value at from.now) p)) }
-    ensures others { (k : ℕ) → k ≢ key → get pool.new k ≡ get pool.old k }
-    ensures len { slab_len pool.new ≡ slab_len pool.old }
+    ensures { Rewrites key at from.now pool.old pool.new }
 {
     let page = &mut pool[key];
     write_bytes(&mut page.bytes, at, from);
@@ -148,8 +131,7 @@ pub(crate) fn put_bytes(pool: &mut Slab<Page>, key: usize, at: usize, from: &[u8
 #[inline(always)]
 fn write_byte(bytes: &mut [u8; 4096], at: usize, value: u8)
     requires { at + 1 ≤ 4096 }
-    ensures put { bytes.new ≡ written bytes.old at (to_le_bytes w8 value) }
-    ensures filled { FillPage bytes.new }
+    ensures { WritesOver at (to_le_bytes w8 value) bytes.old bytes.new }
 {
     bytes[at] = value;
 }
@@ -157,8 +139,7 @@ fn write_byte(bytes: &mut [u8; 4096], at: usize, value: u8)
 #[inline(always)]
 fn write_half(bytes: &mut [u8; 4096], at: usize, value: u16)
     requires { at + 2 ≤ 4096 }
-    ensures put { bytes.new ≡ written bytes.old at (to_le_bytes w16 value) }
-    ensures filled { FillPage bytes.new }
+    ensures { WritesOver at (to_le_bytes w16 value) bytes.old bytes.new }
 {
     let [first, second] = value.to_le_bytes();
     bytes[at] = first;
@@ -168,8 +149,7 @@ fn write_half(bytes: &mut [u8; 4096], at: usize, value: u16)
 #[inline(always)]
 fn write_word(bytes: &mut [u8; 4096], at: usize, value: u32)
     requires { at + 4 ≤ 4096 }
-    ensures put { bytes.new ≡ written bytes.old at (to_le_bytes w32 value) }
-    ensures filled { FillPage bytes.new }
+    ensures { WritesOver at (to_le_bytes w32 value) bytes.old bytes.new }
 {
     let [first, second, third, fourth] = value.to_le_bytes();
     bytes[at] = first;
@@ -180,8 +160,7 @@ fn write_word(bytes: &mut [u8; 4096], at: usize, value: u32)
 
 fn write_bytes(bytes: &mut [u8; 4096], at: usize, from: &[u8])
     requires { at + length from.now ≤ 4096 }
-    ensures put { bytes.new ≡ written bytes.old at from.now }
-    ensures filled { FillPage bytes.new }
+    ensures { WritesOver at from.now bytes.old bytes.new }
 {
     bytes[at..at + from.len()].copy_from_slice(from);
     fill_page(bytes);

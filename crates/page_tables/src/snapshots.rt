@@ -1,6 +1,6 @@
 //! The tables of live snapshots, by their numbers.
 
-ghost use Rattle.std.specs.Prelude.{◌≡◌, ◌<◌, ◌≤◌, ◌+◌, ℕ, Some, None, IsSome, OnOk, OnErr, length, slice_index_or};
+ghost use Rattle.std.specs.Prelude.{◌≡◌, ◌≤◌, ◌+◌, Some, None, IsSome, OnOk, OnErr, length, slice_index_or, ℕ, ◌<◌};
 ghost use Rattle.page_tables.specs.Sharing.{IsSlotSet};
 
 use crate::table::Table;
@@ -46,10 +46,7 @@ pub(crate) fn take(kept: &mut Vec<Option<Table>>, number: usize) -> Table
     ensures taken { IsSlotSet number None kept.old.items kept.new.items }
     ensures len { length kept.new.items ≡ length kept.old.items }
 {
-    match kept[number].take() {
-        Some(table) => table,
-        None => unreachable!(),
-    }
+    kept[number].take().unwrap()
 }
 
 /// The table that is kept under a number.
@@ -57,8 +54,5 @@ pub(crate) fn kept_under(kept: &Vec<Option<Table>>, number: usize) -> &Table
     requires { IsSome (slice_index_or kept.now.items number None) }
     ensures { slice_index_or kept.now.items number None ≡ Some result.now }
 {
-    let Some(table) = &kept[number] else {
-        unreachable!();
-    };
-    table
+    kept[number].as_ref().unwrap()
 }

@@ -52,12 +52,13 @@ leaves_first seen old new put false low h =
 
 -- the output of one record more
 pub releases_more : {S : Type 0} (tells : S → Type 0) (taken : S → List (ℕ × ℕ)) (seen : ℕ) (a b c : Owed) (s m t : S) (j count n : ℕ)
-    (all : Bool) → (tells s → tells m) → b.released < seen
+    (all : Bool) → b.released < seen
     → n ≡ min (j + count) 18446744073709551615 → Releases tells taken seen a b s m j → ReleasesFirst tells taken all b c m t count →
     Releases tells taken seen a c s t n
-releases_more tells taken seen a b c s m t j count n all still low is g h = record {
+releases_more tells taken seen a b c s m t j count n all low is g h = record {
   put = g.put ++ h.put;
-  takes = λ tell. h.takes (still tell) ∙ ap (λ (l : List (ℕ × ℕ)). l ++ h.put) (g.takes tell) ∙ append_assoc (taken s) g.put h.put;
+  takes = λ tell. h.takes (g.still.1 tell) ∙ ap (λ (l : List (ℕ × ℕ)). l ++ h.put) (g.takes tell) ∙ append_assoc (taken s) g.put h.put;
+  still = ((λ t. g.still.0 (h.still.0 t)), (λ t. h.still.1 (g.still.1 t)));
   leaves = leaves_both seen a b c g.put h.put g.leaves (leaves_first seen b c h.put all low h.leaves);
   counted = is ∙ ap (λ (k : ℕ). min (k + count) 18446744073709551615) g.counted ∙ counted_more g.put h.put count h.counted;
 }

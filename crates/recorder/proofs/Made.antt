@@ -7,10 +7,9 @@ use Rattle.rrv_model.specs.Recording.{items_of}
 use Rattle.commit_core.specs.Runs.{ItemsPut}
 use Rattle.std.specs.Prelude.{IfErr, Result}
 use Rattle.commit_group.specs.Seats.{RecorderValue}
-use Rattle.commit_group.specs.Submits.{after_look}
 use Rattle.recorder.specs.declared.fault.RecorderFault.{RecorderFault}
 use Rattle.recorder.specs.Owed.{Owed, left_of, Leaves}
-use Rattle.recorder.specs.RecorderCalls.{KeepsCheckpoints, KeepsMade, PutsCounted, PutsMore, SendsSome, TellsTaken}
+use Rattle.recorder.specs.RecorderCalls.{KeepsMade, OnlyReleases, PutsCounted, PutsMore, SendsSome, TellsTaken}
 use Rattle.recorder.specs.Recorders.{GuestRecorder, HasPut, backlog_of, made, records_from}
 use Rattle.recorder.proofs.Puts.{counted_both}
 
@@ -61,19 +60,18 @@ keeps_sent a b h = record {
   checkpoints = h.checkpoints;
 }
 
-pub keeps_released : (a b : GuestRecorder) (word : ℕ) → b.seat ≡ after_look a.seat word → (b.backlog ≡ a.backlog) × (b.guest ≡ a.guest) →
-    KeepsCheckpoints a b → KeepsMade a b
-keeps_released a b word looks same checkpoints = record {
-  made_is = (λ i. (looks i).sent ++ same.0 i);
-  guest = same.1;
-  group = ap (λ (q : RecorderValue). q.group) looks;
-  place = ap (λ (q : RecorderValue). q.guest) looks;
-  here = ap (λ (q : RecorderValue). q.has_left) looks;
-  checkpoints = checkpoints;
+pub keeps_released : (a b : GuestRecorder) → OnlyReleases a b → KeepsMade a b
+keeps_released a b h = record {
+  made_is = (λ i. (h.looks i).sent ++ h.backlog i);
+  guest = h.guest;
+  group = ap (λ (q : RecorderValue). q.group) h.looks;
+  place = ap (λ (q : RecorderValue). q.guest) h.looks;
+  here = ap (λ (q : RecorderValue). q.has_left) h.looks;
+  checkpoints = h.checkpoints;
 }
 
-pub looks_once : (a b c : GuestRecorder) (word : ℕ) → SendsSome a b → c.seat ≡ after_look b.seat word → c.seat.looks ≡ a.seat.looks + 1
-looks_once a b c word sends looks = ap (λ (q : RecorderValue). q.looks) looks ∙ ap (λ (q : RecorderValue). q.looks + 1) sends.seat
+pub looks_once : (a b c : GuestRecorder) → SendsSome a b → OnlyReleases b c → c.seat.looks ≡ a.seat.looks + 1
+looks_once a b c sends h = ap (λ (q : RecorderValue). q.looks) h.looks ∙ ap (λ (q : RecorderValue). q.looks + 1) sends.seat
 
 pub put_stays : (a b : GuestRecorder) → SendsSome a b → (out : List (ℕ × ℕ)) → HasPut a out → HasPut b out
 put_stays a b h out p = record {
@@ -92,15 +90,17 @@ module _ {S : Type 0} (tells : S → Type 0) (taken : S → List (ℕ × ℕ)) w
   puts_none r s = record {
     put = [];
     takes = λ t. sym (append-nil (taken s));
+    still = ((λ t. t), (λ t. t));
     has_put = λ out h. subst (HasPut r) (sym (append-nil out)) h;
     counted = refl;
   }
 
-  pub puts_both : (a b c : GuestRecorder) (s m t : S) (j k n : ℕ) → (tells s → tells m) → n ≡ min (j + k) 18446744073709551615
+  pub puts_both : (a b c : GuestRecorder) (s m t : S) (j k n : ℕ) → n ≡ min (j + k) 18446744073709551615
       → PutsCounted tells taken a b s m j → PutsCounted tells taken b c m t k → PutsCounted tells taken a c s t n
-  puts_both a b c s m t j k n still is g h = record {
+  puts_both a b c s m t j k n is g h = record {
     put = g.put ++ h.put;
-    takes = λ tell. h.takes (still tell) ∙ ap (λ (l : List (ℕ × ℕ)). l ++ h.put) (g.takes tell) ∙ append_assoc (taken s) g.put h.put;
+    takes = λ tell. h.takes (g.still.1 tell) ∙ ap (λ (l : List (ℕ × ℕ)). l ++ h.put) (g.takes tell) ∙ append_assoc (taken s) g.put h.put;
+    still = ((λ t. g.still.0 (h.still.0 t)), (λ t. h.still.1 (g.still.1 t)));
     has_put = λ out p. subst (HasPut c) (append_assoc out g.put h.put) (h.has_put (out ++ g.put) (g.has_put out p));
     counted = is ∙ (λ i. min (g.counted i + h.counted i) 18446744073709551615) ∙ counted_both g.put h.put;
   }
@@ -111,15 +111,16 @@ module _ {S : Type 0} (tells : S → Type 0) (taken : S → List (ℕ × ℕ)) w
   puts_sent a b c s t n g h = record {
     put = g.put;
     takes = g.takes;
+    still = g.still;
     has_put = λ out p. put_stays b c h (out ++ g.put) (g.has_put out p);
     counted = g.counted;
   }
 
   -- a round of settling
-  pub puts_round : (a b d c : GuestRecorder) (s m t : S) (j k n : ℕ) → (tells s → tells m) → n ≡ min (j + k) 18446744073709551615
+  pub puts_round : (a b d c : GuestRecorder) (s m t : S) (j k n : ℕ) → n ≡ min (j + k) 18446744073709551615
       → PutsCounted tells taken a b s m j → SendsSome b d → PutsCounted tells taken d c m t k → PutsCounted tells taken a c s t n
-  puts_round a b d c s m t j k n still is g sent h = puts_both a d c s m t j k n still is (puts_sent a b d s m j g sent) h
+  puts_round a b d c s m t j k n is g sent h = puts_both a d c s m t j k n is (puts_sent a b d s m j g sent) h
 
   pub puts_more : (a b : GuestRecorder) (s t : S) (n : ℕ) (result : Result (Unit {0}) RecorderFault) (h : PutsCounted tells taken a b s t n)
       → IfErr result (TellsTaken h.put) → PutsMore tells taken a b s t result
-  puts_more a b s t n result h told = record { put = h.put; takes = h.takes; has_put = h.has_put; told = told }
+  puts_more a b s t n result h told = record { put = h.put; takes = h.takes; still = h.still; has_put = h.has_put; told = told }

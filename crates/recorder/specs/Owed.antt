@@ -1,5 +1,5 @@
 -- Output that waits for its records to be durable, and what of it leaves.
-use Rattle.std.specs.Prelude.{◌≡◌, ℕ, ◌+◌, ◌-◌, ◌^◌, ◌≤◌, max, min, Bool, true, false, List, [], ◌∷◌, ◌++◌, length, take, drop, map, flat_map}
+use Rattle.std.specs.Prelude.{◌≡◌, ◌↔◌, ℕ, ◌+◌, ◌-◌, ◌^◌, ◌≤◌, max, min, Bool, true, false, List, [], ◌∷◌, ◌++◌, length, take, drop, map, flat_map}
 use Rattle.guest_calls.specs.declared.put.Put.{Put}
 use Rattle.outcomes.specs.Failures.{HasFailed}
 use Rattle.rrv_model.specs.Output.{to_descriptor}
@@ -49,11 +49,12 @@ pub record Leaves (seen : ℕ) (old new : Owed) (put : List (ℕ × ℕ)) : Type
 abbrev pub count_of : List (ℕ × ℕ) → ℕ
 count_of put = min (length put) (2 ^ 64 - 1)
 
--- a sink that tells its bytes took these and no others, of the first record's output, and they are so many
+-- a sink that tells its bytes took these and no others, of the first record's output, and they are so many; it tells on
 pub record ReleasesFirst {S : Type 0} (tells : S → Type 0) (taken : S → List (ℕ × ℕ)) (all : Bool)
     (old new : Owed) (sink sink' : S) (count : ℕ) : Type 0 where
   pub put : List (ℕ × ℕ)
   pub takes : tells sink → taken sink' ≡ taken sink ++ put
+  pub still : tells sink' ↔ tells sink
   pub leaves : LeavesFirst old new put all
   pub counted : count ≡ length put
 
@@ -62,6 +63,7 @@ pub record Releases {S : Type 0} (tells : S → Type 0) (taken : S → List (ℕ
     (old new : Owed) (sink sink' : S) (count : ℕ) : Type 0 where
   pub put : List (ℕ × ℕ)
   pub takes : tells sink → taken sink' ≡ taken sink ++ put
+  pub still : tells sink' ↔ tells sink
   pub leaves : Leaves seen old new put
   pub counted : count ≡ count_of put
 

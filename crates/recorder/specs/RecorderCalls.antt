@@ -1,5 +1,6 @@
 -- What the calls of a guest's recorder do.
-use Rattle.std.specs.Prelude.{◌≡◌, ◌≢◌, ℕ, ◌+◌, ◌<◌, ◌≤◌, true, IsSome, IfErr, Result, List, [], ◌∷◌, ◌++◌, length, map, Option, None}
+use Rattle.std.specs.Prelude.{◌≡◌, ◌≢◌, ◌↔◌, ℕ, ◌+◌, ◌<◌, ◌≤◌, true, false, IsSome, IfErr, Result, List, [], ◌∷◌, ◌++◌, length, map, Option, None}
+use Rattle.std.specs.List.{AllByRecursion}
 use Rattle.rrv_model.specs.declared.limits.TheConstants.{MAX_NUMBER}
 use Rattle.rrv_model.specs.declared.record.Choice.{Choice}
 use Rattle.rrv_model.specs.declared.record.End.{End}
@@ -18,6 +19,8 @@ use Rattle.outcomes.specs.Failures.{HasFailed}
 use Rattle.rrv_model.specs.Output.{Chunk, FramePuts, call_in, spread}
 use Rattle.rrv_model.specs.Standing.{StandsBehind}
 use Rattle.rrv_model.specs.Recording.{frame_record, items_of}
+use Rattle.rrv_model.specs.RecordText.{HasText}
+use Rattle.rrv_model.specs.Recovered.{OpensAtZero}
 use Rattle.rrv_model.specs.State.{State, thread_at, IsRunning}
 use Rattle.rrv_model.specs.Step.{ThreadMayTakeMemory}
 use Rattle.guest_calls.specs.declared.put.Put.{Put}
@@ -30,10 +33,11 @@ use Rattle.serial_sched.specs.declared.fault.SliceFault.TheVariants as slice_fau
 use Rattle.serial_sched.specs.Asking.{Gives}
 use Rattle.serial_sched.specs.Slices.{IsLive, IsQuantum, IsSliceOf, NextMayGrow}
 use Rattle.commit_group.specs.Seats.{RecorderValue, next_record}
+use Rattle.commit_group.specs.Submits.{after_look}
 use Rattle.recorder.specs.declared.fault.RecorderFault.{RecorderFault}
 use Rattle.recorder.specs.declared.fault.RecorderFault.TheVariants as faults
 use Rattle.recorder.specs.Owed.{bytes_of, count_of}
-use Rattle.recorder.specs.Recorders.{GuestRecorder, HasPut, made, records_from}
+use Rattle.recorder.specs.Recorders.{GuestRecorder, HasPut, backlog_of, made, records_from}
 
 -- ---- new
 
@@ -152,6 +156,13 @@ pub record IsUnmoved {O : Type 0} (old new : GuestRecorder) (before after : O) :
 
 -- ---- send
 
+-- the items that wait may be sent, one after the other
+pub record CanSend (seat : RecorderValue) (items : List Item) : Type 0 where
+  pub here : seat.has_left ≡ false
+  pub texts : AllByRecursion HasText (backlog_of seat items)
+  pub opens : AllByRecursion OpensAtZero (backlog_of seat items)
+  pub few : length seat.sent + length items ≤ MAX_NUMBER + 1
+
 -- the first item of the backlog was sent, after a look for a halt
 pub record SendsFirst (seat : RecorderValue) (items : List Item) (seat' : RecorderValue) (items' : List Item)
     : Type 0 where
@@ -180,11 +191,13 @@ abbrev pub TellsTaken : List (ℕ × ℕ) → RecorderFault → Type 0
 TellsTaken put (faults.SinkFailed taken) = taken ≡ count_of put
 TellsTaken put _ = Unit {0}
 
--- The sink took these bytes, and no others. With them behind what had left before, this is again what has left.
+-- The sink took these bytes, and no others, and tells on where it told. With them behind what had left before, this is again
+-- what has left.
 pub record PutsMore {S T : Type 0} (tells : S → Type 0) (taken : S → List (ℕ × ℕ)) (old new : GuestRecorder)
     (sink sink' : S) (result : Result T RecorderFault) : Type 0 where
   pub put : List (ℕ × ℕ)
   pub takes : tells sink → taken sink' ≡ taken sink ++ put
+  pub still : tells sink' ↔ tells sink
   pub has_put : (out : List (ℕ × ℕ)) → HasPut old out → HasPut new (out ++ put)
   pub told : IfErr result (TellsTaken put)
 
@@ -193,8 +206,16 @@ pub record PutsCounted {S : Type 0} (tells : S → Type 0) (taken : S → List (
     (sink sink' : S) (count : ℕ) : Type 0 where
   pub put : List (ℕ × ℕ)
   pub takes : tells sink → taken sink' ≡ taken sink ++ put
+  pub still : tells sink' ↔ tells sink
   pub has_put : (out : List (ℕ × ℕ)) → HasPut old out → HasPut new (out ++ put)
   pub counted : count ≡ count_of put
+
+-- of a recorder's parts, all but what was seen to be durable and what has left of the output
+pub record OnlyReleases (old new : GuestRecorder) : Type 0 where
+  pub looks : new.seat ≡ after_look old.seat new.seat.word
+  pub backlog : new.backlog ≡ old.backlog
+  pub guest : new.guest ≡ old.guest
+  pub checkpoints : KeepsCheckpoints old new
 
 -- only the sink refuses a release
 abbrev pub RefusesRelease : RecorderFault → ℕ → ℕ → Type 0

@@ -140,7 +140,6 @@ impl Outputs {
         ensures released { Releases S.tells S.taken seen self.old self.new sink.old sink.new result.0 }
         ensures all { result.1 ≡ true → seen ≤ self.new.released }
         ensures counted { Counts result.1 (S.faults sink.old) (S.faults sink.new) }
-        ensures tells { S.tells sink.new ↔ S.tells sink.old }
     {
         let mut taken = 0u64;
         while self.released() < seen {
@@ -158,7 +157,6 @@ impl Outputs {
         requires { 1 ≤ length self.old.owed }
         ensures released { ReleasesFirst S.tells S.taken result.1 self.old self.new sink.old sink.new result.0 }
         ensures counted { Counts result.1 (S.faults sink.old) (S.faults sink.new) }
-        ensures tells { S.tells sink.new ↔ S.tells sink.old }
     {
         let Some(first) = self.waiting.front() else {
             return (0, true);

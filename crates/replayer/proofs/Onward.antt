@@ -1,5 +1,5 @@
 -- Going on along the frames of a recording, and into them.
-use Rattle.std.proofs.Common.{◌≡◌, ℕ, zero, suc, ◌+◌, ◌-◌, ◌<◌, ◌≤◌, Bool, true, false, nat_le, List, [], ◌∷◌, ◌++◌, length, get_or, take, drop, None, refl, sym, ◌∙◌, ap, subst, arith}
+use Rattle.std.proofs.Common.{◌≡◌, ◌≢◌, ℕ, zero, suc, ◌+◌, ◌-◌, ◌<◌, ◌≤◌, Bool, true, false, nat_le, List, [], ◌∷◌, ◌++◌, length, get_or, take, drop, None, refl, sym, ◌∙◌, ap, subst, arith}
 use Rattle.std.specs.Prelude.{MatchBool}
 use Rattle.std.proofs.lemmas.Bool.Decides.{nat_tests}
 use Rattle.std.proofs.lemmas.List.{length-drop, take_rest}
@@ -219,7 +219,7 @@ stands_between v p left on there inside none begins =
     }
 
 -- inside a frame, what is left of it is next
-pub on_inside : (v : Track) (p : Position) (f : Frame) → StandsAt v.opening v.frames p → p.frames < length v.frames →
+on_inside : (v : Track) (p : Position) (f : Frame) → StandsAt v.opening v.frames p → p.frames < length v.frames →
     f ≡ get_or v.frames p.frames f →
     GoesOn v.opening v.frames p.at (state_of p.guest) (rest_of p.steps f ∷ drop (p.frames + 1) v.frames) × (1 ≤ f.count - p.steps)
 on_inside v p f stands below there =
@@ -228,7 +228,7 @@ on_inside v p f stands below there =
     (subst (λ (fs : List Frame). GoesOn v.opening v.frames p.at (state_of p.guest) fs) same stands.on, subst Begins same stands.begins)
 
 -- where instructions are left, so is a frame
-pub frame_left : (v : Track) (p : Position) → StandsAt v.opening v.frames p → p.at < total v.frames → p.frames < length v.frames
+frame_left : (v : Track) (p : Position) → StandsAt v.opening v.frames p → p.at < total v.frames → p.frames < length v.frames
 frame_left v p stands below = left_by (drop p.frames v.frames) refl where
   left_by : (left : List Frame) → drop p.frames v.frames ≡ left → p.frames < length v.frames
   left_by [] there =
@@ -239,6 +239,22 @@ frame_left v p stands below = left_by (drop p.frames v.frames) refl where
       let some : length (drop p.frames v.frames) ≡ length (f ∷ left) = ap length there in
       let long : length (drop p.frames v.frames) ≡ length v.frames - p.frames = length-drop p.frames v.frames in
       omega (arith, some, long)
+
+-- the frame inside of which a guest stands
+pub record IsInside (v : Track) (p : Position) (f : Frame) : Type 0 where
+  pub there : f ≡ get_or v.frames p.frames f
+  pub below : p.frames < length v.frames
+  pub on : GoesOn v.opening v.frames p.at (state_of p.guest) (rest_of p.steps f ∷ drop (p.frames + 1) v.frames)
+  pub some : 1 ≤ f.count - p.steps
+
+-- where it has to go on, this is the frame at its place, read from a list that is the track's
+pub inside_of : (v : Track) (p : Position) (f : Frame) (read : List Frame) (t : ℕ) → StandsAt v.opening v.frames p →
+    f ≡ get_or read p.frames f → read ≡ v.frames → p.at ≤ t → t ≤ total v.frames → p.at ≢ t → IsInside v p f
+inside_of v p f read t stands is same low high ahead =
+    let there : f ≡ get_or v.frames p.frames f = is ∙ ap (λ (fs : List Frame). get_or fs p.frames f) same in
+    let below = frame_left v p stands (omega (arith, low, high, ahead)) in
+    let inside = on_inside v p f stands below there in
+    record { there = there; below = below; on = inside.0; some = inside.1 }
 
 -- behind the next frame
 pub drop_next : (frames : List Frame) (n : ℕ) (f : Frame) (rest : List Frame) → drop n frames ≡ f ∷ rest → (drop (n + 1) frames ≡ rest) ×

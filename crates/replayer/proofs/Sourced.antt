@@ -105,8 +105,8 @@ none_counted (items.Part p) s h = absurd h
 
 -- the first record alone
 pub followed_first : (first : Record) (walk : Walk) →
-    Stands first.guest (first ∷ []) (state_of walk.base) walk.row.items (state_of walk.guest) →
-    walk.row.items ≡ [] → walk.frames.items ≡ [] → walk.marks.items ≡ [] → walk.total ≡ 0 → walk.last ≡ 0 →
+    Stands first.guest (first ∷ []) (state_of walk.base) walk.parts.items (state_of walk.guest) →
+    walk.parts.items ≡ [] → walk.frames.items ≡ [] → walk.marks.items ≡ [] → walk.total ≡ 0 → walk.last ≡ 0 →
     EndsIn (first.item ∷ []) (state_of walk.guest) → Followed first (first ∷ []) walk
 followed_first first walk stands row frames marks total_is last_is ends = record {
   first_is = refl;
@@ -123,23 +123,25 @@ first_of_list records first rest walk is h = subst (λ (rs : List Record). Follo
 
 -- one record more, behind those that were followed
 pub followed_next : (first : Record) (read : List Record) (r : Record) (old new : Walk) → 1 ≤ length read → Followed first read old →
-    (old.keeps ≡ true → KeepsOn r.item old.row.items old.frames.items old.marks.items old.total new.frames.items new.marks.items new.total)
+    (old.keeps ≡ true →
+    KeepsOn r.item old.parts.items old.frames.items old.marks.items old.total new.frames.items new.marks.items new.total)
     →
-    RowIs r.item old.row.items new.row.items → new.keeps ≡ old.keeps → new.total ≡ old.total + instructions_in r.item →
+    RowIs r.item old.parts.items new.parts.items → new.keeps ≡ old.keeps → new.total ≡ old.total + instructions_in r.item →
     new.last ≡ thread_behind r.item old.last →
-    LeadsOn first.guest (length read) r (state_of old.base) old.row.items (state_of old.guest) (state_of new.base) new.row.items
+    LeadsOn first.guest (length read) r (state_of old.base) old.parts.items (state_of old.guest) (state_of new.base) new.parts.items
     (state_of new.guest) →
     Followed first (read ++ r ∷ []) new
 followed_next first read r old new some h keeps row goes_on counted last leads = record {
   first_is = first_more (λ q. q ≡ first) read (r ∷ []) h.first_is;
-  stands = stands_next first.guest read r (state_of old.base) old.row.items (state_of old.guest) (state_of new.base) new.row.items
+  stands = stands_next first.guest read r (state_of old.base) old.parts.items (state_of old.guest) (state_of new.base) new.parts.items
       (state_of new.guest) h.stands leads;
   keeps = λ on.
       let kept : old.keeps ≡ true = sym goes_on ∙ on in
-      keeps_given read r old.row.items new.row.items old.frames.items new.frames.items old.marks.items new.marks.items old.total new.total
+      keeps_given read r old.parts.items new.parts.items old.frames.items new.frames.items old.marks.items new.marks.items old.total
+      new.total
       some (h.keeps kept) (keeps kept) row;
   ends = subst (λ (its : List Item). EndsIn its (state_of new.guest)) (sym (items-append read r))
-      (ends_next (items_of read) r.item (state_of old.base) old.row.items (state_of old.guest) (state_of new.base) new.row.items
+      (ends_next (items_of read) r.item (state_of old.base) old.parts.items (state_of old.guest) (state_of new.base) new.parts.items
       (state_of new.guest) h.ends leads.leads);
   counted = counted ∙ ap (λ n. n + instructions_in r.item) h.counted ∙ sym (counted_next (items_of read) r.item)
       ∙ ap (λ (its : List Item). total (frames_of its)) (sym (items-append read r));
@@ -151,11 +153,12 @@ followed_next first read r old new some h keeps row goes_on counted last leads =
 pub followed_at : (first : Record) (records : List Record) (index : ℕ) (r : Record) (old new : Walk) → index < length records → 1 ≤ index →
     r ≡ get_or records index r →
     Followed first (take index records) old →
-    (old.keeps ≡ true → KeepsOn r.item old.row.items old.frames.items old.marks.items old.total new.frames.items new.marks.items new.total)
+    (old.keeps ≡ true →
+    KeepsOn r.item old.parts.items old.frames.items old.marks.items old.total new.frames.items new.marks.items new.total)
     →
-    RowIs r.item old.row.items new.row.items → new.keeps ≡ old.keeps → new.total ≡ old.total + instructions_in r.item →
+    RowIs r.item old.parts.items new.parts.items → new.keeps ≡ old.keeps → new.total ≡ old.total + instructions_in r.item →
     new.last ≡ thread_behind r.item old.last →
-    LeadsOn first.guest index r (state_of old.base) old.row.items (state_of old.guest) (state_of new.base) new.row.items
+    LeadsOn first.guest index r (state_of old.base) old.parts.items (state_of old.guest) (state_of new.base) new.parts.items
     (state_of new.guest) →
     Followed first (take (index + 1) records) new
 followed_at first records index r old new below some there h keeps row goes_on counted last leads =
@@ -165,7 +168,7 @@ followed_at first records index r old new below some there h keeps row goes_on c
     ap (λ n. take n records) one_more ∙ take-suc records index r below ∙ ap (λ q. take index records ++ q ∷ []) (sym there) in
     subst (λ (rs : List Record). Followed first rs new) (sym longer)
     (followed_next first (take index records) r old new (omega (arith, len)) h keeps row goes_on counted last
-    (subst (λ n. LeadsOn first.guest n r (state_of old.base) old.row.items (state_of old.guest) (state_of new.base) new.row.items
+    (subst (λ n. LeadsOn first.guest n r (state_of old.base) old.parts.items (state_of old.guest) (state_of new.base) new.parts.items
     (state_of new.guest)) (sym len) leads))
 
 -- all that was read is kept
@@ -175,11 +178,11 @@ pub read_kept : (first : Record) (read : List Record) (walk : Walk) (o : Opening
 read_kept first read walk o h keeps item_is =
     let long : length read ≤ length read = omega arith in
     let all : take (length read) read ≡ read = take_all (length read) read long in
-    all_kept first.guest read first (length read) o (state_of walk.base) walk.row.items (state_of walk.guest) walk.frames.items
+    all_kept first.guest read first (length read) o (state_of walk.base) walk.parts.items (state_of walk.guest) walk.frames.items
     walk.marks.items walk.total long
-    (subst (λ (rs : List Record). Stands first.guest rs (state_of walk.base) walk.row.items (state_of walk.guest)) (sym all) h.stands)
+    (subst (λ (rs : List Record). Stands first.guest rs (state_of walk.base) walk.parts.items (state_of walk.guest)) (sym all) h.stands)
     h.first_is item_is
-    (subst (λ (rs : List Record). KeepsAll (drop 1 (items_of rs)) walk.row.items walk.frames.items walk.marks.items walk.total) (sym all)
+    (subst (λ (rs : List Record). KeepsAll (drop 1 (items_of rs)) walk.parts.items walk.frames.items walk.marks.items walk.total) (sym all)
     (h.keeps keeps))
 
 pub kept_records : (records : List Record) (o : Opening) (frames : List Frame) (marks : List Mark) (len : ℕ) → length records ≡ len →
@@ -198,7 +201,7 @@ pub end_of : (first : Record) (read records : List Record) (walk : Walk) (end : 
     end.guest ≡ walk.guest → end.total ≡ walk.total → end.len ≡ length read → end.last ≡ walk.last →
     IsEndOf end records
 end_of first read records walk end h are guest_is total_is len_is last_is = subst (λ (rs : List Record). IsEndOf end rs) are (record {
-  recording = recording_of first.guest read (state_of walk.base) walk.row.items (state_of walk.guest) h.stands;
+  recording = recording_of first.guest read (state_of walk.base) walk.parts.items (state_of walk.guest) h.stands;
   ends = subst (λ (g : _). EndsIn (items_of read) (state_of g)) (sym guest_is) h.ends;
   total = total_is ∙ h.counted;
   len = len_is;

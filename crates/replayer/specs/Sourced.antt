@@ -68,22 +68,22 @@ pub record FollowsGiven {S : Type 0} (honest : S → Type 0) (records : S → Li
     (old new : Walk) : Type 0 where
   pub entry : Record
   pub there : honest source → slice_get (records source) index ≡ Some entry
-  pub keeps : old.keeps ≡ true → KeepsOn entry.item old.row.items old.frames.items old.marks.items old.total
+  pub keeps : old.keeps ≡ true → KeepsOn entry.item old.parts.items old.frames.items old.marks.items old.total
       new.frames.items new.marks.items new.total
   pub goes_on : new.keeps ≡ old.keeps
   pub counted : new.total ≡ old.total + instructions_in entry.item
   pub last : new.last ≡ thread_behind entry.item old.last
-  pub row : RowIs entry.item old.row.items new.row.items
+  pub row : RowIs entry.item old.parts.items new.parts.items
   pub grown : new.total ≤ old.total + 2 ^ 20
-  pub leads : LeadsOn guest index entry (state_of old.base) old.row.items (state_of old.guest)
-      (state_of new.base) new.row.items (state_of new.guest)
+  pub leads : LeadsOn guest index entry (state_of old.base) old.parts.items (state_of old.guest)
+      (state_of new.base) new.parts.items (state_of new.guest)
 
 -- records that begin with this one, followed: what stands behind them, what is kept of them, and where they end
 pub record Followed (first : Record) (records : List Record) (walk : Walk) : Type 0 where
   pub first_is : IsSomeAnd (slice_get records 0) (λ r. r ≡ first)
-  pub stands : Stands first.guest records (state_of walk.base) walk.row.items (state_of walk.guest)
+  pub stands : Stands first.guest records (state_of walk.base) walk.parts.items (state_of walk.guest)
   pub keeps : walk.keeps ≡ true
-      → KeepsAll (drop 1 (items_of records)) walk.row.items walk.frames.items walk.marks.items walk.total
+      → KeepsAll (drop 1 (items_of records)) walk.parts.items walk.frames.items walk.marks.items walk.total
   pub ends : EndsIn (items_of records) (state_of walk.guest)
   pub counted : walk.total ≡ total (frames_of (items_of records))
   pub last : walk.last ≡ last_tid (frames_of (items_of records))

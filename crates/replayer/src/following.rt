@@ -35,7 +35,7 @@ impl Model for Following {
       total = f.walk.total;
       last = f.walk.last;
       base = f.walk.base;
-      row = f.walk.row.items;
+      row = f.walk.parts.items;
     } };
 
     ghost invariant = { λ f. f.walk.total ≤ f.len * 2 ^ 20 };

@@ -10,7 +10,7 @@ ghost use Rattle.replayer.specs.Places.{with_count};
 use guest_calls::Guest;
 use rrv_model::record::Frame;
 use rrv_model::refusal::Memory;
-use serial_sched::{FollowFault, follow, steps};
+use serial_sched::{follow, steps};
 use std::alloc::Global;
 
 /// Runs so many plain steps, which the thread can take.
@@ -19,11 +19,11 @@ pub(crate) fn run_plain(guest: &mut Guest, tid: u32, count: u32) -> Result<(), M
     ensures steps { OnOk result (Steps count tid (state_of guest.old) (state_of guest.new)) }
     ensures ran { OnOk result (guest.new.ran ≡ counted guest.old.ran count) }
 {
-    match steps(guest, tid, count) {
-        Ok(()) => Ok(()),
-        Err(FollowFault::Memory) => Err(Memory),
-        Err(FollowFault::GoesNowhere) => unreachable!(),
-    }
+    // The thread can take them, so only memory can be short.
+    let Ok(()) = steps(guest, tid, count) else {
+        return Err(Memory);
+    };
+    Ok(())
 }
 
 /// Follows a frame, which leads on.
@@ -33,11 +33,11 @@ pub(crate) fn follow_whole(alloc: Global, guest: &mut Guest, frame: &Frame) -> R
     ensures puts { OnOk result (CallPuts frame.now.end (state_of guest.old) frame.now (chunks_of guest.new.put)) }
     ensures ran { OnOk result (guest.new.ran ≡ counted guest.old.ran frame.now.count) }
 {
-    match follow(alloc, guest, frame) {
-        Ok(()) => Ok(()),
-        Err(FollowFault::Memory) => Err(Memory),
-        Err(FollowFault::GoesNowhere) => unreachable!(),
-    }
+    // The frame leads on, so only memory can be short.
+    let Ok(()) = follow(alloc, guest, frame) else {
+        return Err(Memory);
+    };
+    Ok(())
 }
 
 /// The count of a frame, a word.

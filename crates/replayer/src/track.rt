@@ -10,8 +10,7 @@ use crate::forward::{count_of, follow_whole, rest_of, run_plain};
 use crate::opened::put_parts;
 use crate::position::Position;
 use crate::recording::Track;
-use checkpoint::ApplyFault;
-use guest_calls::{Guest, OpeningFault};
+use guest_calls::Guest;
 use rrv_model::refusal::Memory;
 use std::alloc::Global;
 
@@ -25,10 +24,9 @@ impl Track {
         ensures steps { IfOk result (λ p. p.steps ≡ 0) }
         ensures ran { IfOk result (λ p. p.guest.ran ≡ 0) }
     {
-        let guest = match Guest::start(alloc, &self.opening) {
-            Ok(guest) => guest,
-            Err(OpeningFault::Memory) => return Err(Memory),
-            Err(OpeningFault::BadOpening) => unreachable!(),
+        // The opening is a recording's, so only memory can be short.
+        let Ok(guest) = Guest::start(alloc, &self.opening) else {
+            return Err(Memory);
         };
         Ok(Position {
             guest,
@@ -53,12 +51,10 @@ impl Track {
             if mark.at > t {
                 return Ok(position);
             }
-            match put_parts(alloc, &mut position.guest, mark.parts.as_slice()) {
-                Ok(()) => {}
-                Err(ApplyFault::Memory) => return Err(Memory),
-                Err(ApplyFault::BadPart) => unreachable!(),
-                Err(ApplyFault::TooManyPages) => unreachable!(),
-            }
+            // The parts describe a state, so only memory can be short.
+            let Ok(()) = put_parts(alloc, &mut position.guest, mark.parts.as_slice()) else {
+                return Err(Memory);
+            };
             position.frames = mark.frames;
             position.at = mark.at;
             left = after;

@@ -64,7 +64,7 @@ fn kept_of(first: &Record, walk: Walk, len: usize) -> Result<Verified, VerifyFau
     let Walk {
         guest: _,
         base: _,
-        row: _,
+        parts: _,
         keeps: _,
         frames,
         marks,
@@ -186,7 +186,7 @@ fn follow_given<S: Source>(
     ensures follows { OnOk result
         (FollowsGiven S.honest S.records source.old number index walk.old walk.new) }
     ensures refused { S.honest source.old → IfErr result (λ e. RefusesGiven e number index (S.records source.old)
-        (state_of walk.old.base) walk.old.row.items (state_of walk.old.guest)) }
+        (state_of walk.old.base) walk.old.parts.items (state_of walk.old.guest)) }
     ensures records { S.records source.new ≡ S.records source.old }
     ensures honest { S.honest source.new ↔ S.honest source.old }
     ensures withheld { S.withheld source.new ≡ (ends_withheld result || S.withheld source.old) }

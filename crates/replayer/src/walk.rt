@@ -29,7 +29,7 @@ use std::mem::replace;
 pub(crate) struct Walk {
     pub(crate) guest: Guest,
     pub(crate) base: Guest,
-    pub(crate) row: Vec<Part>,
+    pub(crate) parts: Vec<Part>,
     /// Whether frames and complete checkpoints are kept, from which each place can be gone to.
     pub(crate) keeps: bool,
     pub(crate) frames: Vec<Frame>,
@@ -42,8 +42,8 @@ pub(crate) struct Walk {
 /// The walk behind a first record, which is an opening of index 0.
 pub(crate) fn open_first(alloc: Global, first: &Record, keeps: bool) -> Result<Walk, VerifyFault>
     ensures stands { IfOk result (λ w.
-        Stands first.now.guest (first.now ∷ []) (state_of w.base) w.row.items (state_of w.guest)) }
-    ensures row { IfOk result (λ w. w.row.items ≡ []) }
+        Stands first.now.guest (first.now ∷ []) (state_of w.base) w.parts.items (state_of w.guest)) }
+    ensures row { IfOk result (λ w. w.parts.items ≡ []) }
     ensures frames { IfOk result (λ w. w.frames.items ≡ []) }
     ensures marks { IfOk result (λ w. w.marks.items ≡ []) }
     ensures total { IfOk result (λ w. w.total ≡ 0) }
@@ -64,7 +64,7 @@ pub(crate) fn open_first(alloc: Global, first: &Record, keeps: bool) -> Result<W
     Ok(Walk {
         guest,
         base,
-        row: Vec::new(alloc),
+        parts: Vec::new(alloc),
         keeps,
         frames: Vec::new(alloc),
         marks: Vec::new(alloc),
@@ -111,7 +111,7 @@ fn follow_frame(
 ) -> Result<(), VerifyFault>
     requires { walk.old.total ≤ 2 ^ 60 }
     ensures keeps { walk.old.keeps ≡ true → OnOk result (KeepsOn (items.Frame frame.now)
-        walk.old.row.items walk.old.frames.items walk.old.marks.items walk.old.total
+        walk.old.parts.items walk.old.frames.items walk.old.marks.items walk.old.total
         walk.new.frames.items walk.new.marks.items walk.new.total) }
     ensures goes_on { walk.new.keeps ≡ walk.old.keeps }
     ensures counted { OnOk result (walk.new.total ≡ walk.old.total + frame.now.count) }
@@ -119,8 +119,8 @@ fn follow_frame(
     ensures grown { OnOk result (walk.new.total ≤ walk.old.total + 2 ^ 20) }
     ensures stays { OnErr result (walk.new.total ≡ walk.old.total) }
     ensures leads { OnOk result (Leads (items.Frame frame.now)
-        (state_of walk.old.base) walk.old.row.items (state_of walk.old.guest)
-        (state_of walk.new.base) walk.new.row.items (state_of walk.new.guest)) }
+        (state_of walk.old.base) walk.old.parts.items (state_of walk.old.guest)
+        (state_of walk.new.base) walk.new.parts.items (state_of walk.new.guest)) }
     ensures refused { IfErr result (λ e. FrameRefused e index frame.now (state_of walk.old.guest)) }
 {
     match follow(alloc, &mut walk.guest, frame) {
@@ -133,16 +133,16 @@ fn follow_frame(
     }
     walk.total += u64::from(frame.count);
     walk.last = last_behind(frame, walk.last);
-    walk.row.clear();
+    walk.parts.clear();
     Ok(())
 }
 
-/// Tests the complete checkpoint that the row is, and makes the base of it.
+/// Tests the complete checkpoint that its parts are, and makes the base of it.
 fn complete(alloc: Global, walk: &mut Walk, index: usize) -> Result<(), VerifyFault>
-    ensures base { OnOk result (Describes (state_of walk.old.base) walk.old.row.items (state_of walk.old.guest)) }
+    ensures base { OnOk result (Describes (state_of walk.old.base) walk.old.parts.items (state_of walk.old.guest)) }
     ensures new_base { OnOk result (state_of walk.new.base ≡ state_of walk.old.guest) }
     ensures guest { OnOk result (state_of walk.new.guest ≡ state_of walk.old.guest) }
-    ensures row { OnOk result (walk.new.row.items ≡ []) }
+    ensures row { OnOk result (walk.new.parts.items ≡ []) }
     ensures frames { walk.new.frames.items ≡ walk.old.frames.items }
     ensures total { walk.new.total ≡ walk.old.total }
     ensures last { walk.new.last ≡ walk.old.last }
@@ -150,12 +150,12 @@ fn complete(alloc: Global, walk: &mut Walk, index: usize) -> Result<(), VerifyFa
     ensures marks { walk.old.keeps ≡ true → OnOk result (walk.new.marks.items ≡ walk.old.marks.items ++ (record {
       frames = length walk.old.frames.items;
       at = walk.old.total;
-      parts = walk.old.row.items;
+      parts = walk.old.parts.items;
     }) ∷ []) }
     ensures refused { IfErr result (λ e.
-        CheckpointRefused e index (state_of walk.old.base) walk.old.row.items (state_of walk.old.guest)) }
+        CheckpointRefused e index (state_of walk.old.base) walk.old.parts.items (state_of walk.old.guest)) }
 {
-    match put_parts(alloc, &mut walk.base, walk.row.as_slice()) {
+    match put_parts(alloc, &mut walk.base, walk.parts.as_slice()) {
         Ok(()) => {}
         Err(ApplyFault::Memory) => return Err(VerifyFault::Memory),
         Err(ApplyFault::BadPart) => return Err(VerifyFault::BadCheckpoint { index }),
@@ -164,7 +164,7 @@ fn complete(alloc: Global, walk: &mut Walk, index: usize) -> Result<(), VerifyFa
     if !walk.base.same(&walk.guest) {
         return Err(VerifyFault::BadCheckpoint { index });
     }
-    let parts = replace(&mut walk.row, Vec::new(alloc));
+    let parts = replace(&mut walk.parts, Vec::new(alloc));
     if walk.keeps {
         walk.marks.push(Mark {
             frames: walk.frames.len(),
@@ -184,19 +184,19 @@ fn copied_part(part: &Part) -> Result<Part, VerifyFault>
 
 fn follow_part(alloc: Global, walk: &mut Walk, index: usize, part: &Part) -> Result<(), VerifyFault>
     ensures keeps { walk.old.keeps ≡ true → OnOk result (KeepsOn (items.Part part.now)
-        walk.old.row.items walk.old.frames.items walk.old.marks.items walk.old.total
+        walk.old.parts.items walk.old.frames.items walk.old.marks.items walk.old.total
         walk.new.frames.items walk.new.marks.items walk.new.total) }
     ensures goes_on { walk.new.keeps ≡ walk.old.keeps }
     ensures counted { walk.new.total ≡ walk.old.total }
     ensures last { walk.new.last ≡ walk.old.last }
     ensures leads { OnOk result (Leads (items.Part part.now)
-        (state_of walk.old.base) walk.old.row.items (state_of walk.old.guest)
-        (state_of walk.new.base) walk.new.row.items (state_of walk.new.guest)) }
+        (state_of walk.old.base) walk.old.parts.items (state_of walk.old.guest)
+        (state_of walk.new.base) walk.new.parts.items (state_of walk.new.guest)) }
     ensures refused { IfErr result (λ e.
-        PartRefused e index part.now (state_of walk.old.base) walk.old.row.items (state_of walk.old.guest)) }
+        PartRefused e index part.now (state_of walk.old.base) walk.old.parts.items (state_of walk.old.guest)) }
 {
     let copy = copied_part(part)?;
-    walk.row.push(copy)?;
+    walk.parts.push(copy)?;
     if part.rest.is_some() {
         complete(alloc, walk, index)?;
     }
@@ -213,19 +213,19 @@ pub(crate) fn follow_record(
 ) -> Result<(), VerifyFault>
     requires { walk.old.total ≤ index * 2 ^ 20 }
     ensures keeps { walk.old.keeps ≡ true → OnOk result (KeepsOn entry.now.item
-        walk.old.row.items walk.old.frames.items walk.old.marks.items walk.old.total
+        walk.old.parts.items walk.old.frames.items walk.old.marks.items walk.old.total
         walk.new.frames.items walk.new.marks.items walk.new.total) }
     ensures goes_on { walk.new.keeps ≡ walk.old.keeps }
     ensures counted { OnOk result (walk.new.total ≡ walk.old.total + instructions_in entry.now.item) }
     ensures last { OnOk result (walk.new.last ≡ thread_behind entry.now.item walk.old.last) }
     ensures stays { OnErr result (walk.new.total ≡ walk.old.total) }
-    ensures row { OnOk result (RowIs entry.now.item walk.old.row.items walk.new.row.items) }
+    ensures row { OnOk result (RowIs entry.now.item walk.old.parts.items walk.new.parts.items) }
     ensures grown { OnOk result (walk.new.total ≤ walk.old.total + 2 ^ 20) }
     ensures leads { OnOk result (LeadsOn number index entry.now
-        (state_of walk.old.base) walk.old.row.items (state_of walk.old.guest)
-        (state_of walk.new.base) walk.new.row.items (state_of walk.new.guest)) }
+        (state_of walk.old.base) walk.old.parts.items (state_of walk.old.guest)
+        (state_of walk.new.base) walk.new.parts.items (state_of walk.new.guest)) }
     ensures refused { IfErr result (λ e. RefusesNext e number index entry.now
-        (state_of walk.old.base) walk.old.row.items (state_of walk.old.guest)) }
+        (state_of walk.old.base) walk.old.parts.items (state_of walk.old.guest)) }
 {
     if entry.guest != number || entry.index as usize != index {
         return Err(VerifyFault::Mismatch { index });

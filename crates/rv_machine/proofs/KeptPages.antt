@@ -13,6 +13,7 @@ use Rattle.rrv_model.specs.declared.machine.Regs.{Regs}
 use Rattle.rrv_model.specs.State.{register, with_register}
 use Rattle.rrv_model.specs.Instructions.{Decodes}
 use Rattle.rrv_model.specs.declared.machine.FaultKind.{FaultKind}
+use Rattle.rrv_model.specs.declared.machine.FaultKind.TheVariants as faults
 use Rattle.rrv_model.specs.declared.machine.Permissions.{Permissions}
 use Rattle.rrv_model.specs.declared.instr.Instr.{Instr}
 use Rattle.rrv_model.specs.declared.instr.Instr.TheVariants as instrs
@@ -192,29 +193,42 @@ unfolding executed
 outcome_is None answer old new h = h.0
 outcome_is (Some i) answer old new h = h.outcome
 
+-- of a word that is fetched
+pub word_step : (h new : Hart) (i : Option Instr) (answer : Stepped) → h.regs.pc % 4 ≡ 0 → executable h.memory h.regs.pc 4 ≡ true →
+    Decodes (word_at h.memory h.regs.pc) i → Performs i answer h new → HartStep h (outcome_of answer new)
+word_step h new i answer aligned fetches decodes does =
+    subst (λ (r : Result ℕ FaultKind). StepOfWord r h (outcome_of answer new)) (sym (fetched_is h.memory h.regs.pc aligned fetches))
+    (i, decodes, outcome_is i answer h new does)
+
+-- where no word is
+pub no_word_step : (h : Hart) → h.regs.pc % 4 ≡ 0 → executable h.memory h.regs.pc 4 ≡ false → HartStep h (Faulted faults.Fetch)
+no_word_step h aligned none =
+    let fetches : fetched h.memory h.regs.pc ≡ Err faults.Fetch = rw (aligned, none) refl in
+    subst (λ (r : Result ℕ FaultKind). StepOfWord r h (Faulted faults.Fetch)) (sym fetches) refl
+
 pub performs_step : (h new : Hart) (decoded : Decoded) (answer : Stepped) → h.regs.pc % 4 ≡ 0 → IsDecodedAt h.memory h.regs.pc decoded →
     Performs (instr_of decoded) answer h new → HartStep h (outcome_of answer new)
-performs_step h new decoded answer aligned are does =
-    subst (λ (r : Result ℕ FaultKind). StepOfWord r h (outcome_of answer new)) (sym (fetched_is h.memory h.regs.pc aligned are.fetches))
-    (instr_of decoded, are.decodes, outcome_is (instr_of decoded) answer h new does)
+performs_step h new decoded answer aligned are does = word_step h new (instr_of decoded) answer aligned are.fetches are.decodes does
 
 pub performs_fault : (i : Option Instr) (answer : Stepped) (old new : Hart) → Performs i answer old new → KeepsAtFault answer old new
 performs_fault None answer old new h = h.1
 performs_fault (Some i) answer old new h = h.fault
 
+pub word_stores : (h : Hart) (i : Option Instr) → h.regs.pc % 4 ≡ 0 → executable h.memory h.regs.pc 4 ≡ true →
+    Decodes (word_at h.memory h.regs.pc) i → StoresWithoutFault i h → MayStore h
+word_stores h None aligned fetches d t = absurd t
+word_stores h (Some i) aligned fetches d t = record {
+  word = word_at h.memory h.regs.pc;
+  instr = i;
+  fetches = fetched_is h.memory h.regs.pc aligned fetches;
+  stands = d;
+  passes = t.0;
+  goes = t.1;
+}
+
 pub stores_may : (h : Hart) (decoded : Decoded) → h.regs.pc % 4 ≡ 0 → IsDecodedAt h.memory h.regs.pc decoded →
     StoresWithoutFault (instr_of decoded) h → MayStore h
-stores_may h decoded aligned are takes = by_instr (instr_of decoded) are.decodes takes where
-  by_instr : (i : Option Instr) → Decodes (word_at h.memory h.regs.pc) i → StoresWithoutFault i h → MayStore h
-  by_instr None d t = absurd t
-  by_instr (Some i) d t = record {
-    word = word_at h.memory h.regs.pc;
-    instr = i;
-    fetches = fetched_is h.memory h.regs.pc aligned are.fetches;
-    stands = d;
-    passes = t.0;
-    goes = t.1;
-  }
+stores_may h decoded aligned are takes = word_stores h (instr_of decoded) aligned are.fetches are.decodes takes
 
 -- the instruction where a hart stands, which has come there by steps, in a page that was decoded before
 pub decoded_there : (n : ℕ) (first old : Hart) (page : DecodedPage) (decoded : Decoded) → IsDecodedPage first.memory page →

@@ -8,14 +8,13 @@
 //! - `step`: the plain step of RV32I, Zifencei, M and A on every input. A fault leaves registers, memory and reservation as
 //!   they were.
 //! - `run_hart`: n of these steps, and what ended them.
-//! - `CodeSpace`: an address space that keeps pages of instructions decoded. Contracts see the space alone: each method has
-//!   the clauses of the space's own, but that of `fill` which says whose pages stay its own. Its invariant: a decoded page has
-//!   1,024 instructions, each decoded from the word that stands there, in bytes that may be executed and that no store may
-//!   change. What maps, protects, unmaps or puts in pages lets their decoded pages go; a `fill` of bytes that no store may
-//!   change lets all go.
+//! - `CodeSpace`: an address space (`AddressSpace`) that keeps pages of instructions decoded. Contracts see the space alone.
+//!   Its invariant: a decoded page has 1,024 instructions, each decoded from the word that stands there, in bytes that may be
+//!   executed and that no store may change. What maps, protects, unmaps or puts in pages lets their decoded pages go; a `fill`
+//!   of bytes that no store may change lets all go.
 //!
-//! An instruction is executed in two ways: `run_page` takes it from a decoded page (`perform`); `step` fetches and decodes it
-//! (`execute`), in a page that isn't kept decoded. Both go on in `compute`, `memory` and `atomic`.
+//! An instruction is taken from a decoded page (`run_page`) or is fetched and decoded where it stands (`step`). Both go on in
+//! `perform`, and it in `compute`, `memory` and `atomic`.
 #![tactic(auto)]
 
 mod access;
@@ -25,7 +24,6 @@ mod code_space_calls;
 mod compute;
 mod decoded;
 mod decoded_pages;
-mod execute;
 mod hart;
 mod memory;
 mod page_decoding;

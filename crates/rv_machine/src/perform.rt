@@ -1,11 +1,10 @@
 //! A decoded instruction of a hart, whichever it is.
 
-ghost use Rattle.std.specs.Prelude.{◌≡◌, IfOk, OnErr, Option, true};
 ghost use Rattle.rrv_model.specs.State.{AreRegs};
 ghost use Rattle.rv_machine.specs.Outcome.{hart};
 ghost use Rattle.rv_machine.specs.Decoded.{instr_of};
-ghost use Rattle.rv_machine.specs.Performs.{Performs, StoresWithoutFault};
-ghost use Rattle.guest_pages.specs.Space.{memory_of, snapshots_of};
+ghost use Rattle.rv_machine.specs.Performs.{Does};
+ghost use Rattle.guest_pages.specs.Space.{memory_of};
 
 use crate::decoded::Decoded;
 use crate::{Stepped, atomic, compute, memory};
@@ -14,25 +13,24 @@ use rrv_model::instr::{BranchTest, ImmediateOp, LoadKind, RegisterOp, ShiftOp, S
 use rrv_model::machine::{FaultKind, Regs, Reservation};
 use rrv_model::refusal::Memory;
 
+/// The instruction comes from a decoded page.
+pub(crate) const FROM_PAGE: u32 = 0;
+/// The instruction was decoded for this one time.
+pub(crate) const ALONE: u32 = 1;
+
 /// Does a decoded instruction, or faults where the word is none.
+// The parameter makes a function of its own for each place that calls it: one that is called at two places is inlined at none.
 #[inline(always)]
 #[tactic(auto, unfolding(rrv_model::specs::Step::executed))]
-pub(crate) fn perform(
+pub(crate) fn perform<const ORIGIN: u32>(
     regs: &mut Regs,
     space: &mut Space,
     reservation: &mut Reservation,
     decoded: &Decoded,
 ) -> Result<Stepped, Memory>
     requires { AreRegs regs.old }
-    ensures performs { IfOk result (λ stepped. Performs (instr_of decoded.now) stepped
-        (hart regs.old (memory_of space.old) reservation.old)
-        (hart regs.new (memory_of space.new) reservation.new)) }
-    ensures refused { OnErr result (hart regs.new (memory_of space.new) reservation.new
-        ≡ hart regs.old (memory_of space.old) reservation.old) }
-    ensures takes { OnErr result (StoresWithoutFault (instr_of decoded.now)
-        (hart regs.old (memory_of space.old) reservation.old)) }
-    ensures regs { AreRegs regs.new }
-    ensures snapshots { snapshots_of space.new ≡ snapshots_of space.old }
+    ensures { Does (instr_of decoded.now) result (hart regs.old (memory_of space.old) reservation.old)
+        (hart regs.new (memory_of space.new) reservation.new) space.old space.new }
 {
     match decoded {
         Decoded::NoInstruction => Ok(Stepped::Fault(FaultKind::BadInstruction)),

@@ -2,16 +2,16 @@
 
 ghost use Rattle.std.specs.Prelude.{◌≡◌, ◌≤◌, ◌/◌, ◌%◌};
 ghost use Rattle.rrv_model.specs.State.{AreRegs};
-ghost use Rattle.guest_pages.specs.Space.{memory_of, snapshots_of};
+ghost use Rattle.guest_pages.specs.Space.{memory_of};
 ghost use Rattle.rv_machine.specs.Outcome.{hart};
-ghost use Rattle.rv_machine.specs.HartRuns.{HartRuns, HartRunsAtMost};
+ghost use Rattle.rv_machine.specs.HartRuns.{Runs, RunsAtMost};
 ghost use Rattle.rv_machine.specs.DecodedPages.{IsDecodedPage};
 
 use crate::Stepped;
 use crate::code_space::CodeSpace;
 use crate::decoded_pages::DecodedPage;
 use crate::hart::step;
-use crate::perform::perform;
+use crate::perform::{FROM_PAGE, perform};
 use guest_pages::Space;
 use rrv_model::machine::{FaultKind, Regs, Reservation};
 use rrv_model::refusal::Memory;
@@ -53,12 +53,8 @@ fn run_page(
     requires limit { 1 ≤ limit }
     requires place { regs.old.pc / 4096 ≡ page.now.number }
     requires aligned { regs.old.pc % 4 ≡ 0 }
-    ensures regs { AreRegs regs.new }
-    ensures runs { HartRunsAtMost result.end limit result.count (hart regs.old (memory_of space.old) reservation.old)
-        (hart regs.new (memory_of space.new) reservation.new) }
-    ensures within { result.count ≤ limit }
-    ensures some { result.end ≡ RunEnd.Limit → 1 ≤ result.count }
-    ensures snapshots { snapshots_of space.new ≡ snapshots_of space.old }
+    ensures { RunsAtMost limit result (hart regs.old (memory_of space.old) reservation.old)
+        (hart regs.new (memory_of space.new) reservation.new) space.old space.new }
 {
     let number = page.number;
     let instrs = page.instrs.as_slice();
@@ -71,7 +67,7 @@ fn run_page(
             };
         }
         let decoded = &instrs[(pc % 4096 / 4) as usize];
-        match perform(regs, space, reservation, decoded) {
+        match perform::<FROM_PAGE>(regs, space, reservation, decoded) {
             Ok(Stepped::Next) => {}
             Ok(Stepped::Call) => {
                 return Run {
@@ -103,10 +99,8 @@ fn run_page(
 #[inline(never)]
 fn run_steps(regs: &mut Regs, space: &mut Space, reservation: &mut Reservation, limit: u32) -> Run
     requires { AreRegs regs.old }
-    ensures regs { AreRegs regs.new }
-    ensures runs { HartRuns limit (hart regs.old (memory_of space.old) reservation.old) result
-        (hart regs.new (memory_of space.new) reservation.new) }
-    ensures snapshots { snapshots_of space.new ≡ snapshots_of space.old }
+    ensures { Runs limit result (hart regs.old (memory_of space.old) reservation.old)
+        (hart regs.new (memory_of space.new) reservation.new) space.old space.new }
 {
     for count in 0..limit {
         match step(regs, space, reservation) {
@@ -146,12 +140,8 @@ fn run_undecoded(
 ) -> Run
     requires regs { AreRegs regs.old }
     requires limit { 1 ≤ limit }
-    ensures regs { AreRegs regs.new }
-    ensures runs { HartRunsAtMost result.end limit result.count (hart regs.old (memory_of space.old) reservation.old)
-        (hart regs.new (memory_of space.new) reservation.new) }
-    ensures within { result.count ≤ limit }
-    ensures some { result.end ≡ RunEnd.Limit → 1 ≤ result.count }
-    ensures snapshots { snapshots_of space.new ≡ snapshots_of space.old }
+    ensures { RunsAtMost limit result (hart regs.old (memory_of space.old) reservation.old)
+        (hart regs.new (memory_of space.new) reservation.new) space.old space.new }
 {
     run_steps(regs, space, reservation, limit.min(UNDECODED_STEPS))
 }
@@ -168,12 +158,8 @@ fn run_decoded(
     requires regs { AreRegs regs.old }
     requires decoded { IsDecodedPage (memory_of space.old) page.now }
     requires limit { 1 ≤ limit }
-    ensures regs { AreRegs regs.new }
-    ensures runs { HartRunsAtMost result.end limit result.count (hart regs.old (memory_of space.old) reservation.old)
-        (hart regs.new (memory_of space.new) reservation.new) }
-    ensures within { result.count ≤ limit }
-    ensures some { result.end ≡ RunEnd.Limit → 1 ≤ result.count }
-    ensures snapshots { snapshots_of space.new ≡ snapshots_of space.old }
+    ensures { RunsAtMost limit result (hart regs.old (memory_of space.old) reservation.old)
+        (hart regs.new (memory_of space.new) reservation.new) space.old space.new }
 {
     if regs.pc / 4096 != page.number || regs.pc % 4 != 0 {
         return run_undecoded(regs, space, reservation, limit);
@@ -187,12 +173,8 @@ impl CodeSpace {
     fn run_some(&mut self, regs: &mut Regs, reservation: &mut Reservation, limit: u32) -> Run
         requires regs { AreRegs regs.old }
         requires limit { 1 ≤ limit }
-        ensures regs { AreRegs regs.new }
-        ensures runs { HartRunsAtMost result.end limit result.count (hart regs.old (memory_of self.old) reservation.old)
-            (hart regs.new (memory_of self.new) reservation.new) }
-        ensures within { result.count ≤ limit }
-        ensures some { result.end ≡ RunEnd.Limit → 1 ≤ result.count }
-        ensures snapshots { snapshots_of self.new ≡ snapshots_of self.old }
+        ensures { RunsAtMost limit result (hart regs.old (memory_of self.old) reservation.old)
+            (hart regs.new (memory_of self.new) reservation.new) self.old self.new }
     {
         let number = regs.pc / 4096;
         self.pages.ready(&self.space, number);
@@ -212,10 +194,8 @@ pub fn run_hart(
     limit: u32,
 ) -> Run
     requires { AreRegs regs.old }
-    ensures regs { AreRegs regs.new }
-    ensures runs { HartRuns limit (hart regs.old (memory_of space.old) reservation.old) result
-        (hart regs.new (memory_of space.new) reservation.new) }
-    ensures snapshots { snapshots_of space.new ≡ snapshots_of space.old }
+    ensures { Runs limit result (hart regs.old (memory_of space.old) reservation.old)
+        (hart regs.new (memory_of space.new) reservation.new) space.old space.new }
 {
     let mut done = 0;
     while done < limit {

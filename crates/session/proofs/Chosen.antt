@@ -28,10 +28,10 @@ use Rattle.recorder.specs.declared.fault.RecorderFault.{RecorderFault}
 use Rattle.recorder.specs.declared.fault.RecorderFault.TheVariants as recorder_faults
 use Rattle.recorder.specs.RecorderCalls.{HasStepped, IsUnmoved, KeepsMade, part_records}
 use Rattle.recorder.specs.Recorders.{GuestRecorder, HasRecorded, made, records_from}
-use Rattle.session.specs.contracts.rounds.Turn.{the_type}
+use Rattle.session.specs.contracts.rounds.Step.{the_type}
 use Rattle.session.specs.declared.job.Job.{Job}
-use Rattle.session.specs.declared.rounds.Turn.{Turn}
-use Rattle.session.specs.declared.rounds.Turn.TheVariants as turns
+use Rattle.session.specs.declared.rounds.Step.{Step}
+use Rattle.session.specs.declared.rounds.Step.TheVariants as turns
 use Rattle.session.specs.declared.rounds.WorkFault.{WorkFault}
 use Rattle.session.specs.declared.rounds.WorkFault.TheVariants as work_faults
 use Rattle.session.specs.Drives.{fault_told, work_told}
@@ -158,13 +158,13 @@ module _ {C : Type 0} (chooses : Choosing C) where
       }
 
   -- behind a turn that isn't the last the chooser is the one that the frames lead to
-  pub goes_round : (turn : Turn) (new : C) (s : State) (last : C) → turn ≢ turns.Over → TurnLeaves chooses turn new s last → new ≡ last
+  pub goes_round : (turn : Step) (new : C) (s : State) (last : C) → turn ≢ turns.Over → TurnLeaves chooses turn new s last → new ≡ last
   goes_round turns.Over new s last other h = absurd (other refl)
   goes_round turns.Stepped new s last other h = h
   goes_round turns.Held new s last other h = h
   goes_round turns.Waits new s last other h = h
 
-  pub makes_round : (a b : GuestRecorder) (c c' : C) (turn : Turn) → turn ≢ turns.Over →
+  pub makes_round : (a b : GuestRecorder) (c c' : C) (turn : Step) → turn ≢ turns.Over →
       MakesChosen chooses a c b (TurnLeaves chooses turn c' (state_of b.guest)) → MakesChosen chooses a c b (λ last. c' ≡ last)
   makes_round a b c c' turn other p =
       record {
@@ -176,10 +176,10 @@ module _ {C : Type 0} (chooses : Choosing C) where
         ends = goes_round turn c' (state_of b.guest) p.last other p.ends;
       }
 
-  pub makes_over : (a b : GuestRecorder) (c c' : C) (turn : Turn) → turn ≡ turns.Over →
+  pub makes_over : (a b : GuestRecorder) (c c' : C) (turn : Step) → turn ≡ turns.Over →
       MakesChosen chooses a c b (TurnLeaves chooses turn c' (state_of b.guest))
       → MakesChosen chooses a c b (IsLeftWith chooses c' (state_of b.guest))
-  makes_over a b c c' turn over p = subst (λ (t : Turn). MakesChosen chooses a c b (TurnLeaves chooses t c' (state_of b.guest))) over p
+  makes_over a b c c' turn over p = subst (λ (t : Step). MakesChosen chooses a c b (TurnLeaves chooses t c' (state_of b.guest))) over p
 
   -- ---- what is left of the chooser, by what was met
 
@@ -237,14 +237,14 @@ module _ {C : Type 0} (chooses : Choosing C) where
   makes_fault o a c c' guest s work_faults.Held p = p
   makes_fault o a c c' guest s work_faults.Memory p = p
 
-pub is_over : (turn : Turn) → true ≡ sameb the_type turn turns.Over → turn ≡ turns.Over
+pub is_over : (turn : Step) → true ≡ sameb the_type turn turns.Over → turn ≡ turns.Over
 is_over turns.Over h = refl
 is_over turns.Stepped h = absurd (true≢false h)
 is_over turns.Held h = absurd (true≢false h)
 is_over turns.Waits h = absurd (true≢false h)
 
-pub not_over : (turn : Turn) → false ≡ sameb the_type turn turns.Over → turn ≡ turns.Over → ⊥
-not_over turn h over = true≢false (sym (h ∙ ap (λ (t : Turn). sameb the_type t turns.Over) over))
+pub not_over : (turn : Step) → false ≡ sameb the_type turn turns.Over → turn ≡ turns.Over → ⊥
+not_over turn h over = true≢false (sym (h ∙ ap (λ (t : Step). sameb the_type t turns.Over) over))
 
 -- ---- a job's frames
 

@@ -1,5 +1,5 @@
 -- Calls of a recorder drive it.
-use Rattle.std.proofs.Common.{◌≡◌, ◌≢◌, ◌↔◌, ℕ, ◌-◌, List, [], ◌∷◌, ◌++◌, length, take, refl, sym, ap, ◌∙◌, subst, arith, append_assoc}
+use Rattle.std.proofs.Common.{◌≡◌, ◌≢◌, ℕ, ◌-◌, List, [], ◌∷◌, ◌++◌, length, take, refl, sym, ap, ◌∙◌, subst, arith, append_assoc}
 use Rattle.std.specs.Prelude.{Result, Ok, Err, IfErr}
 use Rattle.std.proofs.lemmas.List.{append-nil}
 use Rattle.rrv_model.specs.declared.record.Choice.{Choice}
@@ -110,10 +110,9 @@ goes_unmoved a b before after h =
 -- ---- release and settle
 
 pub drives_more : {S : Type 0} (sinks : Sinks S) (a b : GuestRecorder) (s t : S) (result : Result (Unit {0}) RecorderFault) →
-    KeepsMade a b → PutsMore sinks.tells sinks.taken a b s t result
-    → (sinks.tells t ↔ sinks.tells s) → Drives sinks a b s t
-drives_more sinks a b s t result keeps h tells =
-    record { put = h.put; takes = h.takes; goes = goes_kept a b h.put keeps h.has_put; tells = tells }
+    KeepsMade a b → PutsMore sinks.tells sinks.taken a b s t result → Drives sinks a b s t
+drives_more sinks a b s t result keeps h =
+    record { put = h.put; takes = h.takes; goes = goes_kept a b h.put keeps h.has_put; tells = h.still }
 
 pub drives_none : {S : Type 0} (sinks : Sinks S) (r : GuestRecorder) (s : S) → Drives sinks r r s s
 drives_none sinks r s = record { put = []; takes = λ t. sym (append-nil (sinks.taken s)); goes = goes_none r; tells = ((λ t. t), (λ t. t)) }

@@ -1,10 +1,7 @@
--- The first of some jobs, and files past their limit.
+-- The first of some jobs.
 use Rattle.std.proofs.Common.{◌≡◌, ℕ, zero, suc, ◌<◌, ◌≤◌, List, [], ◌∷◌, length, get_or, take, sym, ap, subst, arith}
-use Rattle.std.specs.Prelude.{slice_get, vec_items, Some}
+use Rattle.std.specs.Prelude.{slice_get, Some}
 use Rattle.std.specs.List.{AllByRecursion}
-use Rattle.elf_load.proofs.Accepted.{accepted, file_limit}
-use Rattle.session.specs.declared.job.Job.{Job}
-use Rattle.session.specs.Openings.{StartsGuest}
 
 -- one more of which it holds
 pub all_next : {A : Type 0} (P : A → Type 0) (xs : List A) (i : ℕ) (x : A) → i < length xs → x ≡ get_or xs i x →
@@ -22,8 +19,3 @@ pub get_is : {A : Type 0} (xs : List A) (i : ℕ) (x : A) → i < length xs → 
 get_is [] i x low is = absurd (omega arith)
 get_is (y ∷ xs) zero x low is = ap (λ z. Some z) (sym is)
 get_is (y ∷ xs) (suc i) x low is = get_is xs i x (omega arith) is
-
--- no guest starts from a file past its limit
-pub too_long : {C O S : Type 0} (job : Job C O S) → 2_097_152 < length (vec_items job.elf) → StartsGuest job → ⊥
-too_long job long starts =
-    let limit = file_limit (vec_items job.elf) (accepted (vec_items job.elf) starts.accepted) in omega (arith, long, limit)

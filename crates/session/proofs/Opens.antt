@@ -6,9 +6,10 @@ use Rattle.rrv_model.specs.Recovered.{IsRecovered}
 use Rattle.store_model.specs.Settled.{IsBefore}
 use Rattle.store_model.proofs.CrashLaws.{leaves_weaker}
 use Rattle.rrv_model.proofs.RecoveredLaws.{beginnings_are_recovered}
+use Rattle.trace_disk.specs.Devices.{Device}
 use Rattle.trace_log.specs.Kept.{LogValue}
 use Rattle.commit_core.specs.Sessions.{CanOpen, HasRecords}
-use Rattle.session.specs.Gains.{Device, HasGained, HoldsUpTo}
+use Rattle.session.specs.Gains.{HasGained, HoldsUpTo}
 
 -- the first of some bodies hold records where all do
 front_has : (bodies more : List (List ℕ)) (records : List Record) → IsRecovered (bodies ++ more) records → HasRecords bodies

@@ -8,6 +8,7 @@ use Rattle.rrv_model.specs.Recovered.{next_guest, IsRecovered}
 use Rattle.store_model.proofs.CrashLaws.{started}
 use Rattle.outcomes.proofs.Lists.{AllByRecursion-front}
 use Rattle.guest_calls.specs.Guest.{GuestValue}
+use Rattle.trace_disk.specs.Devices.{Device}
 use Rattle.trace_log.specs.Kept.{Keeps, LogValue}
 use Rattle.commit_group.specs.declared.fault.FlushFault.{FlushFault}
 use Rattle.commit_group.specs.declared.fault.FlushFault.TheVariants as flushes
@@ -17,7 +18,7 @@ use Rattle.commit_group.specs.Turns.{AllCommitted}
 use Rattle.session.specs.declared.fault.SessionFault.{SessionFault}
 use Rattle.session.specs.declared.job.Job.{Job}
 use Rattle.session.specs.Faults.{IsLowest, IsSessions, flusher_met, told_of}
-use Rattle.session.specs.Gains.{Device, HasFlushed, HasGained, HoldsUpTo, StandsIn}
+use Rattle.session.specs.Gains.{HasFlushed, HasGained, HoldsUpTo, StandsIn}
 use Rattle.session.specs.Sessions.{AreRecorded, HasRun, IsLeft}
 use Rattle.session.specs.Works.{Sinks}
 use Rattle.std.specs.Prelude.{MatchOption}

@@ -57,6 +57,15 @@ module _ {C O S : Type 0} where
       ap (λ l. jobs_of l ++ rest') now ∙ ap (λ l. l ++ rest') (jobs_push tasks t) ∙ append_assoc (jobs_of tasks) (t.job ∷ []) rest'
       ∙ ap (λ l. jobs_of tasks ++ l) (sym is) ∙ e
 
+  -- no seat is left, or no job
+  pub seats_whole : (tasks : List (Task C O S)) (rest all : List RecorderValue) → seats_of tasks ++ rest ≡ all → rest ≡ [] →
+      seats_of tasks ≡ all
+  seats_whole tasks rest all e none = sym (append-nil (seats_of tasks)) ∙ ap (λ l. seats_of tasks ++ l) (sym none) ∙ e
+
+  pub jobs_whole : (tasks : List (Task C O S)) (rest all : List (Job C O S)) → jobs_of tasks ++ rest ≡ all → rest ≡ [] →
+      jobs_of tasks ≡ all
+  jobs_whole tasks rest all e none = sym (append-nil (jobs_of tasks)) ∙ ap (λ l. jobs_of tasks ++ l) (sym none) ∙ e
+
   -- ---- what came of them
 
   pub worked_length : (xs : List (Worked C O S)) → length (seats_worked xs) ≡ length xs

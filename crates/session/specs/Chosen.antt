@@ -13,8 +13,8 @@ use Rattle.recorder.specs.Recorders.{GuestRecorder, made}
 use Rattle.session.specs.declared.fault.SessionFault.{SessionFault}
 use Rattle.session.specs.declared.fault.SessionFault.TheVariants as faults
 use Rattle.session.specs.declared.job.Job.{Job}
-use Rattle.session.specs.declared.rounds.Turn.{Turn}
-use Rattle.session.specs.declared.rounds.Turn.TheVariants as turns
+use Rattle.session.specs.declared.rounds.Step.{Step}
+use Rattle.session.specs.declared.rounds.Step.TheVariants as turns
 use Rattle.session.specs.declared.rounds.WorkFault.{WorkFault}
 use Rattle.session.specs.declared.rounds.WorkFault.TheVariants as work_faults
 
@@ -83,7 +83,7 @@ pub record MakesChosen {C : Type 0} (chooses : Choosing C) (old : GuestRecorder)
   pub ends : Ends last
 
 -- what a turn leaves of the chooser that its frames lead to
-abbrev pub TurnLeaves : {C : Type 0} → Choosing C → Turn → (new : C) → State → (last : C) → Type 0
+abbrev pub TurnLeaves : {C : Type 0} → Choosing C → Step → (new : C) → State → (last : C) → Type 0
 TurnLeaves chooses turns.Over new s last = IsLeftWith chooses new s last
 TurnLeaves chooses turns.Stepped new s last = new ≡ last
 TurnLeaves chooses turns.Held new s last = new ≡ last

@@ -10,8 +10,8 @@ use Rattle.session.specs.declared.fault.SessionFault.{SessionFault}
 use Rattle.session.specs.declared.fault.SessionFault.TheVariants as session_faults
 use Rattle.session.specs.declared.job.Job.{Job}
 use Rattle.session.specs.declared.task.Worked.{Worked}
-use Rattle.session.specs.declared.rounds.Turn.{Turn}
-use Rattle.session.specs.declared.rounds.Turn.TheVariants as turns
+use Rattle.session.specs.declared.rounds.Step.{Step}
+use Rattle.session.specs.declared.rounds.Step.TheVariants as turns
 use Rattle.session.specs.declared.rounds.WorkFault.{WorkFault}
 use Rattle.session.specs.declared.rounds.WorkFault.TheVariants as work_faults
 use Rattle.session.specs.Works.{Choosers, IsRecordedFrom, Sinks, Takes}
@@ -49,7 +49,7 @@ abbrev pub HasSent : GuestRecorder → Type 0
 HasSent r = (r.backlog ≡ []) ⊎ (r.seat.knows_halt ≡ true)
 
 -- how often in a row the gate refused a step, behind this turn
-abbrev pub next_held : Turn → ℕ → ℕ
+abbrev pub next_held : Step → ℕ → ℕ
 next_held turns.Stepped held = 0
 next_held turns.Held held = held + 1
 next_held turns.Waits held = held

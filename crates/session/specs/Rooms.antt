@@ -1,10 +1,10 @@
 -- Room for a session.
 use Rattle.std.specs.Prelude.{◌≡◌, ℕ, ◌≤◌, [], length, vec_capacity, vec_items}
 use Rattle.commit_group.specs.Seats.{AllNew, new_flusher_seat}
-use Rattle.session.specs.declared.room.Room.{Room}
+use Rattle.session.specs.declared.room.SessionRoom.{SessionRoom}
 
 -- a new group of so many guests, and room for as many of each
-pub record HasRoom {C O S : Type 0} (guests : ℕ) (r : Room C O S) : Type 0 where
+pub record HasRoom {C O S : Type 0} (guests : ℕ) (r : SessionRoom C O S) : Type 0 where
   pub flusher : r.flusher ≡ new_flusher_seat r.flusher.group
   pub guests_are : r.flusher.group.guests ≡ guests
   pub count : length (vec_items r.seats) ≡ guests

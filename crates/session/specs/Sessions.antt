@@ -1,5 +1,5 @@
 -- What a session gives.
-use Rattle.std.specs.Prelude.{◌≡◌, ◌⊎◌, ℕ, ◌+◌, ◌<◌, ◌≤◌, max, true, false, List, [], ◌∷◌, ◌++◌, length, slice_get, Option, None, Some, Result, Ok, Err, IfErr, IsErrAnd, Vec, vec_items}
+use Rattle.std.specs.Prelude.{◌≡◌, ◌⊎◌, ℕ, ◌+◌, ◌<◌, ◌≤◌, max, true, false, List, [], ◌∷◌, ◌++◌, length, slice_get, Option, None, Some, Result, Ok, Err, IfErr, IfOk, IsErrAnd, Vec, vec_items}
 use Rattle.std.specs.List.{AllByRecursion}
 use Rattle.std.specs.declared.alloc.Global.{Global}
 use Rattle.rrv_model.specs.declared.record.Record.{Record}
@@ -7,6 +7,7 @@ use Rattle.outcomes.specs.Failures.{HasFailed}
 use Rattle.rrv_model.specs.Recording.{IsNumbered, IsRecording}
 use Rattle.rrv_model.specs.Recovered.{next_guest, of_guest, IsRecovered}
 use Rattle.guest_calls.specs.Guest.{GuestValue}
+use Rattle.trace_disk.specs.Devices.{Device}
 use Rattle.trace_log.specs.Kept.{Keeps, LogValue}
 use Rattle.commit_core.specs.Runs.{IsOutput}
 use Rattle.commit_group.specs.Numbers.{IsPlaced}
@@ -15,9 +16,10 @@ use Rattle.session.specs.declared.fault.SessionFault.{SessionFault}
 use Rattle.session.specs.declared.fault.SessionFault.TheVariants as faults
 use Rattle.session.specs.declared.job.Job.{Job}
 use Rattle.session.specs.declared.report.GuestReport.{GuestReport}
+use Rattle.session.specs.declared.report.SessionReport.{SessionReport}
 use Rattle.session.specs.declared.task.Worked.{Worked}
 use Rattle.session.specs.Faults.{IsLowest, IsNoLater, IsSessions, told_of}
-use Rattle.session.specs.Gains.{Device, HasGained, IsFull}
+use Rattle.session.specs.Gains.{HasGained, IsFull}
 use Rattle.session.specs.Chosen.{HasChosen, HasChosenOn, LeavesChooser}
 use Rattle.session.specs.Openings.{IsFirstBad, OneWantsMemory}
 use Rattle.session.specs.Tasks.{all_met}
@@ -181,6 +183,15 @@ pub record TellsFirst {C O S T : Type 0} (choosers : Choosers C) (sinks : Sinks 
   pub met : List (Option SessionFault)
   pub each : HaveMet choosers sinks others committed first 0 jobs jobs' met
   pub lowest : IsLowest (others ++ all_met met) (told_of result)
+
+-- What a session came to: what was committed, of which there are reports after Ok, and which fault is told.
+abbrev pub HasEnded : {C O S D : Type 0} → Choosers C → Sinks S → Device D → (log log' : LogValue D)
+    → (jobs jobs' : List (Job C O S)) → Result SessionReport SessionFault → Type 0
+HasEnded choosers sinks device log log' jobs jobs' result =
+    (committed : List Record) × HasRun choosers sinks device committed log log' jobs jobs'
+    × IfOk result (λ r. AreReported choosers sinks committed log.next_guest jobs jobs' r.guests.items
+    × AreLeft committed log.next_guest jobs' r.states.items)
+    × TellsFirst choosers sinks committed log.next_guest result jobs jobs'
 
 -- ---- reports
 

@@ -24,11 +24,7 @@ pub(crate) fn give<C: Chooser + Drop, O: Outside + Drop, S: Sink + Drop>(
     ensures seats { seats_of tasks.new.items ≡ seats.items }
     ensures jobs { jobs_of tasks.new.items ≡ jobs.items }
 {
-    let mut jobs = jobs.into_iter();
-    for seat in seats {
-        let Some(job) = jobs.next() else {
-            unreachable!()
-        };
+    for (seat, job) in seats.into_iter().zip(jobs) {
         tasks.push_reserved(Task { seat, job });
     }
 }

@@ -58,7 +58,7 @@ mod laws;
 mod lowest;
 mod opening;
 mod pace;
-mod place;
+mod post;
 mod report;
 mod room;
 mod rounds;

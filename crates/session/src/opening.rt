@@ -6,10 +6,7 @@ ghost use Rattle.session.specs.Openings.{RefusesJob, RefusesJobs, StartsGuest};
 
 use crate::fault::SessionFault;
 use crate::job::Job;
-use elf_load::{ElfFault, parse};
-use guest_calls::Outside;
-use rrv_model::limits::MAX_ELF;
-use rrv_model::name::is_name;
+use guest_calls::{OpeningFault, Outside, starting_image};
 use rrv_model::sink::Sink;
 use serial_sched::Chooser;
 use std::alloc::Global;
@@ -23,17 +20,10 @@ fn check_job<C: Chooser + Drop, O: Outside + Drop, S: Sink + Drop>(
     ensures starts { OnOk result (StartsGuest job.now) }
     ensures refused { IfErr result (λ fault. RefusesJob place job.now fault) }
 {
-    if !is_name(&job.name) {
-        return Err(SessionFault::BadOpening { guest: place });
-    }
-    // Whatever else is wrong with a file past its limit, no memory is wanted to refuse it.
-    if job.elf.len() > MAX_ELF as usize {
-        return Err(SessionFault::BadOpening { guest: place });
-    }
-    match parse(alloc, &job.elf) {
+    match starting_image(alloc, &job.name, &job.elf) {
         Ok(_) => Ok(()),
-        Err(ElfFault::Memory) => Err(SessionFault::Memory),
-        Err(_) => Err(SessionFault::BadOpening { guest: place }),
+        Err(OpeningFault::Memory) => Err(SessionFault::Memory),
+        Err(OpeningFault::BadOpening) => Err(SessionFault::BadOpening { guest: place }),
     }
 }
 

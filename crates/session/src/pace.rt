@@ -5,10 +5,10 @@ use std::sync::atomic::{AtomicU64, Ordering};
 use std::time::Duration;
 
 /// The flusher is woken when this many records were sent.
-const BATCH: u64 = 8;
+const ENOUGH: u64 = 8;
 
 /// How long the flusher sleeps at most, in milliseconds.
-const PATIENCE: u64 = 10;
+const LONGEST_SLEEP: u64 = 10;
 
 /// How many records were sent since the flusher began its last turns. No contract tells it, and none needs to: what a turn
 /// commits is the queue's to tell.
@@ -24,26 +24,26 @@ impl Pace {
         }
     }
 
-    /// Tells that so many records were sent. The flusher wakes where they make a batch whole.
+    /// Tells that so many records were sent. The flusher wakes once there are enough.
     pub(crate) fn sent(&self, records: u32) {
         let records = u64::from(records);
         let before = self.waiting.fetch_add(records, Ordering::SeqCst);
-        if before < BATCH && BATCH - before <= records {
+        if before < ENOUGH && ENOUGH - before <= records {
             self.waiting.wake_one();
         }
     }
 
     /// Tells that a worker waits for the flusher.
     pub(crate) fn hurry(&self) {
-        self.sent(BATCH as u32);
+        self.sent(ENOUGH as u32);
     }
 
-    /// Sleeps until there is a batch, or the patience has ended. What was sent before it returns stands in the queue by then.
+    /// Sleeps until there are enough, or it slept as long as it may. What was sent before it returns stands in the queue by then.
     pub(crate) fn wait<R: Wait>(&self, rt: &R) {
         let waiting = self.waiting.load(Ordering::SeqCst);
-        if waiting < BATCH {
-            let patience = Duration::from_millis(PATIENCE);
-            self.waiting.park_timeout(rt, waiting as u32, patience);
+        if waiting < ENOUGH {
+            let longest = Duration::from_millis(LONGEST_SLEEP);
+            self.waiting.park_timeout(rt, waiting as u32, longest);
         }
         self.waiting.store(0, Ordering::SeqCst);
     }

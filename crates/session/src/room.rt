@@ -16,7 +16,7 @@ use std::alloc::Global;
 
 /// All of it is taken before a thread starts, so that no seat and no job is lost.
 #[derive(Drop)]
-pub(crate) struct Room<C: Chooser + Drop, O: Outside + Drop, S: Sink + Drop> {
+pub(crate) struct SessionRoom<C: Chooser + Drop, O: Outside + Drop, S: Sink + Drop> {
     pub(crate) seats: Vec<RecorderSeat>,
     pub(crate) flusher: FlusherSeat,
     pub(crate) tasks: Vec<Task<C, O, S>>,
@@ -32,12 +32,12 @@ pub(crate) struct Room<C: Chooser + Drop, O: Outside + Drop, S: Sink + Drop> {
 pub(crate) fn make_room<C: Chooser + Drop, O: Outside + Drop, S: Sink + Drop>(
     alloc: Global,
     guests: usize,
-) -> Result<Room<C, O, S>, Memory>
+) -> Result<SessionRoom<C, O, S>, Memory>
     requires { (0 < guests) × (guests ≤ 16) }
     ensures { IfOk result (λ r. HasRoom guests r) }
 {
     let (seats, flusher) = Group::make(alloc, guests as u32)?;
-    Ok(Room {
+    Ok(SessionRoom {
         seats,
         flusher,
         tasks: Vec::with_capacity(alloc, guests)?,

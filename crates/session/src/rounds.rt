@@ -10,7 +10,7 @@ ghost use Rattle.session.specs.Drives.{CallTellsSink, Drives, GoesOn, HasHalted,
 ghost use Rattle.session.specs.declared.rounds.WorkFault.TheVariants as work_faults;
 
 use crate::gate::Gate;
-use crate::place::Place;
+use crate::post::Post;
 use guest_calls::{Guest, Outside};
 use recorder::{Recorder, RecorderFault};
 use rrv_model::limits::MIN_QUANTUM;
@@ -23,7 +23,7 @@ use std::sync::Wait;
 use std::thread;
 
 /// How often in a row the gate may refuse a step.
-const PATIENCE: u32 = 10_000_000;
+const MOST_REFUSALS: u32 = 10_000_000;
 
 /// Why a worker makes no more frames.
 #[derive(Clone, Copy, Debug, PartialEq, Eq)]
@@ -65,7 +65,7 @@ impl From<Memory> for WorkFault {
 
 /// What a turn came to.
 #[derive(Clone, Copy, Debug, PartialEq, Eq)]
-enum Turn {
+enum Step {
     /// A frame was made.
     Stepped,
     /// The gate lets no step.
@@ -110,11 +110,11 @@ fn take_turn<C: Chooser, O: Outside, G: Gate>(
     recorder: &mut Recorder,
     chooser: &mut C,
     outside: &mut O,
-    place: &Place<G>,
-) -> Result<Turn, WorkFault>
+    post: &Post<G>,
+) -> Result<Step, WorkFault>
     ensures goes { GoesOn recorder.old recorder.new [] }
-    ensures over { IfOk result (λ turn. turn ≡ Turn.Over → IsOver C.Chooser recorder.new chooser.new) }
-    ensures waits { IfOk result (λ turn. turn ≡ Turn.Waits
+    ensures over { IfOk result (λ turn. turn ≡ Step.Over → IsOver C.Chooser recorder.new chooser.new) }
+    ensures waits { IfOk result (λ turn. turn ≡ Step.Waits
         → length recorder.new.seat.sent ≢ length (made recorder.new)) }
     ensures memory { IfErr result (λ e. e ≡ WorkFault.Memory) }
     ensures chosen { OnErr result (MakesChosen C.chooses recorder.old chooser.old recorder.new
@@ -123,26 +123,26 @@ fn take_turn<C: Chooser, O: Outside, G: Gate>(
         (TurnLeaves C.chooses turn chooser.new (state_of recorder.new.guest))) }
 {
     if recorder.sent() != recorder.made() {
-        return Ok(Turn::Waits);
+        return Ok(Step::Waits);
     }
     if is_over(recorder, chooser) {
-        return Ok(Turn::Over);
+        return Ok(Step::Over);
     }
-    if !place.may_step() {
-        return Ok(Turn::Held);
+    if !post.may_step() {
+        return Ok(Step::Held);
     }
     let Some(choice) = choose(alloc, recorder.guest(), chooser)? else {
-        return Ok(Turn::Over);
+        return Ok(Step::Over);
     };
     recorder.step(alloc, choice, outside)?;
-    Ok(Turn::Stepped)
+    Ok(Step::Stepped)
 }
 
 /// Sends what waits, as long as the queue has room, and tells what it sent.
 fn send<G: Gate, R: Wait>(
     rt: &R,
     recorder: &mut Recorder,
-    place: &Place<G>,
+    post: &Post<G>,
 ) -> Result<(), RecorderFault>
     ensures goes { GoesOn recorder.old recorder.new [] }
     ensures keeps { KeepsMade recorder.old recorder.new }
@@ -150,7 +150,7 @@ fn send<G: Gate, R: Wait>(
 {
     let before = recorder.sent();
     let result = recorder.send(rt);
-    place.tell_sent(before, recorder.sent(), recorder.guest().ran());
+    post.tell_sent(before, recorder.sent(), recorder.guest().ran());
     result
 }
 
@@ -159,33 +159,33 @@ fn send_and_release<S: Sink, G: Gate, R: Wait>(
     rt: &R,
     recorder: &mut Recorder,
     sink: &mut S,
-    place: &Place<G>,
+    post: &Post<G>,
 ) -> Result<(), RecorderFault>
     ensures drives { Drives S.Sink recorder.old recorder.new sink.old sink.new }
     ensures keeps { KeepsMade recorder.old recorder.new }
     ensures halted { result ≡ Err RecorderFault.Halted → HasHalted recorder.new }
     ensures sink { CallTellsSink result (S.faults sink.old) (S.faults sink.new) }
 {
-    let sent = send(rt, recorder, place);
+    let sent = send(rt, recorder, post);
     recorder.release(rt, sink)?;
     sent
 }
 
 /// Lets others run where no frame was made. It answers how often in a row the gate has refused.
-fn rest(turn: Turn, held: u32) -> Result<u32, WorkFault>
-    requires { held < 10_000_000 }
-    ensures few { IfOk result (λ count. count < 10_000_000) }
+fn rest(turn: Step, held: u32) -> Result<u32, WorkFault>
+    requires { held < MOST_REFUSALS }
+    ensures few { IfOk result (λ count. count < MOST_REFUSALS) }
     ensures held { IfOk result (λ count. count ≡ next_held turn held) }
-    ensures refused { IfErr result (λ e. (e ≡ WorkFault.Held) × (next_held turn held ≡ 10_000_000)) }
+    ensures refused { IfErr result (λ e. (e ≡ WorkFault.Held) × (next_held turn held ≡ MOST_REFUSALS)) }
 {
     match turn {
-        Turn::Stepped | Turn::Over => Ok(0),
-        Turn::Waits => {
+        Step::Stepped | Step::Over => Ok(0),
+        Step::Waits => {
             thread::yield_now();
             Ok(held)
         }
-        Turn::Held if held + 1 == PATIENCE => Err(WorkFault::Held),
-        Turn::Held => {
+        Step::Held if held + 1 == MOST_REFUSALS => Err(WorkFault::Held),
+        Step::Held => {
             thread::yield_now();
             Ok(held + 1)
         }
@@ -200,7 +200,7 @@ fn make_frames<C: Chooser, O: Outside, S: Sink, G: Gate, R: Wait>(
     chooser: &mut C,
     outside: &mut O,
     sink: &mut S,
-    place: &Place<G>,
+    post: &Post<G>,
 ) -> Result<(), WorkFault>
     ensures drives { Drives S.Sink recorder.old recorder.new sink.old sink.new }
     ensures over { OnOk result (IsOver C.Chooser recorder.new chooser.new) }
@@ -211,14 +211,14 @@ fn make_frames<C: Chooser, O: Outside, S: Sink, G: Gate, R: Wait>(
 {
     let mut held = 0;
     for _ in rt.forever() {
-        send_and_release(rt, recorder, sink, place)?;
-        let turn = take_turn(alloc, recorder, chooser, outside, place)?;
-        if turn == Turn::Over {
-            return Ok(());
+        send_and_release(rt, recorder, sink, post)?;
+        let turn = take_turn(alloc, recorder, chooser, outside, post)?;
+        if turn == Step::Over {
+            break;
         }
         held = rest(turn, held)?;
     }
-    unreachable!()
+    Ok(())
 }
 
 /// Makes frames until there is none to make, and sends and releases until all is durable and has left.
@@ -229,7 +229,7 @@ pub(crate) fn drive<C: Chooser, O: Outside, S: Sink, G: Gate, R: Wait>(
     chooser: &mut C,
     outside: &mut O,
     sink: &mut S,
-    place: &Place<G>,
+    post: &Post<G>,
 ) -> Result<(), WorkFault>
     ensures drives { Drives S.Sink recorder.old recorder.new sink.old sink.new }
     ensures over { OnOk result (IsOver C.Chooser recorder.new chooser.new) }
@@ -239,23 +239,22 @@ pub(crate) fn drive<C: Chooser, O: Outside, S: Sink, G: Gate, R: Wait>(
     ensures halted { result ≡ Err WorkFault.Halted → HasHalted recorder.new }
     ensures sink { WorkTellsSink result (S.faults sink.old) (S.faults sink.new) }
 {
-    make_frames(rt, alloc, recorder, chooser, outside, sink, place)?;
-    place.pace.hurry();
+    make_frames(rt, alloc, recorder, chooser, outside, sink, post)?;
+    post.pace.hurry();
     recorder.settle(rt, sink)?;
     Ok(())
 }
 
 /// Sends what waits, while that may be.
-pub(crate) fn send_rest<G: Gate, R: Wait>(rt: &R, recorder: &mut Recorder, place: &Place<G>)
+pub(crate) fn send_rest<G: Gate, R: Wait>(rt: &R, recorder: &mut Recorder, post: &Post<G>)
     ensures goes { GoesOn recorder.old recorder.new [] }
     ensures keeps { KeepsMade recorder.old recorder.new }
     ensures rest { HasSent recorder.new }
 {
     for _ in rt.forever() {
-        if send(rt, recorder, place).is_err() || recorder.sent() == recorder.made() {
-            return;
+        if send(rt, recorder, post).is_err() || recorder.sent() == recorder.made() {
+            break;
         }
         thread::yield_now();
     }
-    unreachable!()
 }

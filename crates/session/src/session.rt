@@ -1,10 +1,9 @@
 //! A session, from its jobs to its report.
 
-ghost use Rattle.std.specs.Prelude.{◌≡◌, ◌<◌, ◌≤◌, ◌+◌, ℕ, List, [], false, length, IfErr, IfOk, OnErr, OnOk, Err};
-ghost use Rattle.rrv_model.specs.declared.record.Record.{Record};
+ghost use Rattle.std.specs.Prelude.{◌≡◌, ◌<◌, ◌≤◌, ◌+◌, ℕ, [], false, length, IfErr, OnErr, OnOk, Err};
 ghost use Rattle.std.specs.List.{AllByRecursion};
 ghost use Rattle.session.specs.Openings.{IsFirstBad, StartsGuest};
-ghost use Rattle.session.specs.Sessions.{AreLeft, AreReported, AreTooMany, AreUntouched, HasRun, RefusesSession, TellsBadJob, TellsDevice, TellsFirst, TellsSinks};
+ghost use Rattle.session.specs.Sessions.{AreTooMany, AreUntouched, HasEnded, RefusesSession, TellsBadJob, TellsDevice, TellsSinks};
 
 use crate::fault::SessionFault;
 use crate::gate::Gate;
@@ -13,7 +12,7 @@ use crate::job::Job;
 use crate::lowest::lowest_fault;
 use crate::opening::check_jobs;
 use crate::report::SessionReport;
-use crate::room::{Room, make_room};
+use crate::room::{SessionRoom, make_room};
 use crate::run::run;
 use commit_group::end;
 use guest_calls::Outside;
@@ -49,10 +48,7 @@ fn record_some<
     requires some { (0 < length jobs.items) × (length jobs.items ≤ 16) }
     requires whole { log.is_broken ≡ false }
     requires numbers { log.next_guest + length jobs.items ≤ 4294967295 }
-    ensures recorded { (committed : List Record) × HasRun C.Chooser S.Sink D.Disk committed log result.0
-        jobs.items result.1.items × IfOk result.2 (λ r. AreReported C.Chooser S.Sink committed log.next_guest
-        jobs.items result.1.items r.guests.items × AreLeft committed log.next_guest result.1.items r.states.items)
-        × TellsFirst C.Chooser S.Sink committed log.next_guest result.2 jobs.items result.1.items }
+    ensures recorded { HasEnded C.Chooser S.Sink D.Disk log result.0 jobs.items result.1.items result.2 }
     ensures whole { OnOk result.2 (result.0.is_broken ≡ false) }
     ensures refused { IfErr result.2 (RefusesSession log result.0 jobs result.1) }
     ensures disk { TellsDevice result.2 (D.faults log.disk) (D.faults result.0.disk) }
@@ -62,7 +58,7 @@ fn record_some<
     let Ok(room) = make_room(alloc, jobs.len()) else {
         return (log, jobs, Err(SessionFault::Memory));
     };
-    let Room {
+    let SessionRoom {
         seats,
         flusher,
         mut tasks,
@@ -116,10 +112,7 @@ pub fn record_all<
     Result<SessionReport, SessionFault>,
 )
     requires whole { log.is_broken ≡ false }
-    ensures recorded { (committed : List Record) × HasRun C.Chooser S.Sink D.Disk committed log result.0
-        jobs.items result.1.items × IfOk result.2 (λ r. AreReported C.Chooser S.Sink committed log.next_guest
-        jobs.items result.1.items r.guests.items × AreLeft committed log.next_guest result.1.items r.states.items)
-        × TellsFirst C.Chooser S.Sink committed log.next_guest result.2 jobs.items result.1.items }
+    ensures recorded { HasEnded C.Chooser S.Sink D.Disk log result.0 jobs.items result.1.items result.2 }
     ensures whole { OnOk result.2 (result.0.is_broken ≡ false) }
     ensures starts { OnOk result.2 (AllByRecursion StartsGuest jobs.items) }
     ensures refused { IfErr result.2 (RefusesSession log result.0 jobs result.1) }

@@ -12,7 +12,7 @@ use crate::fault::SessionFault;
 use crate::gate::Gate;
 use crate::job::Job;
 use crate::pace::Pace;
-use crate::place::Place;
+use crate::post::Post;
 use crate::rounds::{WorkFault, drive, send_rest};
 use crate::task::{Task, Worked};
 use commit_group::RecorderSeat;
@@ -63,19 +63,19 @@ fn told(fault: WorkFault, guest: u32) -> Option<SessionFault>
 fn end_early<G: Gate, R: Wait>(
     rt: &R,
     recorder: &mut Recorder,
-    place: &Place<G>,
+    post: &Post<G>,
     fault: WorkFault,
 ) -> Option<SessionFault>
     ensures goes { GoesOn recorder.old recorder.new [] }
     ensures keeps { KeepsMade recorder.old recorder.new }
-    ensures told { result ≡ fault_told place.now.guest fault }
-    ensures met { AreMet place.now.guest result }
+    ensures told { result ≡ fault_told post.now.guest fault }
+    ensures met { AreMet post.now.guest result }
     ensures none { result ≡ None → (fault ≡ WorkFault.Halted) × (recorder.new ≡ recorder.old) }
     ensures rest { (result ≡ None) ⊎ HasSent recorder.new }
 {
-    match told(fault, place.guest) {
+    match told(fault, post.guest) {
         Some(fault) => {
-            send_rest(rt, recorder, place);
+            send_rest(rt, recorder, post);
             Some(fault)
         }
         None => None,
@@ -88,11 +88,11 @@ fn record<C: Chooser + Drop, O: Outside + Drop, S: Sink + Drop, G: Gate, R: Wait
     alloc: Global,
     recorder: &mut Recorder,
     job: &mut Job<C, O, S>,
-    place: &Place<G>,
+    post: &Post<G>,
 ) -> Option<SessionFault>
     ensures drives { Drives S.Sink recorder.old recorder.new job.old.sink job.new.sink }
     ensures job { IsSameJob job.old job.new }
-    ensures met { AreMet place.now.guest result }
+    ensures met { AreMet post.now.guest result }
     ensures done { result ≡ None → HasHalted recorder.new ⊎ IsDone C.Chooser recorder.new job.new.chooser }
     ensures chosen { MakesChosen C.chooses recorder.old job.old.chooser recorder.new
         (LeavesChooser C.chooses result job.new.chooser (state_of recorder.new.guest)) }
@@ -106,11 +106,11 @@ fn record<C: Chooser + Drop, O: Outside + Drop, S: Sink + Drop, G: Gate, R: Wait
         &mut job.chooser,
         &mut job.outside,
         &mut job.sink,
-        place,
+        post,
     );
     match driven {
         Ok(()) => None,
-        Err(fault) => end_early(rt, recorder, place, fault),
+        Err(fault) => end_early(rt, recorder, post, fault),
     }
 }
 
@@ -148,8 +148,8 @@ fn record_and_leave<C: Chooser + Drop, O: Outside + Drop, S: Sink + Drop, G: Gat
     let guest = seat.guest();
     match open(alloc, seat, &job) {
         Ok(mut recorder) => {
-            let place = Place { guest, gate, pace };
-            let fault = record(rt, alloc, &mut recorder, &mut job, &place);
+            let post = Post { guest, gate, pace };
+            let fault = record(rt, alloc, &mut recorder, &mut job, &post);
             leave(recorder, job, fault)
         }
         Err(mut seat) => {

@@ -22,8 +22,20 @@ pub record IsFileCall {T E : Type 0} (old new : HostFile) (result : Result T E) 
   pub counted : IsCounted result old.faults new.faults
   pub broken : old.is_broken ≡ true → IsErr result
 
+-- One call that only reads the file.
+pub record IsFileRead {T E : Type 0} (old new : HostFile) (result : Result T E) : Type 0 where
+  pub call : IsFileCall old new result
+  pub size : new.size ≡ old.size
+  pub broken : new.is_broken ≡ old.is_broken
+  pub access : new.is_read_only ≡ old.is_read_only
+
 -- One call that may change the file: it fails if the file is read alone.
 pub record IsFileChange {T E : Type 0} (old new : HostFile) (result : Result T E) : Type 0 where
   pub call : IsFileCall old new result
   pub refused : old.is_read_only ≡ true → IsErr result
   pub access : new.is_read_only ≡ old.is_read_only
+
+-- One call that changes the file and syncs nothing.
+pub record IsFileEdit {T E : Type 0} (old new : HostFile) (result : Result T E) : Type 0 where
+  pub change : IsFileChange old new result
+  pub broken : new.is_broken ≡ old.is_broken

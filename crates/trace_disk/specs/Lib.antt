@@ -1,3 +1,4 @@
+pub mod Calls
 pub mod FailOnce
 pub mod FileDisk
 pub mod MemDisk

@@ -2,7 +2,6 @@
 
 ghost use Rattle.std.specs.Prelude.{◌≡◌, ◌+◌, ◌-◌, ◌↔◌, ◌≤◌, max, length, take, drop, OnOk, OnErr, IsTrue, false, true, if◌then◌else◌};
 ghost use Rattle.store_model.specs.DiskCalls.{after_write, after_cut, after_sync, FailsToWrite, FailsToCut};
-ghost use Rattle.outcomes.specs.Failures.{IsCounted};
 ghost use Rattle.trace_disk.specs.FailOnce.{failures_of, IsOneCall};
 
 use crate::{Disk, DiskFailed};
@@ -93,14 +92,12 @@ impl<D: Disk> Disk for FailOnce<D> {
 
     fn read_at(&mut self, at: u64, into: &mut [u8]) -> Result<(), DiskFailed>
         requires { at + length into.old ≤ D.size self.old.disk }
-        ensures one_call { IsOneCall D.faults self.old self.new result }
+        ensures one_call { IsOneCall D.Disk self.old self.new result }
         ensures due { self.old.calls_left ≡ 1 → into.new ≡ into.old }
         ensures bytes { D.honest self.old.disk
             → OnOk result (into.new ≡ take (length into.old) (drop at (D.state self.old.disk).content)) }
         ensures state { D.honest self.old.disk → D.state self.new.disk ≡ D.state self.old.disk }
-        ensures honest { D.honest self.new.disk ↔ D.honest self.old.disk }
         ensures size { D.size self.new.disk ≡ D.size self.old.disk }
-        ensures counted { IsCounted result (failures_of D.faults self.old) (failures_of D.faults self.new) }
     {
         if self.is_due() {
             return Err(DiskFailed);
@@ -110,14 +107,12 @@ impl<D: Disk> Disk for FailOnce<D> {
 
     fn write_at(&mut self, at: u64, bytes: &[u8]) -> Result<(), DiskFailed>
         requires { at ≤ D.size self.old.disk }
-        ensures one_call { IsOneCall D.faults self.old self.new result }
+        ensures one_call { IsOneCall D.Disk self.old self.new result }
         ensures written { D.honest self.old.disk
             → OnOk result (D.state self.new.disk ≡ after_write (D.state self.old.disk) at bytes.now) }
         ensures torn { D.honest self.old.disk
             → OnErr result (FailsToWrite at (length bytes.now) (D.state self.old.disk) (D.state self.new.disk)) }
-        ensures honest { D.honest self.new.disk ↔ D.honest self.old.disk }
         ensures size { OnOk result (D.size self.new.disk ≡ max (D.size self.old.disk) (at + length bytes.now)) }
-        ensures counted { IsCounted result (failures_of D.faults self.old) (failures_of D.faults self.new) }
     {
         if self.is_due() {
             return Err(DiskFailed);
@@ -127,14 +122,12 @@ impl<D: Disk> Disk for FailOnce<D> {
 
     fn cut(&mut self, len: u64) -> Result<(), DiskFailed>
         requires { len ≤ D.size self.old.disk }
-        ensures one_call { IsOneCall D.faults self.old self.new result }
+        ensures one_call { IsOneCall D.Disk self.old self.new result }
         ensures cut { D.honest self.old.disk
             → OnOk result (D.state self.new.disk ≡ after_cut (D.state self.old.disk) len) }
         ensures torn { D.honest self.old.disk
             → OnErr result (FailsToCut len (D.state self.old.disk) (D.state self.new.disk)) }
-        ensures honest { D.honest self.new.disk ↔ D.honest self.old.disk }
         ensures size { OnOk result (D.size self.new.disk ≡ len) }
-        ensures counted { IsCounted result (failures_of D.faults self.old) (failures_of D.faults self.new) }
     {
         if self.is_due() {
             return Err(DiskFailed);
@@ -143,13 +136,11 @@ impl<D: Disk> Disk for FailOnce<D> {
     }
 
     fn sync(&mut self) -> Result<(), DiskFailed>
-        ensures one_call { IsOneCall D.faults self.old self.new result }
+        ensures one_call { IsOneCall D.Disk self.old self.new result }
         ensures synced { D.honest self.old.disk
             → OnOk result (D.state self.new.disk ≡ after_sync (D.state self.old.disk)) }
         ensures same { D.honest self.old.disk → OnErr result (D.state self.new.disk ≡ D.state self.old.disk) }
-        ensures honest { D.honest self.new.disk ↔ D.honest self.old.disk }
         ensures size { D.size self.new.disk ≡ D.size self.old.disk }
-        ensures counted { IsCounted result (failures_of D.faults self.old) (failures_of D.faults self.new) }
     {
         if self.is_due() {
             return Err(DiskFailed);

@@ -2,7 +2,7 @@
 
 ghost use Rattle.std.specs.Prelude.{◌≡◌, ◌≤◌, ◌+◌, max, length, IfOk, OnOk, OnErr, IsTrue, true, false};
 ghost use Rattle.outcomes.specs.Failures.{one_more, IsCounted};
-ghost use Rattle.trace_disk.specs.FileDisk.{file_to_read, opened_file, IsFileCall, IsFileChange};
+ghost use Rattle.trace_disk.specs.FileDisk.{file_to_read, opened_file, IsFileChange, IsFileEdit, IsFileRead};
 
 use crate::{Disk, DiskFailed};
 use std::fs::{File, Metadata, OpenOptions};
@@ -329,10 +329,7 @@ impl Disk for FileDisk {
 
     fn read_at(&mut self, at: u64, into: &mut [u8]) -> Result<(), DiskFailed>
         requires { at + length into.old ≤ self.old.size }
-        ensures call { IsFileCall self.old self.new result }
-        ensures size { self.new.size ≡ self.old.size }
-        ensures broken { self.new.is_broken ≡ self.old.is_broken }
-        ensures access { self.new.is_read_only ≡ self.old.is_read_only }
+        ensures { IsFileRead self.old self.new result }
     {
         if self.is_broken || self.file.read_exact_at(into, at).is_err() {
             return Err(self.failed());
@@ -343,9 +340,8 @@ impl Disk for FileDisk {
 
     fn write_at(&mut self, at: u64, bytes: &[u8]) -> Result<(), DiskFailed>
         requires { at ≤ self.old.size }
-        ensures call { IsFileChange self.old self.new result }
+        ensures edit { IsFileEdit self.old self.new result }
         ensures size { OnOk result (self.new.size ≡ max self.old.size (at + length bytes.now)) }
-        ensures broken { self.new.is_broken ≡ self.old.is_broken }
     {
         let end = at.saturating_add(bytes.len() as u64);
         if end > MAX_LEN || !self.is_whole() {
@@ -360,9 +356,8 @@ impl Disk for FileDisk {
 
     fn cut(&mut self, len: u64) -> Result<(), DiskFailed>
         requires { len ≤ self.old.size }
-        ensures call { IsFileChange self.old self.new result }
+        ensures edit { IsFileEdit self.old self.new result }
         ensures size { OnOk result (self.new.size ≡ len) }
-        ensures broken { self.new.is_broken ≡ self.old.is_broken }
     {
         if !self.is_whole() {
             return Err(self.failed());

@@ -68,7 +68,7 @@ pub struct MemDisk {
 }
 
 impl MemDisk {
-    ghost use Rattle.trace_disk.specs.MemDisk.{memory_state, memory_size, memory_failures, HasRoom};
+    ghost use Rattle.trace_disk.specs.MemDisk.{memory_state, memory_size, memory_failures, HasRoom, IsMemoryCall};
 
     /// An empty disk with no room: each call may take memory, making it takes none.
     pub fn new(alloc: Global) -> Self
@@ -142,13 +142,10 @@ impl MemDisk {
 
     fn try_write(&mut self, at: usize, bytes: &[u8]) -> Result<(), AllocError>
         requires { at ≤ memory_size self.old }
-        ensures written { OnOk result (memory_state self.new ≡ after_write (memory_state self.old) at bytes.now) }
+        ensures call { IsMemoryCall self.old self.new result
+            (after_write (memory_state self.old) at bytes.now) (length bytes.now) }
         ensures size { OnOk result (memory_size self.new ≡ max (memory_size self.old) (at + length bytes.now)) }
-        ensures err { OnErr result (memory_state self.new ≡ memory_state self.old) }
         ensures failures { self.new.failures ≡ self.old.failures }
-        ensures room { (b c : ℕ) → HasRoom self.old (length bytes.now + b) (1 + c) → IsOk result }
-        ensures room_left { (b c : ℕ) → HasRoom self.old (length bytes.now + b) (1 + c) → HasRoom self.new b c }
-        ensures room_err { (b c : ℕ) → HasRoom self.old b c → OnErr result (HasRoom self.new b c) }
     {
         reserve_to(&mut self.content, at, bytes.len())?;
         self.touched.reserve(1)?;
@@ -203,7 +200,7 @@ fn keep_untouched(bytes: &mut [u8], content: &[u8], least: usize, touched: &[(us
 impl Disk for MemDisk {
     ghost use Rattle.std.specs.Prelude.{⊤};
     ghost use Rattle.std.proofs.Common.{ap};
-    ghost use Rattle.trace_disk.specs.MemDisk.{memory_state, memory_size, memory_failures, HasRoom};
+    ghost use Rattle.trace_disk.specs.MemDisk.{memory_state, memory_size, memory_failures, IsMemoryCall};
 
     ghost honest = { λ _. ⊤ };
 
@@ -238,13 +235,10 @@ impl Disk for MemDisk {
 
     fn write_at(&mut self, at: u64, bytes: &[u8]) -> Result<(), DiskFailed>
         requires { at ≤ memory_size self.old }
-        ensures written { OnOk result (memory_state self.new ≡ after_write (memory_state self.old) at bytes.now) }
-        ensures err { OnErr result (memory_state self.new ≡ memory_state self.old) }
+        ensures call { IsMemoryCall self.old self.new result
+            (after_write (memory_state self.old) at bytes.now) (length bytes.now) }
         ensures size { OnOk result (memory_size self.new ≡ max (memory_size self.old) (at + length bytes.now)) }
         ensures counted { IsCounted result (memory_failures self.old) (memory_failures self.new) }
-        ensures room { (b c : ℕ) → HasRoom self.old (length bytes.now + b) (1 + c) → IsOk result }
-        ensures room_left { (b c : ℕ) → HasRoom self.old (length bytes.now + b) (1 + c) → HasRoom self.new b c }
-        ensures room_err { (b c : ℕ) → HasRoom self.old b c → OnErr result (HasRoom self.new b c) }
     {
         match self.try_write(at as usize, bytes) {
             Ok(()) => Ok(()),
@@ -254,13 +248,9 @@ impl Disk for MemDisk {
 
     fn cut(&mut self, len: u64) -> Result<(), DiskFailed>
         requires { len ≤ memory_size self.old }
-        ensures cut { OnOk result (memory_state self.new ≡ after_cut (memory_state self.old) len) }
-        ensures err { OnErr result (memory_state self.new ≡ memory_state self.old) }
+        ensures call { IsMemoryCall self.old self.new result (after_cut (memory_state self.old) len) 0 }
         ensures size { OnOk result (memory_size self.new ≡ len) }
         ensures counted { IsCounted result (memory_failures self.old) (memory_failures self.new) }
-        ensures room { (b c : ℕ) → HasRoom self.old b (1 + c) → IsOk result }
-        ensures room_left { (b c : ℕ) → HasRoom self.old b (1 + c) → HasRoom self.new b c }
-        ensures room_err { (b c : ℕ) → HasRoom self.old b c → OnErr result (HasRoom self.new b c) }
     {
         let len = len as usize;
         self.content.truncate(len);
@@ -270,13 +260,9 @@ impl Disk for MemDisk {
     }
 
     fn sync(&mut self) -> Result<(), DiskFailed>
-        ensures synced { OnOk result (memory_state self.new ≡ after_sync (memory_state self.old)) }
-        ensures err { OnErr result (memory_state self.new ≡ memory_state self.old) }
+        ensures call { IsMemoryCall self.old self.new result (after_sync (memory_state self.old)) 0 }
         ensures size { memory_size self.new ≡ memory_size self.old }
         ensures counted { IsCounted result (memory_failures self.old) (memory_failures self.new) }
-        ensures room { (b c : ℕ) → HasRoom self.old b (1 + c) → IsOk result }
-        ensures room_left { (b c : ℕ) → HasRoom self.old b (1 + c) → HasRoom self.new b c }
-        ensures room_err { (b c : ℕ) → HasRoom self.old b c → OnErr result (HasRoom self.new b c) }
     {
         self.least = self.content.len();
         self.greatest = self.content.len();

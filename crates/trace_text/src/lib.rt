@@ -8,9 +8,11 @@
 //! - `StateLines`: the exact lines of a guest's state at a place: its end, its break, its reservation, its threads by rising
 //!   tid with their registers, and the digest of its pages. `digest_of`: SHA-256 of all mapped pages by rising number, each as
 //!   its number, its permissions and its bytes. `replay --at`, `back` and `last` print these.
+//! - `write_each`: the texts of a guest's threads, as a `ThreadText` writes each, by rising tid.
 //! - `MemoryLines`: the exact lines of a range of memory, which `--memory` adds to the state.
 #![tactic(auto)]
 
+mod each_thread;
 mod fault_names;
 mod guest_lines;
 mod memory_digest;
@@ -18,6 +20,7 @@ mod memory_lines;
 mod state_lines;
 mod text;
 
+pub use each_thread::{ThreadText, write_each};
 pub use fault_names::fault_name;
 pub use guest_lines::{ListLine, ReportLine};
 pub use memory_digest::digest_of;

@@ -18,10 +18,7 @@ pub fn digest_of(space: &Space) -> [u8; 32]
 {
     let mut hasher = Sha256::new();
     let mut least = 0;
-    while let Some(number) = space.next_page(least) {
-        let Some(page) = space.page(number) else {
-            unreachable!()
-        };
+    while let Some((number, page)) = space.page_from(least) {
         add_page(&mut hasher, number, page.permissions, page.bytes);
         least = number + 1;
     }

@@ -2,17 +2,15 @@
 
 ghost use Rattle.std.specs.Prelude.{◌≡◌, ◌+◌, ◌<◌, Some, flat_map};
 ghost use Rattle.std.specs.Fmt.{WritesOnOk};
-ghost use Rattle.std.specs.FinMap.{entries};
-ghost use Rattle.guest_threads.specs.Threads.{thread_map};
 ghost use Rattle.guest_calls.specs.Guest.{state_of};
 ghost use Rattle.trace_text.specs.States.{addresses_text, break_line, byte_text, pages_line, register_text};
 ghost use Rattle.trace_text.specs.States.{registers_line, registers_lines, reservation_line, state_lines};
 ghost use Rattle.trace_text.specs.States.{thread_line, thread_lines, wait_text};
 
+use crate::each_thread::{ThreadText, write_each};
 use crate::memory_digest::digest_of;
 use crate::text::{EndText, write_word};
 use guest_calls::Guest;
-use guest_threads::Threads;
 use rrv_model::machine::{Regs, Reservation, Thread};
 use std::fmt;
 
@@ -51,7 +49,7 @@ impl<'a> fmt::Display for StateLines<'a> {
         writeln!(f, "{end}")?;
         write_break(f, self.guest.program_break())?;
         write_reservation(f, self.guest.reservation())?;
-        write_threads(f, self.guest.threads())?;
+        write_each::<Whole, W>(f, self.guest.threads())?;
         write_pages(f, self.guest)
     }
 }
@@ -78,19 +76,15 @@ fn write_reservation<W: fmt::Write>(
     f.write_str("\n")
 }
 
-/// The lines of all threads, by rising tid.
-fn write_threads<W: fmt::Write>(f: &mut fmt::Formatter<W>, threads: &Threads) -> fmt::Result
-    ensures { WritesOnOk W.write_str_gives f.old result
-        (flat_map (λ e. thread_lines e.0 e.1) (entries (thread_map threads.now.threads))) f.new }
-{
-    // the proof opens the threads here, for what holds of their tids
-    let _ = threads.live();
-    for tid in 1..threads.next_tid() {
-        if let Some(thread) = threads.get(tid) {
-            write_thread(f, tid, &thread)?;
-        }
+/// All lines of a thread.
+struct Whole;
+
+impl ThreadText for Whole {
+    ghost text = { thread_lines };
+
+    fn write<W: fmt::Write>(f: &mut fmt::Formatter<W>, tid: u32, thread: &Thread) -> fmt::Result {
+        write_thread(f, tid, thread)
     }
-    Ok(())
 }
 
 /// A thread's line, and those of its registers.

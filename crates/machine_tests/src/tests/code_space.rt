@@ -4,7 +4,7 @@ ghost use Rattle.guest_pages.specs.Space.{snapshots_of};
 ghost use Rattle.std.specs.Prelude.{◌≡◌};
 
 use super::{CODE, DATA, same};
-use guest_pages::{PageView, Space};
+use guest_pages::{AddressSpace, PageView, Space};
 use rrv_model::machine::{FaultKind, Permissions};
 use rv_machine::{CodeSpace, Run, RunEnd, run_hart};
 use std::alloc::Global;

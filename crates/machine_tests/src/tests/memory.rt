@@ -3,7 +3,7 @@
 use super::code_space::{answers, space_of_code};
 use super::rows::{Row, play_on};
 use super::{CODE, DATA, same, same_numbers};
-use guest_pages::{PageFault, Space};
+use guest_pages::{AddressSpace, PageFault, Space};
 use rrv_model::refusal::Memory;
 use std::test::Fail;
 

@@ -4,6 +4,7 @@ use super::rows::{DONE, Deed, Row, does, play_on};
 use super::same;
 use elf_load::parse;
 use guest_opening::{open_space, opening_keeps_rules, opening_thread};
+use guest_pages::AddressSpace;
 use std::test::Fail;
 use test_guests::files::{EXIT_FIVE, file_of};
 

@@ -2,7 +2,7 @@
 
 use super::rows::{DONE, Deed, NOT_ALLOWED, NOT_MAPPED, Row, TOO_MANY, play, play_on};
 use super::{CODE, CONSTANTS, DATA, same};
-use guest_pages::Space;
+use guest_pages::{AddressSpace, Space};
 use std::alloc::Global;
 use std::process::Abort;
 use std::test::Fail;

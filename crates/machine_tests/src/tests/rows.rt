@@ -5,7 +5,7 @@ ghost use Rattle.std.specs.Prelude.{◌≡◌, ◌≤◌, ◌<◌};
 ghost use Rattle.guest_pages.specs.Space.{snapshots_of};
 
 use super::same;
-use guest_pages::{PageFault, PageView, Space};
+use guest_pages::{AddressSpace, PageFault, PageView, Space};
 use rrv_model::machine::Permissions;
 use std::process::Abort;
 

@@ -2,7 +2,7 @@
 
 use super::rows::{DONE, Deed, Edges, does, edges};
 use super::{CODE, CONSTANTS, DATA, same, same_numbers};
-use guest_pages::Space;
+use guest_pages::{AddressSpace, Space};
 use std::alloc::Global;
 use std::process::Abort;
 use std::test::Fail;

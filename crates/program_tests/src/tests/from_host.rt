@@ -4,7 +4,7 @@ ghost use Rattle.std.specs.Prelude.{◌≤◌, length};
 
 use super::kit::same;
 use guest_calls::Outside;
-use host::{Machine, Patient, StreamSink, Streams, opening_random};
+use host::{HostOutside, Patient, StreamSink, Streams, opening_random};
 use rrv_model::sink::{Sink, SinkError};
 use std::io;
 use std::io::{ErrorKind, Write};
@@ -112,7 +112,7 @@ const OPENING_OF_1: [u8; 16] = [
 #[test]
 fn random_bytes_go_on_from_call_to_call(rt: HostRuntime) -> Result<(), Fail> {
     let start = Instant::now(&rt)?;
-    let mut machine = Machine::new(&rt, start, &[], &[0; 16], 0);
+    let mut machine = HostOutside::new(&rt, start, &[], &[0; 16], 0);
     let (mut first, mut second, mut third) = ([0; 5], [0; 30], [0; 5]);
     machine.random(&mut first);
     machine.random(&mut second);
@@ -129,8 +129,8 @@ fn random_bytes_go_on_from_call_to_call(rt: HostRuntime) -> Result<(), Fail> {
 fn each_guest_reads_the_input_from_its_start(rt: HostRuntime) -> Result<(), Fail> {
     let start = Instant::now(&rt)?;
     let input = b"0123456789";
-    let mut first = Machine::new(&rt, start, input, &[0; 16], 0);
-    let mut second = Machine::new(&rt, start, input, &[0; 16], 1);
+    let mut first = HostOutside::new(&rt, start, input, &[0; 16], 0);
+    let mut second = HostOutside::new(&rt, start, input, &[0; 16], 1);
     for piece in ["0123", "4567", "89", "", ""] {
         read_four(&rt, &mut first, piece.as_bytes());
         read_four(&rt, &mut second, piece.as_bytes());
@@ -145,11 +145,11 @@ fn clocks_count_from_1970_and_from_the_start(rt: HostRuntime) -> Result<(), Fail
         Some(Duration::from_millis(7_250)),
         Some(Duration::from_millis(1_700_000_000_001)),
     );
-    let mut machine = Machine::new(&later, start, &[], &[0; 16], 0);
+    let mut machine = HostOutside::new(&later, start, &[], &[0; 16], 0);
     same(&rt, &"monotonic", machine.now(1), (2, 250_000_000));
     same(&rt, &"real", machine.now(0), (1_700_000_000, 1_000_000));
     let failing = Still(None, None);
-    let mut machine = Machine::new(&failing, start, &[], &[0; 16], 0);
+    let mut machine = HostOutside::new(&failing, start, &[], &[0; 16], 0);
     same(&rt, &"failing", machine.now(1), (0, 0));
     same(&rt, &"failing", machine.now(0), (0, 0));
     Ok(())

@@ -41,14 +41,6 @@ fn texts_of_refusals(rt: HostRuntime) -> Result<(), Fail> {
             ),
             (Refusal::of_elf(0, ElfFault::Memory), "out of memory"),
             (Refusal::DeviceFailed, "device failed"),
-            (Refusal::StoreFull, "store full"),
-            (Refusal::NotAStore, "not a store"),
-            (Refusal::Damaged { segment: 0 }, "damaged segment 0"),
-            (Refusal::Mismatch { index: 1 }, "record 1 does not replay"),
-            (Refusal::BadCheckpoint { index: 7 }, "checkpoint 7 is wrong"),
-            (Refusal::BadOpening, "bad opening"),
-            (Refusal::NewerVersion, "newer version"),
-            (Refusal::Unreadable { index: 1 }, "record 1 unreadable"),
             (Refusal::NoSuchGuest, "no such guest"),
             (Refusal::from(SeekFault::BeforeStart), "before the start"),
             (Refusal::from(SeekFault::PastEnd), "past the end"),
@@ -67,7 +59,10 @@ fn texts_of_refusals(rt: HostRuntime) -> Result<(), Fail> {
                 Refusal::from(SessionFault::Held { guest: 0 }).in_memory(),
                 "guest 0: held",
             ),
-            (Refusal::StoreFull.in_memory(), "store full"),
+            (
+                Refusal::from(SessionFault::StoreFull).in_memory(),
+                "store full",
+            ),
         ],
     )
 }

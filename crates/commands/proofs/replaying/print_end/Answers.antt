@@ -2,6 +2,7 @@ use Rattle.std.proofs.Common.{rules}
 use Rattle.commands.proofs.Texts.{end_printed}
 use Rattle.commands.proofs.replaying.print_end.Goals as goal
 
-pub returns-clause-printed : goal.returns-clause-printed
-returns-clause-printed g c =
-    end_printed c.print_line.result _ _ _ _ _ _ _ _ (search rules) (search rules) (search rules) c.print_line.ensures.printed
+pub returns : goal.returns
+returns g c = record {
+  printed = end_printed c.print_line.result _ _ _ _ _ _ _ _ (search rules) (search rules) (search rules) c.print_line.ensures.printed;
+}

@@ -2,9 +2,12 @@ use Rattle.std.proofs.Common.{rules}
 use Rattle.commands.proofs.TurnTexts.{end_printed_long}
 use Rattle.commands.proofs.replaying.print_told.Goals as goal
 
-pub returns-clause-printed : goal.returns-clause-printed
-returns-clause-printed g c =
+pub returns : goal.returns
+returns g c =
     let end = c.args.end.now in
     let lines = c.new-lines.result in
-    end_printed_long c.print_text.result c.args.is_long end.len end.total lines.place end.last lines.last end.guest lines.guest.now _ _ _
-    (search rules) (search rules) (search rules) (search rules) c.in_ok-print_end.ensures.printed c.print_text.ensures.printed
+    record {
+      printed = end_printed_long c.print_text.result c.args.is_long end.len end.total lines.place end.last lines.last end.guest
+          lines.guest.now _ _ _
+          (search rules) (search rules) (search rules) (search rules) c.in_ok-print_end.ensures.printed c.print_text.ensures.printed;
+    }

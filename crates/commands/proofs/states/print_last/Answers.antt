@@ -1,9 +1,10 @@
 use Rattle.std.proofs.Common.{◌≡◌, List, ℕ, Option, subst, ◌∙◌}
-use Rattle.std.specs.Prelude.{IfSome, OnOk}
+use Rattle.std.specs.Prelude.{IfSome, Ok}
 use Rattle.std.specs.Io.KnownBytes.{Appends}
 use Rattle.replayer.specs.Verified.{VerifiedValue}
 use Rattle.rrv_model.specs.StateAt.{total}
 use Rattle.reverse_step.specs.Changes.{IsLastChange}
+use Rattle.commands.specs.declared.refusal.Refusal.{Refusal}
 use Rattle.commands.specs.Printed.{IsStateText, place_in}
 use Rattle.commands.proofs.Texts.{change_printed, unchanged_printed}
 use Rattle.commands.proofs.states.print_last.Goals as goal
@@ -23,19 +24,19 @@ returns-in-Some-clause-printed g c =
     let moved = c.in_ok-last_change.ensures in
     let new = c.last_change.new.self in
     let contents = g.W.Write.contents in
-    change_printed c.print_state.result v.opening v.frames c.args.ranges.now c.args.address (place_in (total v.frames) c.args.from)
+    change_printed {E = Refusal} (Ok (tt {0})) v.opening v.frames c.args.ranges.now c.args.address (place_in (total v.frames) c.args.from)
     c.in-Some.field-0 new.place _ _
     (last_change _ v c.args.address _ _ _ _ made.verified (made.at ∙ c.place_in.ensures) c.in-Some.is moved.change)
     (subst (λ (o : Option ℕ). IfSome o (λ t. new.place ≡ t)) c.in-Some.is moved.at)
-    (subst (λ (x : VerifiedValue). OnOk c.print_state.result
-    ((text : List ℕ) × IsStateText x.opening x.frames c.args.ranges.now new.place text ×
-    Appends (contents c.args.out.now) (contents c.print_state.new.out) text))
-    (moved.verified ∙ made.verified) c.print_state.ensures.printed)
+    (subst (λ (x : VerifiedValue). (text : List ℕ) × IsStateText x.opening x.frames c.args.ranges.now new.place text ×
+    Appends (contents c.args.out.now) (contents c.print_state.new.out) text)
+    (moved.verified ∙ made.verified) c.in_ok-print_state-in-Some.ensures.printed)
 
 pub returns-clause-printed : goal.returns-clause-printed
 returns-clause-printed g c =
     let v = c.args.verified.now in
     let made = c.in_ok-cursor.ensures in
-    unchanged_printed c.print_line.result v.opening v.frames c.args.ranges.now c.args.address (place_in (total v.frames) c.args.from) _ _
+    unchanged_printed {E = Refusal} (Ok (tt {0})) v.opening v.frames c.args.ranges.now c.args.address
+    (place_in (total v.frames) c.args.from) _ _
     (last_change _ v c.args.address _ _ _ _ made.verified (made.at ∙ c.place_in.ensures) c.in-None.is c.in_ok-last_change.ensures.change)
-    c.print_line.ensures.printed
+    c.in_ok-print_line-in-None.ensures.printed

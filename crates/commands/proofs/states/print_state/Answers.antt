@@ -7,15 +7,18 @@ use Rattle.commands.specs.Printed.{ranges_lines}
 use Rattle.commands.proofs.Texts.{state_printed}
 use Rattle.commands.proofs.states.print_state.Goals as goal
 
-pub returns-clause-printed : goal.returns-clause-printed
-returns-clause-printed g c =
+pub returns : goal.returns
+returns g c =
     let v = c.args.cursor.now.verified in
     let contents = g.W.Write.contents in
     let same = sym c.new-lines.ensures.guest in
-    state_printed c.print_ranges.result v.opening v.frames c.args.ranges.now (state_of c.new-lines.result.guest.now) c.args.cursor.now.place
-    _ _ _ _ _
-    (subst (λ (x : GuestValue). StateAt v.opening v.frames c.args.cursor.now.place (state_of x)) same c.guest-guest.ensures.state)
-    (search rules) (search rules) c.in_ok-print_text.ensures.printed
-    (subst (λ (x : GuestValue). OnOk c.print_ranges.result
-    (Appends (contents c.print_text.new.out) (contents c.print_ranges.new.out) (ranges_lines (state_of x).memory c.args.ranges.now)))
-    same c.print_ranges.ensures.printed)
+    record {
+      printed = state_printed c.print_ranges.result v.opening v.frames c.args.ranges.now (state_of c.new-lines.result.guest.now)
+          c.args.cursor.now.place
+          _ _ _ _ _
+          (subst (λ (x : GuestValue). StateAt v.opening v.frames c.args.cursor.now.place (state_of x)) same c.guest-guest.ensures.state)
+          (search rules) (search rules) c.in_ok-print_text.ensures.printed
+          (subst (λ (x : GuestValue). OnOk c.print_ranges.result
+          (Appends (contents c.print_text.new.out) (contents c.print_ranges.new.out) (ranges_lines (state_of x).memory c.args.ranges.now)))
+          same c.print_ranges.ensures.printed);
+    }

@@ -6,11 +6,13 @@ returns-in-Ok-clause-record g c = λ on. c.in-Ok.ensures.record on.is_honest on.
 
 pub returns-in-Ok-clause-on : goal.returns-in-Ok-clause-on
 returns-in-Ok-clause-on g c =
-    still_on g.D.Disk.honest g.D.Disk.state c.args.disk.now c.item.new.disk c.args.lists.now c.item.ensures.state c.item.ensures.honest.1
+    still_on g.D.Disk.honest g.D.Disk.state c.args.disk.now c.item.new.disk c.args.lists.now c.item.ensures.only.kept.state
+    c.item.ensures.only.kept.honest.1
 
 pub returns-in-Err-clause-on : goal.returns-in-Err-clause-on
 returns-in-Err-clause-on g c =
-    still_on g.D.Disk.honest g.D.Disk.state c.args.disk.now c.item.new.disk c.args.lists.now c.item.ensures.state c.item.ensures.honest.1
+    still_on g.D.Disk.honest g.D.Disk.state c.args.disk.now c.item.new.disk c.args.lists.now c.item.ensures.only.kept.state
+    c.item.ensures.only.kept.honest.1
 
 pub returns-in-Err-clause-refused : goal.returns-in-Err-clause-refused
 returns-in-Err-clause-refused g c =

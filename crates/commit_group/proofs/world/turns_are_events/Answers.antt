@@ -2,4 +2,4 @@ use Rattle.commit_group.proofs.Worlds.{turns_are_events}
 use Rattle.commit_group.proofs.world.turns_are_events.Goals as goal
 
 pub returns : goal.returns
-returns g c = turns_are_events g.D.Disk.honest g.D.Disk.state g.D.Disk.faults
+returns g c = turns_are_events g.D.Disk

@@ -8,11 +8,12 @@ use Rattle.core_file.proofs.core_file.head_of.Goals as goal
 pub overflow_cast-count : goal.overflow_cast-count
 overflow_cast-count c = omega (arith, c.len.ensures, few_parts c.in_ok-parts.parts.items _ _ c.in_ok-parts.ensures.rules)
 
-pub put_headers-requires-clause-threads : goal.put_headers-requires-clause-threads
-put_headers-requires-clause-threads c = omega (arith, c.len.ensures, few_parts c.in_ok-parts.parts.items _ _ c.in_ok-parts.ensures.rules)
-
-pub put_padding-requires-clause-threads : goal.put_padding-requires-clause-threads
-put_padding-requires-clause-threads c = omega (arith, c.len.ensures, few_parts c.in_ok-parts.parts.items _ _ c.in_ok-parts.ensures.rules)
+pub invariant_of-counts : goal.invariant_of-counts
+invariant_of-counts c =
+    record {
+      few_headers = omega (arith, c.requires.few);
+      few_threads = omega (arith, c.len.ensures, few_parts c.in_ok-parts.parts.items _ _ c.in_ok-parts.ensures.rules);
+    }
 
 pub returns : goal.returns
 returns c =

@@ -24,9 +24,9 @@ loop-number-preserved c =
     let n = c.in-Some.number in
     let flags = c.flags_of-flags.result in
     let blank = c.is_blank-is_blank.result in
-    let next = runs_next m c.loop-number.least n c.in-Some-page.page c.in-Some.ensures c.is_blank-is_blank.ensures.full
-    c.in-Some-page.ensures in
-    let low = c.in-Some.ensures.1 in record {
+    let next = runs_next m c.loop-number.least n c.in-Some.page c.in-Some.ensures.0 c.is_blank-is_blank.ensures.full
+    c.in-Some.ensures.1 in
+    let low = c.in-Some.ensures.0.1 in record {
       low = omega (arith, low);
       runs = c.in_ok-add_page.ensures
           ∙ ap (λ (rs : List Run). reverse (with_page n flags blank rs))
@@ -39,4 +39,5 @@ returns c =
     let m = memory_of c.args.space.now in
     let least = c.loop-number.least in
     c.loop-number.invariant.runs
-    ∙ ap (λ (rs : List Run). reverse rs) (sym (runs_end m least (2 ^ 20) c.in_default.ensures (omega (arith, c.loop-number.invariant.low))))
+    ∙ ap (λ (rs : List Run). reverse rs)
+    (sym (runs_end m least (2 ^ 20) c.in_default.ensures (omega (arith, c.loop-number.invariant.low))))

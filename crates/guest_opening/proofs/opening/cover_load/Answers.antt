@@ -29,8 +29,8 @@ loop-page-preserved c =
     let load = c.args.load.now in
     let low : load.address / 4096 ≤ c.loop-page.page = omega arith in (
       walk_goes_on (load.address / 4096) c.loop-page.page c.load_permissions-permissions.result (memory_of c.args.space.now)
-          (memory_of c.loop-page.space) (memory_of c.cover.new.self) low c.loop-page.invariant.0 c.in_default.ensures.covered,
-      c.cover.ensures.snapshots ∙ c.loop-page.invariant.1,
+          (memory_of c.loop-page.space) (memory_of c.cover.new.self) low c.loop-page.invariant.0 c.in_default.ensures.covered.ok,
+      c.cover.ensures.covered.snapshots ∙ c.loop-page.invariant.1,
     )
 
 pub returns-then-memory_len-eq0-clause-memory : goal.returns-then-memory_len-eq0-clause-memory

@@ -15,7 +15,7 @@ returns-then-not-same-clause-refused c = (
       let found = subst (λ (ps : List Part). Describes base ps new) c.as_slice.ensures.value c.in-Ok.ensures.put in
       absurd (false≢true
       (sym c.if-not-same.true
-      ∙ c.same.ensures.1 (one_described base new (state_of c.args.walk.now.guest) c.args.walk.now.row.items found described))),
+      ∙ c.same.ensures.1 (one_described base new (state_of c.args.walk.now.guest) c.args.walk.now.parts.items found described))),
 )
 
 pub returns-in-Err-BadPart-clause-refused : goal.returns-in-Err-BadPart-clause-refused

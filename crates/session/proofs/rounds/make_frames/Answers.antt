@@ -1,7 +1,9 @@
-use Rattle.std.proofs.Common.{sym, ◌∙◌}
+use Rattle.std.proofs.Common.{sym, subst, ◌∙◌}
 use Rattle.std.proofs.lemmas.Result.{err_from_is_err_and}
+use Rattle.std.specs.Prelude.{IsSome}
 use Rattle.session.proofs.Chosen.{is_over, makes_asked, makes_both, makes_kept, makes_met, makes_over, makes_round, not_over}
 use Rattle.session.proofs.Driven.{drives_both, drives_still, held_is_no_sink, memory_is_no_sink, work_steady, work_tells}
+use Rattle.session.proofs.rounds.make_frames.Goals.{in-None, in-Some+in_ok-send_and_release+in_ok-turn+then-eq}
 use Rattle.session.proofs.rounds.make_frames.Goals as goal
 
 pub returns-in_err-send_and_release-clause-drives : goal.returns-in_err-send_and_release-clause-drives
@@ -13,10 +15,15 @@ returns-in_err-turn-clause-drives g c =
     drives_both g.S.Sink _ _ _ _ _ _ (drives_both g.S.Sink _ _ _ _ _ _ c.loop.invariant.drives c.send_and_release.ensures.drives)
     (drives_still g.S.Sink _ _ _ c.take_turn.ensures.goes)
 
-pub returns-then-eq-clause-drives : goal.returns-then-eq-clause-drives
-returns-then-eq-clause-drives g c =
-    drives_both g.S.Sink _ _ _ _ _ _ (drives_both g.S.Sink _ _ _ _ _ _ c.loop.invariant.drives c.send_and_release.ensures.drives)
-    (drives_still g.S.Sink _ _ _ c.take_turn.ensures.goes)
+pub returns-clause-drives : goal.returns-clause-drives
+returns-clause-drives g c =
+    elim c.match-next.branch [
+      | in-None w ↦ (let never = subst IsSome w.in-None.is c.next.ensures.steps in absurd (cc (never)))
+      | in-Some+in_ok-send_and_release+in_ok-turn+then-eq w ↦
+          rw (w.recorder-is, w.sink-is) (drives_both g.S.Sink _ _ _ _ _ _
+          (drives_both g.S.Sink _ _ _ _ _ _ c.loop.invariant.drives w.send_and_release.ensures.drives)
+          (drives_still g.S.Sink _ _ _ w.take_turn.ensures.goes))
+    ]
 
 pub returns-in_err-held-clause-drives : goal.returns-in_err-held-clause-drives
 returns-in_err-held-clause-drives g c =
@@ -47,11 +54,15 @@ returns-in_err-turn-clause-chosen g c =
     (makes_both g.C.Chooser.chooses _ _ _ _ _ _
     (makes_kept g.C.Chooser.chooses _ _ _ _ _ c.send_and_release.ensures.keeps c.loop.invariant.chosen) c.in_err-turn.ensures.chosen))
 
-pub returns-then-eq-clause-chosen : goal.returns-then-eq-clause-chosen
-returns-then-eq-clause-chosen g c =
-    makes_both g.C.Chooser.chooses _ _ _ _ _ _
-    (makes_kept g.C.Chooser.chooses _ _ _ _ _ c.send_and_release.ensures.keeps c.loop.invariant.chosen)
-    (makes_over g.C.Chooser.chooses _ _ _ _ _ (is_over _ (sym c.if-eq.true ∙ c.eq.ensures)) c.in_ok-turn.ensures.turn)
+pub returns-clause-chosen : goal.returns-clause-chosen
+returns-clause-chosen g c =
+    elim c.match-next.branch [
+      | in-None w ↦ (let never = subst IsSome w.in-None.is c.next.ensures.steps in absurd (cc (never)))
+      | in-Some+in_ok-send_and_release+in_ok-turn+then-eq w ↦
+          rw (w.recorder-is, w.chooser-is) (makes_both g.C.Chooser.chooses _ _ _ _ _ _
+          (makes_kept g.C.Chooser.chooses _ _ _ _ _ w.send_and_release.ensures.keeps c.loop.invariant.chosen)
+          (makes_over g.C.Chooser.chooses _ _ _ _ _ (is_over _ (sym w.if-eq.true ∙ w.eq.ensures)) w.in_ok-turn.ensures.turn))
+    ]
 
 pub returns-in_err-held-clause-chosen : goal.returns-in_err-held-clause-chosen
 returns-in_err-held-clause-chosen g c =
@@ -78,5 +89,10 @@ returns-in_err-held-clause-sink g c =
     let is = p.2 ∙ c.in_err-held.ensures.refused.0 in
     rw p.1 (work_steady _ _ _ (λ e. held_is_no_sink (sym is ∙ e)) (c.in_ok-send_and_release.ensures.sink ∙ c.loop.invariant.steady))
 
-pub returns-then-eq-clause-sink : goal.returns-then-eq-clause-sink
-returns-then-eq-clause-sink g c = c.in_ok-send_and_release.ensures.sink ∙ c.loop.invariant.steady
+pub returns-clause-sink : goal.returns-clause-sink
+returns-clause-sink g c =
+    elim c.match-next.branch [
+      | in-None w ↦ (let never = subst IsSome w.in-None.is c.next.ensures.steps in absurd (cc (never)))
+      | in-Some+in_ok-send_and_release+in_ok-turn+then-eq w ↦
+          rw w.sink-is (w.in_ok-send_and_release.ensures.sink ∙ c.loop.invariant.steady)
+    ]

@@ -10,13 +10,13 @@ pub returns-in_err-release-clause-drives : goal.returns-in_err-release-clause-dr
 returns-in_err-release-clause-drives g c =
     let r = c.release.ensures in
     drives_both g.S.Sink _ _ _ _ _ _ (drives_still g.S.Sink _ _ _ c.send-sent.ensures.goes)
-    (drives_more g.S.Sink _ _ _ _ _ (keeps_released _ _ _ r.looks r.same r.checkpoints) r.put r.tells)
+    (drives_more g.S.Sink _ _ _ _ _ (keeps_released _ _ r.keeps) r.put)
 
 pub returns-clause-drives : goal.returns-clause-drives
 returns-clause-drives g c =
     let r = c.release.ensures in
     drives_both g.S.Sink _ _ _ _ _ _ (drives_still g.S.Sink _ _ _ c.send-sent.ensures.goes)
-    (drives_more g.S.Sink _ _ _ _ _ (keeps_released _ _ _ r.looks r.same r.checkpoints) r.put r.tells)
+    (drives_more g.S.Sink _ _ _ _ _ (keeps_released _ _ r.keeps) r.put)
 
 pub returns-in_err-release-clause-halted : goal.returns-in_err-release-clause-halted
 returns-in_err-release-clause-halted g c e =
@@ -27,12 +27,12 @@ returns-in_err-release-clause-halted g c e =
 pub returns-in_err-release-clause-keeps : goal.returns-in_err-release-clause-keeps
 returns-in_err-release-clause-keeps g c =
     let r = c.release.ensures in
-    keeps_both _ _ _ c.send-sent.ensures.keeps (keeps_released _ _ _ r.looks r.same r.checkpoints)
+    keeps_both _ _ _ c.send-sent.ensures.keeps (keeps_released _ _ r.keeps)
 
 pub returns-clause-keeps : goal.returns-clause-keeps
 returns-clause-keeps g c =
     let r = c.release.ensures in
-    keeps_both _ _ _ c.send-sent.ensures.keeps (keeps_released _ _ _ r.looks r.same r.checkpoints)
+    keeps_both _ _ _ c.send-sent.ensures.keeps (keeps_released _ _ r.keeps)
 
 pub returns-in_err-release-clause-sink : goal.returns-in_err-release-clause-sink
 returns-in_err-release-clause-sink g c =

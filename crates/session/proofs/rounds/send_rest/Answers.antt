@@ -1,9 +1,17 @@
+use Rattle.std.proofs.Common.{subst}
+use Rattle.std.specs.Prelude.{IsSome}
 use Rattle.recorder.proofs.Made.{keeps_both}
 use Rattle.session.proofs.Driven.{goes_both}
+use Rattle.session.proofs.rounds.send_rest.Goals.{in-None, in-Some+then-is_err}
 use Rattle.session.proofs.rounds.send_rest.Goals as goal
 
-pub returns-then-is_err-clause-goes : goal.returns-then-is_err-clause-goes
-returns-then-is_err-clause-goes g c = goes_both _ _ _ _ _ c.loop.invariant.goes c.send.ensures.goes
+pub returns-clause-goes : goal.returns-clause-goes
+returns-clause-goes g c =
+    elim c.match-next.branch [
+      | in-None w ↦ (let never = subst IsSome w.in-None.is c.next.ensures.steps in absurd (cc (never)))
+      | in-Some+then-is_err w ↦
+          rw w.recorder-is (goes_both _ _ _ _ _ c.loop.invariant.goes w.send.ensures.goes)
+    ]
 
 pub loop-preserved : goal.loop-preserved
 loop-preserved g c =
@@ -12,5 +20,10 @@ loop-preserved g c =
       keeps = keeps_both _ _ _ c.loop.invariant.keeps c.send.ensures.keeps;
     }
 
-pub returns-then-is_err-clause-keeps : goal.returns-then-is_err-clause-keeps
-returns-then-is_err-clause-keeps g c = keeps_both _ _ _ c.loop.invariant.keeps c.send.ensures.keeps
+pub returns-clause-keeps : goal.returns-clause-keeps
+returns-clause-keeps g c =
+    elim c.match-next.branch [
+      | in-None w ↦ (let never = subst IsSome w.in-None.is c.next.ensures.steps in absurd (cc (never)))
+      | in-Some+then-is_err w ↦
+          rw w.recorder-is (keeps_both _ _ _ c.loop.invariant.keeps w.send.ensures.keeps)
+    ]

@@ -42,55 +42,27 @@ run-done-requires-after_bounds g c κs within =
       numbers = (let r = c.requires.numbers in let q = h.guests_are in let e = c.len.ensures in search rules);
     }
 
-pub take_back-requires-clause-seats : goal.take_back-requires-clause-seats
-take_back-requires-clause-seats g c =
-    let h = c.in-Ok.ensures in
-    let len : length c.give.new.tasks.items ≡ length c.in-Ok.room.seats.items =
-    sym (seats_length c.give.new.tasks.items) ∙ ap length c.give.ensures.seats in
-    let same = pairs_length (HasWorked g.C.Chooser g.S.Sink) c.give.new.tasks.items c.run-done.result.0.items c.run-done.ensures.works in
-    let count = h.count in
-    (h.seats_back.0, (let r = h.seats_back.1 in omega arith))
-
-pub take_back-requires-clause-jobs : goal.take_back-requires-clause-jobs
-take_back-requires-clause-jobs g c =
-    let h = c.in-Ok.ensures in
-    let len : length c.give.new.tasks.items ≡ length c.in-Ok.room.seats.items =
-    sym (seats_length c.give.new.tasks.items) ∙ ap length c.give.ensures.seats in
-    let same = pairs_length (HasWorked g.C.Chooser g.S.Sink) c.give.new.tasks.items c.run-done.result.0.items c.run-done.ensures.works in
-    let count = h.count in
-    (h.jobs_back.0, (let r = h.jobs_back.1 in omega arith))
-
-pub take_back-requires-clause-reports : goal.take_back-requires-clause-reports
-take_back-requires-clause-reports g c =
-    let h = c.in-Ok.ensures in
-    let len : length c.give.new.tasks.items ≡ length c.in-Ok.room.seats.items =
-    sym (seats_length c.give.new.tasks.items) ∙ ap length c.give.ensures.seats in
-    let same = pairs_length (HasWorked g.C.Chooser g.S.Sink) c.give.new.tasks.items c.run-done.result.0.items c.run-done.ensures.works in
-    let count = h.count in
-    (h.reports.0, (let r = h.reports.1 in omega arith))
-
-pub take_back-requires-clause-states : goal.take_back-requires-clause-states
-take_back-requires-clause-states g c =
-    let h = c.in-Ok.ensures in
-    let len : length c.give.new.tasks.items ≡ length c.in-Ok.room.seats.items =
-    sym (seats_length c.give.new.tasks.items) ∙ ap length c.give.ensures.seats in
-    let same = pairs_length (HasWorked g.C.Chooser g.S.Sink) c.give.new.tasks.items c.run-done.result.0.items c.run-done.ensures.works in
-    let count = h.count in
-    (h.states.0, (let r = h.states.1 in omega arith))
-
-pub take_back-requires-clause-numbers : goal.take_back-requires-clause-numbers
-take_back-requires-clause-numbers g c =
+pub take_back-requires : goal.take_back-requires
+take_back-requires g c =
     let h = c.in-Ok.ensures in
     let T = c.give.new.tasks.items in
     let Z = c.run-done.result.0.items in
     let new = subst (λ l. AllNew c.in-Ok.room.flusher.group l) (sym c.give.ensures.seats) h.seats in
+    let len : length T ≡ length c.in-Ok.room.seats.items = sym (seats_length T) ∙ ap length c.give.ensures.seats in
     let same = pairs_length (HasWorked g.C.Chooser g.S.Sink) T Z c.run-done.ensures.works in
+    let count = h.count in
     let jobs : length T ≡ length c.args.jobs.items = sym (jobs_length T) ∙ ap length c.give.ensures.jobs in
-    let r = c.requires.numbers in
+    let numbers = c.requires.numbers in
     let first = c.next_guest-first.ensures in
-    all_numbered c.next_guest-first.result 0 Z
-    (λ k r at. (all_of g.C.Chooser g.S.Sink c.in-Ok.room.flusher.group T Z new c.run-done.ensures.works k r at).1 ∙ omega arith)
-    (omega arith)
+    record {
+      numbers = all_numbered c.next_guest-first.result 0 Z
+          (λ k r at. (all_of g.C.Chooser g.S.Sink c.in-Ok.room.flusher.group T Z new c.run-done.ensures.works k r at).1 ∙ omega arith)
+          (omega arith);
+      seats = (h.seats_back.0, (let room = h.seats_back.1 in omega arith));
+      jobs = (h.jobs_back.0, (let room = h.jobs_back.1 in omega arith));
+      reports = (h.reports.0, (let room = h.reports.1 in omega arith));
+      states = (h.states.0, (let room = h.states.1 in omega arith));
+    }
 
 pub end-requires-clause-count : goal.end-requires-clause-count
 end-requires-clause-count g c =

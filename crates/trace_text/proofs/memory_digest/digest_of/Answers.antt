@@ -16,10 +16,10 @@ pub loop-number-preserved : goal.loop-number-preserved
 loop-number-preserved c =
     let m = memory_of c.args.space.now in
     let n = c.in-Some.number in
-    let low = c.in-Some.ensures.1 in record {
+    let low = c.in-Some.ensures.0.1 in record {
       low = omega (arith, low);
       held = subst (λ (p : List ℕ). Holds256 c.add_page.new.hasher p)
-          (sym (pieces_next m c.loop-number.least n c.in-Some-page.page c.in-Some.ensures c.add_page.ensures.full c.in-Some-page.ensures))
+          (sym (pieces_next m c.loop-number.least n c.in-Some.page c.in-Some.ensures.0 c.add_page.ensures.full c.in-Some.ensures.1))
           (c.add_page.ensures.held (pieces_below c.loop-number.least m) c.loop-number.invariant.held);
     }
 

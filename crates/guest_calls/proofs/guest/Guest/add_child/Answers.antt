@@ -24,7 +24,7 @@ returns-clause-state c =
     c.in_ok-threads.ensures (with_memory m s)
     ∙ ap (λ (child : Thread). with_memory m (spawned child s)) c.child_of.ensures.value
     ∙ ap (λ (memory : Memory). with_memory memory (spawned (child_of t) s))
-    (c.in_ok-store_words.ensures.stored
+    (c.in_ok-store_words.ensures.stored.ok
     ∙ ap (λ (n : ℕ). stored_at_each c.args.places.now (to_le_bytes w32 n) s.memory) c.next_tid-child.ensures)
     ∙ ap (λ (g : GuestValue). with_child_at c.args.places.now t (state_of g)) c.self.view_is
 

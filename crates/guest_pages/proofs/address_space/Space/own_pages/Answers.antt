@@ -5,6 +5,7 @@ use Rattle.guest_pages.specs.Live.{added_across, added_in, live_of, pages_across
 use Rattle.guest_pages.specs.Space.{SpaceValue, PageMap, memory_of, memory_in, present}
 use Rattle.guest_pages.proofs.Live.{listed_adds, some_across}
 use Rattle.guest_pages.proofs.OwnPages.{owned_same, owned_space, all_own_in, in_range, low_page}
+use Rattle.guest_pages.proofs.Stays.{prepares_none, snapshots_stay}
 use Rattle.guest_pages.proofs.address_space.Space.own_pages.Goals as goal
 
 pub own_each-requires : goal.own_each-requires
@@ -26,8 +27,13 @@ invariant_of-self-2 c =
     (c.in-Ok.ensures.from n listed) (omega (arith, c.from.ensures, c.requires.some, c.in-Ok.ensures.to n listed))))
     owned.kept
 
-pub returns-clause-ready : goal.returns-clause-ready
-returns-clause-ready c =
+pub returns-in_default-own_each-clause-prepared : goal.returns-in_default-own_each-clause-prepared
+returns-in_default-own_each-clause-prepared c = prepares_none _ _ _ _ _ (c.in_default-own_each.ensures.err ∙ c.self.view_is)
+
+pub returns-clause-prepared : goal.returns-clause-prepared
+returns-clause-prepared c =
+    let first : ℕ = c.args.address / 4096 in
+    let count : ℕ = (c.from.result + c.args.count - 1) / 4096 - c.args.address / 4096 + 1 in
     let owned = subst (λ (xs : List ℕ). AreOwned xs (contents_of c.self.inside.tables) (contents_of c.own_each.new.self))
     c.as_slice.ensures.value c.in-Ok-own_each.ensures.owned in
     let pages = owned_same c.in-Ok.numbers.items (contents_of c.self.inside.tables) (contents_of c.own_each.new.self) owned
@@ -35,28 +41,7 @@ returns-clause-ready c =
     (subst (λ (s : SpaceValue). present (memory_of s) c.args.address c.args.count ≡ true) (sym c.self.view_is) c.requires.there)
     (c.in-Ok.ensures.from n listed) (omega (arith, c.from.ensures, c.requires.some, c.in-Ok.ensures.to n listed))) in
     let same : memory_of c.own_each.new.self ≡ memory_of c.args.self.now =
-    ap (λ (p : PageMap). memory_in p) pages ∙ ap (λ (s : SpaceValue). memory_of s) c.self.view_is in (
-      ap (λ m. present m c.args.address c.args.count) same ∙ c.requires.there,
-      λ k l. all_own_in c.self.inside.tables c.own_each.new.self c.in-Ok.numbers.items _ _ owned c.in-Ok.ensures.others
-          ((c.args.address + k) / 4096) (omega arith) (omega (arith, l, c.from.ensures, c.requires.some)),
-    )
-
-pub returns-clause-memory : goal.returns-clause-memory
-returns-clause-memory c =
-    let owned = subst (λ (xs : List ℕ). AreOwned xs (contents_of c.self.inside.tables) (contents_of c.own_each.new.self))
-    c.as_slice.ensures.value c.in-Ok-own_each.ensures.owned in
-    let pages = owned_same c.in-Ok.numbers.items (contents_of c.self.inside.tables) (contents_of c.own_each.new.self) owned
-    (λ n listed. in_range (contents_of c.self.inside.tables).pages c.args.address c.args.count n c.requires.some
-    (subst (λ (s : SpaceValue). present (memory_of s) c.args.address c.args.count ≡ true) (sym c.self.view_is) c.requires.there)
-    (c.in-Ok.ensures.from n listed) (omega (arith, c.from.ensures, c.requires.some, c.in-Ok.ensures.to n listed))) in
-    ap (λ (p : PageMap). memory_in p) pages ∙ ap (λ (s : SpaceValue). memory_of s) c.self.view_is
-
-pub returns-clause-live : goal.returns-clause-live
-returns-clause-live c =
-    let first : ℕ = c.args.address / 4096 in
-    let count : ℕ = (c.from.result + c.args.count - 1) / 4096 - c.args.address / 4096 + 1 in
-    let owned = subst (λ (xs : List ℕ). AreOwned xs (contents_of c.self.inside.tables) (contents_of c.own_each.new.self))
-    c.as_slice.ensures.value c.in-Ok-own_each.ensures.owned in
+    ap (λ (p : PageMap). memory_in p) pages ∙ ap (λ (s : SpaceValue). memory_of s) c.self.view_is in
     let last : IsSome ((contents_of c.self.inside.tables).pages ((c.args.address + c.args.count - 1) / 4096)) =
     in_range (contents_of c.self.inside.tables).pages c.args.address c.args.count ((c.args.address + c.args.count - 1) / 4096)
     c.requires.some
@@ -69,5 +54,17 @@ returns-clause-live c =
     let across : count ≡ pages_across c.args.address c.args.count =
     ap (λ (a : ℕ). (a + c.args.count - 1) / 4096 - c.args.address / 4096 + 1) c.from.ensures
     ∙ sym (some_across c.args.address c.args.count c.requires.some) in
-    subst (λ (s : SpaceValue). live_of c.own_each.new.self ≡ live_of s + added_across s c.args.address c.args.count) c.self.view_is
-    (owned.live ∙ ap (λ (k : ℕ). live_of c.self.inside.tables + k) (adds ∙ ap (λ (k : ℕ). added_in c.self.inside.tables first k) across))
+    record {
+      ready = (
+        ap (λ m. present m c.args.address c.args.count) same ∙ c.requires.there,
+        λ k l. all_own_in c.self.inside.tables c.own_each.new.self c.in-Ok.numbers.items _ _ owned c.in-Ok.ensures.others
+            ((c.args.address + k) / 4096) (omega arith) (omega (arith, l, c.from.ensures, c.requires.some)),
+      );
+      memory = same;
+      err = tt;
+      snapshots = snapshots_stay c.self.inside.tables c.own_each.new.self _ owned.kept c.self.view_is;
+      live = subst (λ (s : SpaceValue). live_of c.own_each.new.self ≡ live_of s + added_across s c.args.address c.args.count)
+          c.self.view_is
+          (owned.live ∙ ap (λ (k : ℕ). live_of c.self.inside.tables + k)
+          (adds ∙ ap (λ (k : ℕ). added_in c.self.inside.tables first k) across));
+    }

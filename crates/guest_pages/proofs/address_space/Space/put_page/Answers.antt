@@ -6,8 +6,15 @@ use Rattle.guest_pages.specs.Space.{SpaceValue, memory_of}
 use Rattle.guest_pages.specs.WholePages.{with_page}
 use Rattle.guest_pages.proofs.Facts.{is_mapped_in}
 use Rattle.guest_pages.proofs.Spaces.{is_space, no_page}
+use Rattle.guest_pages.proofs.Stays.{stays, snapshots_stay}
 use Rattle.guest_pages.proofs.WholePages.{page_count_put, page_count_over, put_in, put_each}
 use Rattle.guest_pages.proofs.address_space.Space.put_page.Goals as goal
+
+pub returns-in_default-clause-set : goal.returns-in_default-clause-set
+returns-in_default-clause-set c = stays _ _ _ _ (c.in_default.ensures.err ∙ c.self.view_is)
+
+pub returns-in_default-place-clause-set : goal.returns-in_default-place-clause-set
+returns-in_default-place-clause-set c = stays _ _ _ _ (c.in_default-place.ensures.err ∙ c.self.view_is)
 
 pub returns-in_default-clause-refused : goal.returns-in_default-clause-refused
 returns-in_default-clause-refused c =
@@ -37,9 +44,13 @@ invariant_of-self-then-is_there c =
 pub returns-then-is_there-clause-set : goal.returns-then-is_there-clause-set
 returns-then-is_there-clause-set c =
     let put = c.in-Ok.ensures.placed in
-    put_in (contents_of c.self.inside.tables).pages (contents_of c.place.new.self).pages c.args.number (Some c.args.page) put.here
-    put.rest.pages
-    ∙ ap (λ (s : SpaceValue). with_page c.args.number (Some c.args.page) (memory_of s)) c.self.view_is
+    record {
+      ok = put_in (contents_of c.self.inside.tables).pages (contents_of c.place.new.self).pages c.args.number (Some c.args.page) put.here
+          put.rest.pages
+          ∙ ap (λ (s : SpaceValue). with_page c.args.number (Some c.args.page) (memory_of s)) c.self.view_is;
+      err = tt;
+      snapshots = snapshots_stay c.self.inside.tables c.place.new.self _ put.rest.kept c.self.view_is;
+    }
 
 pub returns-then-self-ge-MAX_PAGES-clause-refused : goal.returns-then-self-ge-MAX_PAGES-clause-refused
 returns-then-self-ge-MAX_PAGES-clause-refused c =
@@ -84,9 +95,13 @@ invariant_of-self-2 c =
 pub returns-clause-set : goal.returns-clause-set
 returns-clause-set c =
     let put = c.in-Ok-place.ensures.placed in
-    put_in (contents_of c.self.inside.tables).pages (contents_of c.place-2.new.self).pages c.args.number (Some c.args.page) put.here
-    put.rest.pages
-    ∙ ap (λ (s : SpaceValue). with_page c.args.number (Some c.args.page) (memory_of s)) c.self.view_is
+    record {
+      ok = put_in (contents_of c.self.inside.tables).pages (contents_of c.place-2.new.self).pages c.args.number (Some c.args.page) put.here
+          put.rest.pages
+          ∙ ap (λ (s : SpaceValue). with_page c.args.number (Some c.args.page) (memory_of s)) c.self.view_is;
+      err = tt;
+      snapshots = snapshots_stay c.self.inside.tables c.place-2.new.self _ put.rest.kept c.self.view_is;
+    }
 
 pub returns-then-is_there-clause-live : goal.returns-then-is_there-clause-live
 returns-then-is_there-clause-live c =

@@ -6,16 +6,20 @@ use Rattle.guest_pages.proofs.Live.{absent_frees}
 use Rattle.guest_pages.specs.WholePages.{with_page}
 use Rattle.guest_pages.proofs.Ranges.{count_removed}
 use Rattle.guest_pages.proofs.Spaces.{is_space, removed_each, no_page}
+use Rattle.guest_pages.proofs.Stays.{snapshots_stay}
 use Rattle.guest_pages.proofs.WholePages.{put_in}
 use Rattle.guest_pages.proofs.address_space.Space.remove_page.Goals as goal
 
-pub returns-then-not-is_there-clause-memory : goal.returns-then-not-is_there-clause-memory
-returns-then-not-is_there-clause-memory c =
+pub returns-then-not-is_there-clause-removed : goal.returns-then-not-is_there-clause-removed
+returns-then-not-is_there-clause-removed c =
     let pages = (contents_of c.self.inside.tables).pages in
-    ap (λ (s : SpaceValue). memory_of s) (sym c.self.view_is)
-    ∙ put_in pages pages c.args.number None (no_page (pages c.args.number) (sym c.is_there.ensures ∙ c.if-not-is_there.true))
-    (λ q apart. refl)
-    ∙ ap (λ (s : SpaceValue). with_page c.args.number None (memory_of s)) c.self.view_is
+    record {
+      memory = ap (λ (s : SpaceValue). memory_of s) (sym c.self.view_is)
+          ∙ put_in pages pages c.args.number None (no_page (pages c.args.number) (sym c.is_there.ensures ∙ c.if-not-is_there.true))
+          (λ q apart. refl)
+          ∙ ap (λ (s : SpaceValue). with_page c.args.number None (memory_of s)) c.self.view_is;
+      snapshots = refl;
+    }
 
 pub overflow_sub-self : goal.overflow_sub-self
 overflow_sub-self c =
@@ -39,11 +43,15 @@ invariant_of-self c =
     (removed_each pages after c.args.number c.self.invariant.pages.each gone.here gone.rest.pages)
     gone.rest.kept (omega (arith, count, held)) (omega (arith, count, held, limit))
 
-pub returns-clause-memory : goal.returns-clause-memory
-returns-clause-memory c =
+pub returns-clause-removed : goal.returns-clause-removed
+returns-clause-removed c =
     let gone = c.remove.ensures in
-    put_in (contents_of c.self.inside.tables).pages (contents_of c.remove.new.self).pages c.args.number None gone.here gone.rest.pages
-    ∙ ap (λ (s : SpaceValue). with_page c.args.number None (memory_of s)) c.self.view_is
+    record {
+      memory = put_in (contents_of c.self.inside.tables).pages (contents_of c.remove.new.self).pages c.args.number None gone.here
+          gone.rest.pages
+          ∙ ap (λ (s : SpaceValue). with_page c.args.number None (memory_of s)) c.self.view_is;
+      snapshots = snapshots_stay c.self.inside.tables c.remove.new.self _ gone.rest.kept c.self.view_is;
+    }
 
 pub returns-then-not-is_there-clause-live : goal.returns-then-not-is_there-clause-live
 returns-then-not-is_there-clause-live c =

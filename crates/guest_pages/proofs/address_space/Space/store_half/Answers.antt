@@ -7,6 +7,7 @@ use Rattle.guest_pages.specs.Live.{added_across, live_of}
 use Rattle.guest_pages.specs.Space.{SpaceValue, memory_of, IsStoreRefusal, fault_for}
 use Rattle.guest_pages.proofs.Live.{put_adds}
 use Rattle.guest_pages.proofs.PutRefusals.{put_refused}
+use Rattle.guest_pages.proofs.Stays.{stays, snapshots_stay}
 use Rattle.guest_pages.proofs.Stores.{stored_space, stored_memory, all_small}
 use Rattle.guest_pages.proofs.address_space.Space.store_half.Goals as goal
 
@@ -18,9 +19,18 @@ invariant_of-self-2 c =
 
 pub returns-clause-stored : goal.returns-clause-stored
 returns-clause-stored c =
-    stored_memory c.self.inside.tables c.put_half.new.self (c.args.address / 4096) (c.args.address % 4096) c.args.address
-    (to_le_bytes w16 c.args.value) c.self.invariant.pages.each c.in_ok-put_half.ensures.written (omega arith) (omega arith)
-    ∙ ap (λ (s : SpaceValue). stored c.args.address (to_le_bytes w16 c.args.value) (memory_of s)) c.self.view_is
+    record {
+      ok = stored_memory c.self.inside.tables c.put_half.new.self (c.args.address / 4096) (c.args.address % 4096) c.args.address
+          (to_le_bytes w16 c.args.value) c.self.invariant.pages.each c.in_ok-put_half.ensures.written (omega arith) (omega arith)
+          ∙ ap (λ (s : SpaceValue). stored c.args.address (to_le_bytes w16 c.args.value) (memory_of s)) c.self.view_is;
+      err = tt;
+      snapshots = snapshots_stay c.self.inside.tables c.put_half.new.self _ c.in_ok-put_half.ensures.written.rest.kept c.self.view_is;
+    }
+
+pub returns-in_err-put_half-clause-stored : goal.returns-in_err-put_half-clause-stored
+returns-in_err-put_half-clause-stored c =
+    let p = err_from_is_err_and c.from_residual.result c.from_residual.ensures.1 in
+    rw p.1 (stays _ _ _ _ (c.in_err-put_half.ensures.err ∙ c.self.view_is))
 
 pub returns-in_err-put_half-clause-refused : goal.returns-in_err-put_half-clause-refused
 returns-in_err-put_half-clause-refused c =

@@ -8,7 +8,11 @@ unshare-requires c = writable_there _ c.requires.allowed
 pub write-requires-clause-own : goal.write-requires-clause-own
 write-requires-clause-own c = let u = c.in-Ok.ensures.unshared in u.own
 
-pub returns-clause-written : goal.returns-clause-written
-returns-clause-written c =
-    written_after c.args.number c.args.at c.args.bytes.now (contents_of c.args.self.now) (contents_of c.unshare.new.self)
-    (contents_of c.write.new.self) c.in-Ok.ensures.unshared c.write.ensures
+pub returns : goal.returns
+returns c = record {
+  allowed = c.requires.allowed;
+  written = written_after c.args.number c.args.at c.args.bytes.now (contents_of c.args.self.now) (contents_of c.unshare.new.self)
+      (contents_of c.write.new.self) c.in-Ok.ensures.unshared c.write.ensures;
+  refused = tt;
+  err = tt;
+}

@@ -2,7 +2,7 @@ use Rattle.std.proofs.Common.{refl, arith}
 use Rattle.std.specs.Int.{w32, to_le_bytes}
 use Rattle.page_tables.specs.Changes.{allows_write}
 use Rattle.page_tables.proofs.Values.{shown_not, not_true, not_false}
-use Rattle.page_tables.proofs.PlacedPages.{writable_page, on_ok, own_if, write_shared, write_contents}
+use Rattle.page_tables.proofs.PlacedPages.{writable_page, own_if, write_shared, write_contents}
 use Rattle.page_tables.proofs.page_tables.PageTables.put_word.Goals as goal
 
 pub refusal-requires : goal.refusal-requires
@@ -16,11 +16,6 @@ put_shared-requires-clause-allowed c =
     writable_page c.self.inside.pool c.self.inside.table c.self.inside.kept.items c.args.self.now c.self.invariant c.self.view_is
     c.args.number c.entry-entry.result c.entry-entry.ensures (not_false c.entry-entry.result.permissions.write c.if-not-entry.false)
 
-pub returns-clause-allowed : goal.returns-clause-allowed
-returns-clause-allowed c =
-    writable_page c.self.inside.pool c.self.inside.table c.self.inside.kept.items c.args.self.now c.self.invariant c.self.view_is
-    c.args.number c.entry-entry.result c.entry-entry.ensures (not_false c.entry-entry.result.permissions.write c.if-not-entry.false)
-
 pub invariant_of-self : goal.invariant_of-self
 invariant_of-self c =
     write_shared c.self.inside.pool c.self.inside.table c.self.inside.kept.items c.args.self.now c.self.invariant c.self.view_is
@@ -29,16 +24,16 @@ invariant_of-self c =
     c.entry-entry.result c.entry-entry.ensures (not_false c.entry-entry.result.permissions.write c.if-not-entry.false)
     c.index-page.result.now c.index-page.ensures (omega (arith, c.if-page-gt1.false))) c.put_word.ensures.here c.put_word.ensures.others
 
-pub returns-clause-written : goal.returns-clause-written
-returns-clause-written c =
-    write_contents c.self.inside.pool c.self.inside.table c.self.inside.kept.items c.args.self.now c.self.invariant c.self.view_is
-    c.args.number c.put_word.new.pool c.args.at (to_le_bytes w32 c.args.value) c.entry-entry.result c.entry-entry.ensures
-    (own_if c.self.inside.pool c.self.inside.table c.self.inside.kept.items c.args.self.now c.self.invariant c.self.view_is c.args.number
-    c.entry-entry.result c.entry-entry.ensures (not_false c.entry-entry.result.permissions.write c.if-not-entry.false)
-    c.index-page.result.now c.index-page.ensures (omega (arith, c.if-page-gt1.false))) c.put_word.ensures.here c.put_word.ensures.others
-    c.put_word.ensures.len _ refl
-
-pub returns-then-page-gt1-clause-allowed : goal.returns-then-page-gt1-clause-allowed
-returns-then-page-gt1-clause-allowed c =
-    on_ok _ _ (writable_page c.self.inside.pool c.self.inside.table c.self.inside.kept.items c.args.self.now c.self.invariant c.self.view_is
-    c.args.number c.entry-entry.result c.entry-entry.ensures (not_false c.entry-entry.result.permissions.write c.if-not-entry.false))
+pub returns : goal.returns
+returns c = record {
+  allowed = writable_page c.self.inside.pool c.self.inside.table c.self.inside.kept.items c.args.self.now c.self.invariant c.self.view_is
+      c.args.number c.entry-entry.result c.entry-entry.ensures (not_false c.entry-entry.result.permissions.write c.if-not-entry.false);
+  written = write_contents c.self.inside.pool c.self.inside.table c.self.inside.kept.items c.args.self.now c.self.invariant c.self.view_is
+      c.args.number c.put_word.new.pool c.args.at (to_le_bytes w32 c.args.value) c.entry-entry.result c.entry-entry.ensures
+      (own_if c.self.inside.pool c.self.inside.table c.self.inside.kept.items c.args.self.now c.self.invariant c.self.view_is c.args.number
+      c.entry-entry.result c.entry-entry.ensures (not_false c.entry-entry.result.permissions.write c.if-not-entry.false)
+      c.index-page.result.now c.index-page.ensures (omega (arith, c.if-page-gt1.false))) c.put_word.ensures.here c.put_word.ensures.others
+      c.put_word.ensures.len _ refl;
+  refused = tt;
+  err = tt;
+}

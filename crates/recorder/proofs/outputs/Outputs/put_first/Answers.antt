@@ -19,6 +19,7 @@ returns-then-all-clause-released g c =
       put = to_descriptor p.descriptor (take (at - s.offset) (drop s.offset p.bytes));
       takes = λ tells. c.put_from-at.ensures.put tells
           ∙ ap (λ (l : List ℕ). g.S.Sink.taken c.args.sink.now ++ to_descriptor p.descriptor (take (at - s.offset) (drop s.offset l))) text;
+      still = c.put_from-at.ensures.tells;
       leaves = left_by c.args.self.now _
           (record {
             released = s.released + 1;
@@ -44,6 +45,7 @@ returns-else-all-clause-released g c =
       takes = λ tells. c.put_from-at.ensures.put tells
           ∙ ap (λ (l : List ℕ). g.S.Sink.taken c.args.sink.now ++ to_descriptor p.descriptor (take (at - s.offset) (drop s.offset l)))
           c.as_slice-bytes.ensures;
+      still = c.put_from-at.ensures.tells;
       leaves = left_by c.args.self.now _ (record { released = s.released; owed = owed_of at s.waiting.items; room = room }) _ false _
           c.self.view_is c.if-all.false
           (first_part s.released s.offset at s.waiting.items p room room some c.in-Some.ensures.lookup c.put_from-at.ensures.reached.0);

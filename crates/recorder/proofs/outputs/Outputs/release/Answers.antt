@@ -8,7 +8,7 @@ returns-then-not-all-clause-released g c =
     let i = c.loop-self.invariant in
     let t = c.loop-self-test.true in
     let r = c.released.ensures in
-    releases_more g.S.Sink.tells g.S.Sink.taken c.args.seen _ _ _ _ _ _ _ _ _ _ i.tells.1 (omega arith) c.saturating_add-taken.ensures
+    releases_more g.S.Sink.tells g.S.Sink.taken c.args.seen _ _ _ _ _ _ _ _ _ _ (omega arith) c.saturating_add-taken.ensures
     i.released c.put_first-count.ensures.released
 
 pub loop-self-preserved : goal.loop-self-preserved
@@ -18,9 +18,8 @@ loop-self-preserved g c =
     let t = c.loop-self-test.true in
     let r = c.released.ensures in
     record {
-      released = releases_more g.S.Sink.tells g.S.Sink.taken c.args.seen _ _ _ _ _ _ _ _ _ _ i.tells.1 (omega arith)
+      released = releases_more g.S.Sink.tells g.S.Sink.taken c.args.seen _ _ _ _ _ _ _ _ _ _ (omega arith)
           c.saturating_add-taken.ensures i.released f.released;
       counted = subst (λ (b : Bool). Counts b (g.S.Sink.faults c.loop-self.sink) (g.S.Sink.faults c.put_first-count.new.sink))
           c.if-not-all.false f.counted ∙ i.counted;
-      tells = ((λ t. i.tells.0 (f.tells.0 t)), (λ t. f.tells.1 (i.tells.1 t)));
     }
