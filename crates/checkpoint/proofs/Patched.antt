@@ -10,10 +10,13 @@ use Rattle.rrv_model.specs.Checkpoint.{all_pages, entry_of, mapped_as, patched, 
 use Rattle.rrv_model.specs.Memory.{Memory, Cell, page_bytes, page_count}
 use Rattle.rrv_model.proofs.PageCounts.{pages_fewer}
 use Rattle.rrv_model.specs.State.{State}
+use Rattle.guest_calls.specs.Carries.{KeepsRest}
+use Rattle.guest_calls.specs.Guest.{GuestValue, state_of}
+use Rattle.guest_calls.proofs.Inquiries.{kept_then}
 use Rattle.checkpoint.specs.declared.fault.ApplyFault.{ApplyFault}
 use Rattle.checkpoint.specs.declared.fault.ApplyFault.TheVariants as faults
 use Rattle.checkpoint.specs.Fitting.{AreFit}
-use Rattle.checkpoint.specs.Patches.{RefusesPages, all_cleared, all_set, cleared, cleared_cell, set, set_cell, with_all_cleared, with_all_set, with_parts_cleared, with_parts_set}
+use Rattle.checkpoint.specs.Patches.{BecomesOrRefuses, RefusesPages, all_cleared, all_set, cleared, cleared_cell, each_put, set, set_cell, with_all_cleared, with_all_set, with_parts_cleared, with_parts_set}
 
 -- ---- one page
 
@@ -37,24 +40,6 @@ set_by p m k a e = ap (λ (o : Option Cell). cond (p.number == a / page_bytes) (
 cleared_by : (p : PagePart) (m k : Memory) (a : ℕ) → m a ≡ k a → cleared p m a ≡ cleared p k a
 cleared_by p m k a e = ap (λ (o : Option Cell). cond (p.number == a / page_bytes) (cleared_cell p.permissions o) o) e
 
-all_set_by : (pages : List PagePart) (m k : Memory) (a : ℕ) → m a ≡ k a → all_set pages m a ≡ all_set pages k a
-all_set_by [] m k a e = e
-all_set_by (p ∷ pages) m k a e = all_set_by pages (set p m) (set p k) a (set_by p m k a e)
-
-all_cleared_by : (pages : List PagePart) (m k : Memory) (a : ℕ) → m a ≡ k a → all_cleared pages m a ≡ all_cleared pages k a
-all_cleared_by [] m k a e = e
-all_cleared_by (p ∷ pages) m k a e = all_cleared_by pages (cleared p m) (cleared p k) a (cleared_by p m k a e)
-
--- ---- pages in a row
-
-pub all_set_append : (xs ys : List PagePart) (m : Memory) → all_set (xs ++ ys) m ≡ all_set ys (all_set xs m)
-all_set_append [] ys m = refl
-all_set_append (p ∷ xs) ys m = all_set_append xs ys (set p m)
-
-pub all_cleared_append : (xs ys : List PagePart) (m : Memory) → all_cleared (xs ++ ys) m ≡ all_cleared ys (all_cleared xs m)
-all_cleared_append [] ys m = refl
-all_cleared_append (p ∷ xs) ys m = all_cleared_append xs ys (cleared p m)
-
 -- a page below all of them
 other_page : (p : PagePart) (a : ℕ) → a / page_bytes < p.number → (p.number == a / page_bytes) ≡ false
 other_page p a low = elim (eqb_tells p.number (a / page_bytes)) [
@@ -62,19 +47,24 @@ other_page p a low = elim (eqb_tells p.number (a / page_bytes)) [
   | inr w ↦ w.0
 ]
 
-all_set_above : (least : ℕ) (pages : List PagePart) (m : Memory) (a : ℕ) → AreFit least pages → a / page_bytes < least →
-    all_set pages m a ≡ m a
-all_set_above least [] m a fit low = refl
-all_set_above least (p ∷ pages) m a fit low =
-    let first = fit.0 in
-    all_set_above (p.number + 1) pages (set p m) a fit.2 (omega arith) ∙ set_elsewhere p m a (other_page p a (omega arith))
+-- ---- pages in a row
 
-all_cleared_above : (least : ℕ) (pages : List PagePart) (m : Memory) (a : ℕ) → AreFit least pages → a / page_bytes < least →
-    all_cleared pages m a ≡ m a
-all_cleared_above least [] m a fit low = refl
-all_cleared_above least (p ∷ pages) m a fit low =
-    let first = fit.0 in
-    all_cleared_above (p.number + 1) pages (cleared p m) a fit.2 (omega arith) ∙ cleared_elsewhere p m a (other_page p a (omega arith))
+module _ (put : PagePart → Memory → Memory) where
+  each_by : ((p : PagePart) (m k : Memory) (a : ℕ) → m a ≡ k a → put p m a ≡ put p k a) → (pages : List PagePart) (m k : Memory) (a : ℕ) →
+      m a ≡ k a → each_put put pages m a ≡ each_put put pages k a
+  each_by one [] m k a e = e
+  each_by one (p ∷ pages) m k a e = each_by one pages (put p m) (put p k) a (one p m k a e)
+
+  each_append : (xs ys : List PagePart) (m : Memory) → each_put put (xs ++ ys) m ≡ each_put put ys (each_put put xs m)
+  each_append [] ys m = refl
+  each_append (p ∷ xs) ys m = each_append xs ys (put p m)
+
+  each_above : ((p : PagePart) (m : Memory) (a : ℕ) → (p.number == a / page_bytes) ≡ false → put p m a ≡ m a) → (least : ℕ)
+      (pages : List PagePart) (m : Memory) (a : ℕ) → AreFit least pages → a / page_bytes < least → each_put put pages m a ≡ m a
+  each_above elsewhere least [] m a fit low = refl
+  each_above elsewhere least (p ∷ pages) m a fit low =
+      let first = fit.0 in
+      each_above elsewhere (p.number + 1) pages (put p m) a fit.2 (omega arith) ∙ elsewhere p m a (other_page p a (omega arith))
 
 -- ---- the whole
 
@@ -91,17 +81,17 @@ patched_is least (p ∷ pages) m a fit = elim (eqb_tells p.number (a / page_byte
   | inl w ↦
       let low : a / page_bytes < p.number + 1 = omega (arith, w.1) in
       let clear : all_cleared pages (cleared p m) a ≡ cleared_cell p.permissions (m a) =
-      all_cleared_above (p.number + 1) pages (cleared p m) a fit.2 low ∙ cleared_here p m a w.0 in
+      each_above cleared cleared_elsewhere (p.number + 1) pages (cleared p m) a fit.2 low ∙ cleared_here p m a w.0 in
       ap (λ b. patched_cell (cond b (Some p) (entry_of (a / page_bytes) pages)) (m a) a) w.0
       ∙ in_both_ways p p.permissions (m a) a refl
       ∙ ap (λ o. set_cell p p.permissions o a) (sym clear)
       ∙ sym (set_here p (all_cleared pages (cleared p m)) a w.0)
-      ∙ sym (all_set_above (p.number + 1) pages (set p (all_cleared pages (cleared p m))) a fit.2 low)
+      ∙ sym (each_above set set_elsewhere (p.number + 1) pages (set p (all_cleared pages (cleared p m))) a fit.2 low)
   | inr w ↦
       ap (λ b. patched_cell (cond b (Some p) (entry_of (a / page_bytes) pages)) (m a) a) w.0
       ∙ patched_is (p.number + 1) pages m a fit.2
-      ∙ all_set_by pages (all_cleared pages m) (set p (all_cleared pages (cleared p m))) a
-      (all_cleared_by pages m (cleared p m) a (sym (cleared_elsewhere p m a w.0))
+      ∙ each_by set set_by pages (all_cleared pages m) (set p (all_cleared pages (cleared p m))) a
+      (each_by cleared cleared_by pages m (cleared p m) a (sym (cleared_elsewhere p m a w.0))
       ∙ sym (set_elsewhere p (all_cleared pages (cleared p m)) a w.0))
 ]
 
@@ -158,12 +148,12 @@ pub parts_cleared : (parts : List Part) (s : State) → with_parts_cleared parts
 parts_cleared [] s = refl
 parts_cleared (part ∷ parts) s =
     parts_cleared parts (with_all_cleared part.pages s)
-    ∙ ap (λ m. with_memory m s) (sym (all_cleared_append part.pages (all_pages parts) s.memory))
+    ∙ ap (λ m. with_memory m s) (sym (each_append cleared part.pages (all_pages parts) s.memory))
 
 pub parts_set : (parts : List Part) (s : State) → with_parts_set parts s ≡ with_all_set (all_pages parts) s
 parts_set [] s = refl
 parts_set (part ∷ parts) s =
-    parts_set parts (with_all_set part.pages s) ∙ ap (λ m. with_memory m s) (sym (all_set_append part.pages (all_pages parts) s.memory))
+    parts_set parts (with_all_set part.pages s) ∙ ap (λ m. with_memory m s) (sym (each_append set part.pages (all_pages parts) s.memory))
 
 -- the pages of a checkpoint, as they are put into a memory
 pub patched_by : (parts : List Part) (s : State) → AreFit 0 (all_pages parts) →
@@ -172,3 +162,18 @@ patched_by parts s fit =
     parts_set parts (with_parts_cleared parts s)
     ∙ ap (with_all_set (all_pages parts)) (parts_cleared parts s)
     ∙ ap (λ m. with_memory m s) (λ i a. sym (patched_is 0 (all_pages parts) s.memory a fit) i)
+
+-- pages are put in one after the other: those that are left lead from here to where all led from the first guest
+pub record LeavesToDo (left all : State → State) (old new : GuestValue) : Type 0 where
+  pub state : left (state_of new) ≡ all (state_of old)
+  pub keeps : KeepsRest old new
+
+-- what is refused of those that are left is refused of all
+pub refused_of_all : {T : Type 0} (left all : State → State) (old mid new : GuestValue) (fault : ApplyFault) → LeavesToDo left all old mid
+    → RefusesPages fault (left (state_of mid)).memory → KeepsRest mid new
+    → BecomesOrRefuses {T = T} (Err fault) (all (state_of old)) old new
+refused_of_all left all old mid new fault to_do refused keeps = record {
+  state = tt;
+  refused = subst (RefusesPages fault) (ap (λ (s : State). s.memory) to_do.state) refused;
+  keeps = kept_then old mid new to_do.keeps keeps;
+}

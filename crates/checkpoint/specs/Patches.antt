@@ -1,5 +1,5 @@
 -- Pages of a checkpoint, put into a memory one after the other: first those that it unmaps, then all others.
-use Rattle.std.specs.Prelude.{ℕ, ◌/◌, ◌%◌, ◌<◌, ◌==◌, if◌then◌else◌, List, [], ◌∷◌, Option, Some, None}
+use Rattle.std.specs.Prelude.{◌≡◌, ℕ, ◌/◌, ◌%◌, ◌<◌, ◌==◌, if◌then◌else◌, List, [], ◌∷◌, Option, Some, None, Result, OnOk, IfErr}
 use Rattle.rrv_model.specs.declared.limits.TheConstants.{MAX_PAGES}
 use Rattle.rrv_model.specs.declared.machine.Permissions.{Permissions}
 use Rattle.rrv_model.specs.declared.record.PagePart.{PagePart}
@@ -8,6 +8,8 @@ use Rattle.rrv_model.specs.CallRows.{with_memory}
 use Rattle.rrv_model.specs.Checkpoint.{patched_byte}
 use Rattle.rrv_model.specs.Memory.{Memory, Cell, page_bytes, page_count}
 use Rattle.rrv_model.specs.State.{State}
+use Rattle.guest_calls.specs.Carries.{KeepsRest}
+use Rattle.guest_calls.specs.Guest.{GuestValue, state_of}
 use Rattle.checkpoint.specs.declared.fault.ApplyFault.{ApplyFault}
 use Rattle.checkpoint.specs.declared.fault.ApplyFault.TheVariants as faults
 
@@ -27,13 +29,16 @@ set_cell p (Some permissions) old a = Some (record { byte = patched_byte p old (
 abbrev pub set : PagePart → Memory → Memory
 set p m a = if p.number == a / page_bytes then set_cell p p.permissions (m a) a else m a
 
+-- pages in a row, each put in so
+abbrev pub each_put : (PagePart → Memory → Memory) → List PagePart → Memory → Memory
+each_put put [] m = m
+each_put put (p ∷ pages) m = each_put put pages (put p m)
+
 abbrev pub all_cleared : List PagePart → Memory → Memory
-all_cleared [] m = m
-all_cleared (p ∷ pages) m = all_cleared pages (cleared p m)
+all_cleared pages m = each_put cleared pages m
 
 abbrev pub all_set : List PagePart → Memory → Memory
-all_set [] m = m
-all_set (p ∷ pages) m = all_set pages (set p m)
+all_set pages m = each_put set pages m
 
 -- a state with one page, or some, put into its memory
 abbrev pub with_all_cleared : List PagePart → State → State
@@ -56,3 +61,9 @@ abbrev pub RefusesPages : ApplyFault → Memory → Type 0
 RefusesPages faults.BadPart m = ⊥
 RefusesPages faults.TooManyPages m = MAX_PAGES < page_count m
 RefusesPages faults.Memory m = Unit {0}
+
+-- so it is where the pages are put in, and a refusal is one of the memory that would come of it
+pub record BecomesOrRefuses {T : Type 0} (result : Result T ApplyFault) (after : State) (old new : GuestValue) : Type 0 where
+  pub state : OnOk result (state_of new ≡ after)
+  pub refused : IfErr result (λ fault. RefusesPages fault after.memory)
+  pub keeps : KeepsRest old new

@@ -1,13 +1,13 @@
 //! Pages of a checkpoint, put into a guest's memory.
 
-ghost use Rattle.std.specs.Prelude.{◌≡◌, ℕ, ◌+◌, ◌*◌, ◌<◌, [], ◌∷◌, IfErr, OnOk, count_ones, length, slice_index};
+ghost use Rattle.std.specs.Prelude.{◌≡◌, ℕ, ◌+◌, ◌*◌, ◌<◌, [], ◌∷◌, count_ones, length, slice_index};
 ghost use Rattle.std.specs.List.{AllByRecursion};
 ghost use Rattle.rrv_model.specs.Checkpoint.{patched_byte};
 ghost use Rattle.rrv_model.specs.Memory.{page_bytes};
-ghost use Rattle.guest_calls.specs.Carries.{KeepsRest};
+ghost use Rattle.guest_calls.specs.Carries.{Becomes};
 ghost use Rattle.guest_calls.specs.Guest.{state_of};
 ghost use Rattle.checkpoint.specs.Fitting.{Fits};
-ghost use Rattle.checkpoint.specs.Patches.{RefusesPages, all_set, with_all_cleared, with_all_set, with_parts_cleared, with_parts_set};
+ghost use Rattle.checkpoint.specs.Patches.{BecomesOrRefuses, with_all_cleared, with_all_set, with_parts_cleared, with_parts_set};
 
 use crate::fault::ApplyFault;
 use guest_calls::{Guest, SetPageFault};
@@ -38,8 +38,7 @@ fn patched_bytes(guest: &Guest, page: &PagePart) -> [u8; 4096]
 
 /// Unmaps a page where the checkpoint does.
 fn clear_page(guest: &mut Guest, page: &PagePart)
-    ensures state { state_of guest.new ≡ with_all_cleared (page.now ∷ []) (state_of guest.old) }
-    ensures keeps { KeepsRest guest.old guest.new }
+    ensures { Becomes (with_all_cleared (page.now ∷ []) (state_of guest.old)) guest.old guest.new }
 {
     if page.permissions.is_some() {
         return;
@@ -52,9 +51,7 @@ fn clear_page(guest: &mut Guest, page: &PagePart)
 /// Puts a page into the memory where the checkpoint maps it.
 fn set_page(guest: &mut Guest, page: &PagePart) -> Result<(), ApplyFault>
     requires { Fits page.now }
-    ensures state { OnOk result (state_of guest.new ≡ with_all_set (page.now ∷ []) (state_of guest.old)) }
-    ensures refused { IfErr result (λ fault. RefusesPages fault (all_set (page.now ∷ []) (state_of guest.old).memory)) }
-    ensures keeps { KeepsRest guest.old guest.new }
+    ensures { BecomesOrRefuses result (with_all_set (page.now ∷ []) (state_of guest.old)) guest.old guest.new }
 {
     let Some(permissions) = page.permissions else {
         return Ok(());
@@ -73,8 +70,7 @@ fn set_page(guest: &mut Guest, page: &PagePart) -> Result<(), ApplyFault>
 }
 
 fn clear_pages(guest: &mut Guest, pages: &[PagePart])
-    ensures state { state_of guest.new ≡ with_all_cleared pages.now (state_of guest.old) }
-    ensures keeps { KeepsRest guest.old guest.new }
+    ensures { Becomes (with_all_cleared pages.now (state_of guest.old)) guest.old guest.new }
 {
     let mut left = pages;
     while let [first, after @ ..] = left {
@@ -85,8 +81,7 @@ fn clear_pages(guest: &mut Guest, pages: &[PagePart])
 
 /// Unmaps all pages that the checkpoint unmaps.
 pub(crate) fn clear_parts(guest: &mut Guest, parts: &[Part])
-    ensures state { state_of guest.new ≡ with_parts_cleared parts.now (state_of guest.old) }
-    ensures keeps { KeepsRest guest.old guest.new }
+    ensures { Becomes (with_parts_cleared parts.now (state_of guest.old)) guest.old guest.new }
 {
     let mut left = parts;
     while let [first, after @ ..] = left {
@@ -97,9 +92,7 @@ pub(crate) fn clear_parts(guest: &mut Guest, parts: &[Part])
 
 fn set_pages(guest: &mut Guest, pages: &[PagePart]) -> Result<(), ApplyFault>
     requires { AllByRecursion Fits pages.now }
-    ensures state { OnOk result (state_of guest.new ≡ with_all_set pages.now (state_of guest.old)) }
-    ensures refused { IfErr result (λ fault. RefusesPages fault (all_set pages.now (state_of guest.old).memory)) }
-    ensures keeps { KeepsRest guest.old guest.new }
+    ensures { BecomesOrRefuses result (with_all_set pages.now (state_of guest.old)) guest.old guest.new }
 {
     let mut left = pages;
     while let [first, after @ ..] = left {
@@ -112,10 +105,7 @@ fn set_pages(guest: &mut Guest, pages: &[PagePart]) -> Result<(), ApplyFault>
 /// Puts all pages into the memory that the checkpoint maps, one after the other.
 pub(crate) fn set_parts(guest: &mut Guest, parts: &[Part]) -> Result<(), ApplyFault>
     requires { AllByRecursion (λ part. AllByRecursion Fits part.pages) parts.now }
-    ensures state { OnOk result (state_of guest.new ≡ with_parts_set parts.now (state_of guest.old)) }
-    ensures refused { IfErr result (λ fault. RefusesPages fault
-        (with_parts_set parts.now (state_of guest.old)).memory) }
-    ensures keeps { KeepsRest guest.old guest.new }
+    ensures { BecomesOrRefuses result (with_parts_set parts.now (state_of guest.old)) guest.old guest.new }
 {
     let mut left = parts;
     while let [first, after @ ..] = left {

@@ -18,7 +18,7 @@ use Rattle.rrv_model.specs.declared.record.Part.{Part}
 use Rattle.rrv_model.specs.State.{State, thread_at, IsRunning, IsState}
 use Rattle.rrv_model.specs.FrameStep.{FrameStep, FrameStepBy, Preempts, Steps}
 use Rattle.rrv_model.specs.Opening.{opening_state}
-use Rattle.rrv_model.specs.Output.{call_in, has_thread, is_preempt}
+use Rattle.rrv_model.specs.Ends.{call_in, has_thread, is_preempt}
 use Rattle.rrv_model.specs.Recording.{ItemsFollow, Starts, base_after, frames_of, items_of, row_after}
 use Rattle.rrv_model.proofs.Ends.{call_is, no_thread, one_threadless, preempt_is}
 use Rattle.rrv_model.proofs.FrameLaws.{one_state_after_frame}
@@ -30,7 +30,7 @@ use Rattle.serial_sched.specs.Follows.{Reaches}
 use Rattle.serial_sched.specs.Slices.{FindsNoMemory, FitsChoice, IsWhole}
 use Rattle.serial_sched.specs.Turns.{CanChoose, IsCutShort}
 use Rattle.serial_sched.proofs.OneStep.{one_run_end}
-use Rattle.serial_sched.proofs.Reached.{frame_runs, has_none, has_one, limit_is_preempt, reaches, run_end, same_run_end}
+use Rattle.serial_sched.proofs.Reached.{frame_runs, has_none, has_one, limit_is_preempt, reaches, run_end, same_end}
 use Rattle.choices.specs.declared.schedule.Misfit.{Misfit}
 use Rattle.choices.specs.Recorded.{FrameIsOfGuest, IsSameEnd, IsSameSlice, IsUncut, choice_by_end, choice_if, choice_of}
 use Rattle.choices.specs.Schedule.{Plan, Chooses, IsOver, TakesListed, plan}
@@ -157,7 +157,7 @@ both_rest s f m g m' none step step' =
     record {
       tid = tids;
       count = counts;
-      end = same_run_end f.end g.end (ap run_end (sym same));
+      end = same_end f.end g.end same;
       same = λ none. one_frame f g tids counts same;
     }
 

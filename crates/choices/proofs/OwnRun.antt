@@ -12,7 +12,7 @@ use Rattle.rrv_model.specs.declared.record.End.{End}
 use Rattle.rrv_model.specs.declared.record.Frame.{Frame}
 use Rattle.rrv_model.specs.State.{State, thread_at, IsRunning, IsState}
 use Rattle.rrv_model.specs.FrameStep.{FrameStep}
-use Rattle.rrv_model.specs.Output.{has_thread, is_preempt}
+use Rattle.rrv_model.specs.Ends.{has_thread, is_preempt}
 use Rattle.rrv_model.proofs.StateLaws.{frames_keep_states}
 use Rattle.serial_sched.specs.Chosen.{AreChosen, AreRunning, Picks}
 use Rattle.serial_sched.specs.Slices.{FitsChoice, FitsIf}

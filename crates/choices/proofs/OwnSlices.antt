@@ -12,7 +12,7 @@ use Rattle.rrv_model.specs.declared.record.End.TheVariants as ends
 use Rattle.rrv_model.specs.declared.record.Frame.{Frame}
 use Rattle.rrv_model.specs.declared.machine.Thread.{Thread}
 use Rattle.rrv_model.specs.State.{State, thread_at, IsRunning, IsState}
-use Rattle.rrv_model.specs.Output.{call_in, has_thread, is_preempt}
+use Rattle.rrv_model.specs.Ends.{call_in, has_thread, is_preempt}
 use Rattle.rrv_model.specs.FrameStep.{FrameStepBy, Steps}
 use Rattle.rrv_model.proofs.Ends.{preempt_is}
 use Rattle.rv_machine.specs.declared.run.RunEnd.{RunEnd}
@@ -152,7 +152,7 @@ choices_tell_slices old f new choice step is g other step' fits uncut =
     (λ e. let all = ch.2 (limit_is_preempt f.end e) in let within = fit.1 in omega arith)
     (λ e. let all = fit.2 (limit_is_preempt g.end e) in let within = ch.1 in omega arith) in
     let alike : IsSameEnd f.end g.end =
-    same_run_end f.end g.end
+    same_run_end f.end g.end ch.3 runs
     (one_run_end (run_end f.end) (run_end g.end) f.count f.tid old p.1 q.1 p.2
     (subst (λ (n : ℕ). Reaches (run_end g.end) n f.tid old q.1) counts q')) in
     record { tid = tids; count = counts; end = alike; same = λ none. one_frame f g tids counts (one_end f.end g.end alike none) }

@@ -21,7 +21,7 @@ use Rattle.rrv_model.specs.declared.record.Item.{Item}
 use Rattle.rrv_model.specs.declared.record.Item.TheVariants as items
 use Rattle.rrv_model.specs.declared.record.Part.{Part}
 use Rattle.rrv_model.specs.State.{State, IsState}
-use Rattle.rrv_model.specs.Output.{is_preempt}
+use Rattle.rrv_model.specs.Ends.{is_preempt}
 use Rattle.rrv_model.specs.Recording.{ItemsFollow, Starts, base_after, frames_of, items_of, row_after}
 use Rattle.rrv_model.proofs.Ends.{preempt_is}
 use Rattle.rrv_model.proofs.OpeningState.{openings_are_states}

@@ -7,7 +7,7 @@ use Rattle.rrv_model.specs.declared.record.End.{End}
 use Rattle.rrv_model.specs.declared.record.Frame.{Frame}
 use Rattle.rrv_model.specs.State.{State, thread_at, IsRunning}
 use Rattle.rrv_model.specs.FrameStep.{FrameStepBy}
-use Rattle.rrv_model.specs.Output.{has_thread, is_preempt}
+use Rattle.rrv_model.specs.Ends.{has_thread, is_preempt}
 use Rattle.serial_sched.specs.Chosen.{AreRunning, Picks, PicksAmong}
 use Rattle.serial_sched.specs.LastThread.{last_from, thread_by}
 use Rattle.serial_sched.specs.Slices.{FitsChoice, FitsIf}

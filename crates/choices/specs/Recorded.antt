@@ -10,7 +10,7 @@ use Rattle.rrv_model.specs.declared.record.Frame.{Frame}
 use Rattle.rrv_model.specs.declared.record.Record.{Record}
 use Rattle.rrv_model.specs.State.{State, IsState}
 use Rattle.rrv_model.specs.FrameStep.{FrameStep}
-use Rattle.rrv_model.specs.Output.{call_in, has_thread, is_preempt}
+use Rattle.rrv_model.specs.Ends.{call_in, has_thread, is_preempt}
 use Rattle.rrv_model.specs.Recording.{IsRecording, frames_of, items_of}
 use Rattle.serial_sched.specs.Slices.{FitsChoice, IsQuantum}
 use Rattle.choices.specs.declared.recorded.ChoiceLine.{ChoiceLine}

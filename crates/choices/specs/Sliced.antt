@@ -4,7 +4,7 @@ use Rattle.rrv_model.specs.declared.record.Choice.{Choice}
 use Rattle.rrv_model.specs.declared.record.Frame.{Frame}
 use Rattle.rrv_model.specs.State.{State}
 use Rattle.rrv_model.specs.FrameStep.{FrameStep}
-use Rattle.rrv_model.specs.Output.{has_thread}
+use Rattle.rrv_model.specs.Ends.{has_thread}
 use Rattle.serial_sched.specs.Chosen.{AreChosen, AreRunning}
 use Rattle.serial_sched.specs.Slices.{FitsChoice}
 use Rattle.choices.specs.Schedule.{Plan, IsSchedule, plan}

@@ -1,13 +1,12 @@
 //! Choices from a list, and turns behind it.
 
-ghost use Rattle.std.specs.Prelude.{◌≡◌, ◌≤◌, ◌↔◌, ◌⊎◌, length, Contains, IfSome, IsNone, IsSome, IsTrue, Some, None};
+ghost use Rattle.std.specs.Prelude.{◌≡◌, ◌≤◌, length, IfSome, IsNone, IsSome, IsTrue, Some, None};
 ghost use Rattle.serial_sched.specs.Slices.{IsQuantum};
-ghost use Rattle.serial_sched.specs.Turns.{CanChoose, IsTurn};
+ghost use Rattle.serial_sched.specs.Turns.{IsTurn};
 ghost use Rattle.choices.specs.Schedule.{Chooses, IsOver, TakesListed, plan, refused};
 
-use rrv_model::limits::{MAX_QUANTUM, MIN_QUANTUM};
 use rrv_model::record::Choice;
-use serial_sched::{Chooser, RoundRobin};
+use serial_sched::{Chooser, RoundRobin, can_choose};
 use std::marker::Model;
 
 /// A choice of a list that didn't fit.
@@ -124,13 +123,7 @@ impl Chooser for Schedule {
 
     ghost chooses = { λ old runnable result new. Chooses runnable old result new };
 
-    fn next(&mut self, runnable: &[u32]) -> Option<Choice>
-        requires { 1 ≤ length runnable.now }
-        ensures fits { IfSome result (λ choice. Contains runnable.now choice.tid × IsQuantum choice.quantum) }
-        ensures done { IsTrue self.new.done ↔ (IsTrue self.old.done ⊎ IsNone result) }
-        ensures ended { IsTrue self.old.done → IsNone result }
-        ensures chooses { Chooses runnable.now self.old result self.new }
-    {
+    fn next(&mut self, runnable: &[u32]) -> Option<Choice> {
         if let Some(choice) = self.next_listed(runnable) {
             return Some(choice);
         }
@@ -162,10 +155,4 @@ fn turn_of(quantum: u32, last: u32, runnable: &[u32]) -> Option<Choice>
     let mut turns = RoundRobin::new(quantum);
     turns.last = last;
     turns.next(runnable)
-}
-
-fn can_choose(choice: Choice, runnable: &[u32]) -> bool
-    ensures { IsTrue result ↔ CanChoose runnable.now choice }
-{
-    runnable.contains(&choice.tid) && MIN_QUANTUM <= choice.quantum && choice.quantum <= MAX_QUANTUM
 }

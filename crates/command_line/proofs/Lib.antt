@@ -1,3 +1,3 @@
-pub mod Inversion
+pub mod Folds
 pub mod Texts
 pub mod Words

@@ -1,8 +1,6 @@
 -- Texts that are read one by one.
-use Rattle.std.proofs.Common.{◌≡◌, ◌<◌, ◌+◌, ◌∙◌, ℕ, zero, suc, List, [], ◌∷◌, ◌++◌, Some, length, map, take, get_or, arith, refl, ap, sym, subst}
+use Rattle.std.proofs.Common.{◌≡◌, ◌<◌, ◌+◌, ℕ, zero, suc, List, [], ◌∷◌, ◌++◌, length, map, take, get_or, arith, subst}
 use Rattle.std.specs.List.{AllZip}
-use Rattle.std.proofs.lemmas.List.{length-map}
-use Rattle.std.proofs.lemmas.Option.{same_Some}
 
 module _ {A B C : Type 0} (v : C → A) (R : A → B → Type 0) where
   -- the next text, with what it stands for
@@ -26,12 +24,3 @@ module _ {A B C : Type 0} (v : C → A) (R : A → B → Type 0) where
   one_of_all (c ∷ cs) [] i d within h = absurd h
   one_of_all (c ∷ cs) (b ∷ bs) zero d within h = (b, h.0)
   one_of_all (c ∷ cs) (b ∷ bs) (suc i) d within h = one_of_all cs bs i d (omega (arith, within)) h.1
-
--- no texts, where they stand for nothing
-pub none_of_none : {A B : Type 0} (R : A → B → Type 0) (xs : List A) → AllZip R xs [] → xs ≡ []
-none_of_none R [] h = refl
-none_of_none R (x ∷ xs) h = absurd h
-
--- as many texts, where they read alike
-pub same_length : {A C : Type 0} (v : C → A) (xs ys : List C) → Some (map v xs) ≡ Some (map v ys) → length xs ≡ length ys
-same_length v xs ys same = sym (length-map xs v) ∙ ap length (same_Some (map v xs) (map v ys) same) ∙ length-map ys v

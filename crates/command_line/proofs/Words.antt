@@ -10,7 +10,7 @@ use Rattle.clap.specs.declared.parser.matches.ArgMatches.{ArgMatches}
 use Rattle.clap.specs.declared.parser.matches.ArgMatches.TheViews.{out-ArgMatches, out-SubCommand}
 use Rattle.clap.specs.declared.parser.matches.SubCommand.{SubCommand}
 use Rattle.clap.proofs.OnLiterals.{clap_on_literals}
-use Rattle.command_line.specs.Commands.{IsCommandName, IsNameOf, program}
+use Rattle.command_line.specs.Commands.{IsNameOf, commands, program}
 
 pub simple_and_free : is_simple_and_free program ≡ true
 unfolding clap_on_literals
@@ -52,5 +52,5 @@ module _ {Z : Type 0} where
 
 -- a command that was found has a name of the program's
 pub command_name : (words : List Text) (m : ArgMatches) (name : Text) → subcommand_rows_of m ≡ subcommand_of program words
-    → Some name ≡ subcommand_name_of m → IsCommandName name
+    → Some name ≡ subcommand_name_of m → IsNameOf name commands
 command_name words m name rows is = name_in (out-ArgMatches m).subcommand words name rows is

@@ -1,101 +1,70 @@
--- The commands of the program, as the parser of the kit reads words: each with its arguments, in their order.
-use Rattle.std.specs.Prelude.{◌≡◌, ◌⊎◌, ℕ, List, [], ◌∷◌, Some, codes, false, true}
-use Rattle.clap.specs.declared.builder.action.ArgAction.TheVariants.{Append, Set, SetTrue}
-use Rattle.clap.specs.declared.builder.command.Command.{Command}
-use Rattle.clap.specs.declared.builder.command.Command.TheViews.{out-Command}
-use Rattle.clap.specs.Words.{App, Rule, Shape, Text, app_of, new_app, new_rule, with_rule, with_subcommand}
+-- The commands of the program: each with its arguments, in their order, and what it asks for by their values.
+use Rattle.std.specs.Prelude.{◌≡◌, ◌⊎◌, List, [], ◌∷◌, None, codes, false, true}
+use Rattle.clap.specs.Simple.{new_shape}
+use Rattle.clap.specs.Words.{App, Row, Rule, Shape, Text, first_of}
+use Rattle.command_line.specs.Arguments.{flag, needed, option, option_or, repeated, several}
+use Rattle.command_line.specs.Values.{HasAddress, HasFlag, HasForm, HasMemory, HasNumber, HasPlace, HasText, NamesGuest}
+use Rattle.command_line.specs.Values.{NamesRecording, texts_of}
+use Rattle.command_line.specs.declared.request.Question.{Question}
+use Rattle.command_line.specs.declared.request.Question.TheVariants as questions
+use Rattle.command_line.specs.declared.request.Request.{Request}
+use Rattle.command_line.specs.declared.request.Request.TheVariants as requests
 
--- ---- arguments
+-- ---- their arguments
 
--- a value that has to be there
-abbrev pub needed : Text → Rule
-needed name = record (new_rule name) { required = true; action = Some Set }
+abbrev pub of_store : Text → List Rule → Shape
+of_store name rules = record (new_shape name) { rules = needed (codes "STORE") ∷ rules }
 
--- an option with a value
-abbrev pub option : Text → Rule
-option name = record (new_rule name) { long = Some name; value_names = 1; action = Some Set }
-
--- an option with a value, which is this one where the option isn't there
-abbrev pub option_or : Text → Text → Rule
-option_or name value = record (option name) { defaults = value ∷ [] }
-
--- an option without a value
-abbrev pub flag : Text → Rule
-flag name = record (new_rule name) { long = Some name; action = Some SetTrue }
-
--- an option with a value, which may be given several times
-abbrev pub repeated : Text → Rule
-repeated name = record (option name) { action = Some Append }
-
--- values of which there are so many
-abbrev pub several : (least most : ℕ) → Text → Rule
-several least most name = record (new_rule name) {
-  required = true;
-  range = Some (record { start_inclusive = least; end_inclusive = most });
-  action = Some Append;
-}
-
--- ---- commands
-
-abbrev pub of_store : Text → App
-of_store name = with_rule (new_app name) (needed (codes "STORE"))
-
-abbrev pub of_guest : Text → App
-of_guest name = with_rule (of_store name) (needed (codes "GUEST"))
+abbrev pub of_guest : Text → List Rule → Shape
+of_guest name rules = of_store name (needed (codes "GUEST") ∷ rules)
 
 -- a command that goes back from a place
-abbrev pub of_guest_from : Text → App
-of_guest_from name = with_rule (of_guest name) (needed (codes "FROM"))
+abbrev pub of_guest_from : Text → List Rule → Shape
+of_guest_from name rules = of_guest name (needed (codes "FROM") ∷ rules)
 
--- a command with the flag that shows how far it is
-abbrev pub with_progress : App → App
-with_progress app = with_rule app (flag (codes "progress"))
+-- whether it is shown how far a command is
+abbrev pub shown_progress : List Rule
+shown_progress = flag (codes "progress") ∷ []
 
--- a command that prints a state, with bytes of the memory that is named
-abbrev pub with_memory : App → App
-with_memory app = with_progress (with_rule app (repeated (codes "memory")))
+-- the bytes that are printed beside a state
+abbrev pub printed_memory : List Rule
+printed_memory = repeated (codes "memory") ∷ shown_progress
 
--- the numbers, what the guests read, their choices, and last the files
-abbrev pub record_numbers : App
-record_numbers = with_rule (with_rule (of_store (codes "record"))
-    (option_or (codes "quantum") (codes "50000")))
-    (option_or (codes "every") (codes "1048576"))
+-- the numbers of a recording, what the guests read, their choices, and last the files
+abbrev pub recorded : List Rule
+recorded =
+    option_or (codes "quantum") (codes "50000")
+    ∷ option_or (codes "every") (codes "1048576")
+    ∷ option (codes "input")
+    ∷ option (codes "seed")
+    ∷ repeated (codes "choices")
+    ∷ option_or (codes "then") (codes "turns")
+    ∷ flag (codes "progress")
+    ∷ several 1 16 (codes "ELF")
+    ∷ []
 
-abbrev pub record_inputs : App
-record_inputs = with_rule (with_rule record_numbers (option (codes "input"))) (option (codes "seed"))
+-- those that ask something of a guest's recording, which is verified first
+abbrev pub asking_commands : List Shape
+asking_commands =
+    of_guest (codes "replay") (option (codes "at") ∷ printed_memory)
+    ∷ of_guest_from (codes "back") (needed (codes "N") ∷ printed_memory)
+    ∷ of_guest_from (codes "last") (needed (codes "ADDR") ∷ printed_memory)
+    ∷ of_guest (codes "choices") shown_progress
+    ∷ of_guest (codes "core") (needed (codes "AT") ∷ needed (codes "FILE") ∷ shown_progress)
+    ∷ []
 
-abbrev pub record_choices : App
-record_choices = with_rule (with_rule record_inputs
-    (repeated (codes "choices")))
-    (option_or (codes "then") (codes "turns"))
-
-abbrev pub record_command : App
-record_command = with_rule (with_progress record_choices) (several 1 16 (codes "ELF"))
-
-abbrev pub dump_command : App
-dump_command = with_rule (with_rule (of_guest (codes "dump")) (flag (codes "places"))) (flag (codes "trace-events"))
-
-abbrev pub verify_command : App
-verify_command = with_progress (with_rule (of_guest (codes "verify")) (flag (codes "long")))
-
-abbrev pub replay_command : App
-replay_command = with_memory (with_rule (of_guest (codes "replay")) (option (codes "at")))
-
-abbrev pub back_command : App
-back_command = with_memory (with_rule (of_guest_from (codes "back")) (needed (codes "N")))
-
-abbrev pub last_command : App
-last_command = with_memory (with_rule (of_guest_from (codes "last")) (needed (codes "ADDR")))
-
-abbrev pub choices_command : App
-choices_command = with_progress (of_guest (codes "choices"))
-
-abbrev pub core_command : App
-core_command = with_progress (with_rule (with_rule (of_guest (codes "core")) (needed (codes "AT"))) (needed (codes "FILE")))
+abbrev pub commands : List Shape
+commands =
+    of_store (codes "new") []
+    ∷ of_store (codes "record") recorded
+    ∷ of_store (codes "list") []
+    ∷ of_guest (codes "dump") (flag (codes "places") ∷ flag (codes "trace-events") ∷ [])
+    ∷ of_guest (codes "verify") (flag (codes "long") ∷ shown_progress)
+    ∷ asking_commands
 
 -- the words that follow the program's name: some command, but no `help`; there is a version
-abbrev pub as_bare : Shape → Shape
-as_bare top = record top {
+abbrev pub as_top : Shape → Shape
+as_top top = record top {
   has_version = true;
   no_binary_name = true;
   subcommand_required = true;
@@ -103,34 +72,64 @@ as_bare top = record top {
 }
 
 abbrev pub bare_program : App
-bare_program = record (new_app (codes "rrv")) { top = as_bare (new_app (codes "rrv")).top }
-
--- the program with its commands
-abbrev pub writing_program : App
-writing_program = with_subcommand (with_subcommand bare_program (of_store (codes "new")).top) record_command.top
-
-abbrev pub showing_program : App
-showing_program = with_subcommand (with_subcommand (with_subcommand writing_program (of_store (codes "list")).top)
-    dump_command.top) verify_command.top
-
-abbrev pub replaying_program : App
-replaying_program = with_subcommand (with_subcommand (with_subcommand showing_program replay_command.top)
-    back_command.top) last_command.top
+bare_program = record { top = as_top (new_shape (codes "rrv")); subs = [] }
 
 abbrev pub program : App
-program = with_subcommand (with_subcommand replaying_program choices_command.top) core_command.top
-
--- the parser reads words by this, and has no argument that counts for its subcommands too
-abbrev pub IsCommand : App → Command → Type 0
-IsCommand app command = (app_of command ≡ app) × ((out-Command command).has_globals ≡ false)
-
--- ---- names
+program = record { top = record bare_program.top { is_leaf = false }; subs = commands }
 
 -- the name is that of one of these
 abbrev pub IsNameOf : Text → List Shape → Type 0
 IsNameOf name [] = ⊥
 IsNameOf name (sub ∷ subs) = (name ≡ sub.name) ⊎ IsNameOf name subs
 
--- the name is that of a command of the program
-abbrev pub IsCommandName : Text → Type 0
-IsCommandName name = IsNameOf name program.subs
+-- ---- what they ask for
+
+-- The values of a question of a command. One row a command, and two for `replay`.
+abbrev pub HasQuestion : Question → List Row → Type 0
+HasQuestion questions.Output rows = (first_of (codes "at") rows ≡ None) × (texts_of (codes "memory") rows ≡ [])
+HasQuestion (questions.State at memory) rows = HasPlace rows (codes "at") at × HasMemory rows memory.items
+HasQuestion (questions.Back from count memory) rows =
+    HasPlace rows (codes "FROM") from × HasNumber rows (codes "N") count × HasMemory rows memory.items
+HasQuestion (questions.Last from address memory) rows =
+    HasPlace rows (codes "FROM") from × HasAddress rows (codes "ADDR") address × HasMemory rows memory.items
+HasQuestion questions.Choices rows = Unit {0}
+HasQuestion (questions.Core at file) rows = HasPlace rows (codes "AT") at × HasText rows (codes "FILE") file.now
+
+-- the name of a question's command
+abbrev pub question_name : Question → Text
+question_name questions.Output = codes "replay"
+question_name (questions.State at memory) = codes "replay"
+question_name (questions.Back from count memory) = codes "back"
+question_name (questions.Last from address memory) = codes "last"
+question_name questions.Choices = codes "choices"
+question_name (questions.Core at file) = codes "core"
+
+-- The values of a request of a command. One row a command.
+abbrev pub HasValues : Request → List Row → Type 0
+HasValues requests.Demonstration rows = ⊥
+HasValues (requests.New store) rows = HasText rows (codes "STORE") store.now
+HasValues (requests.Record recording) rows = NamesRecording rows recording
+HasValues (requests.List store) rows = HasText rows (codes "STORE") store.now
+HasValues (requests.Dump guest form) rows = NamesGuest rows guest × HasForm rows form
+HasValues (requests.Verify guest long progress) rows =
+    NamesGuest rows guest × HasFlag rows (codes "long") long × HasFlag rows (codes "progress") progress
+HasValues (requests.Ask guest question progress) rows =
+    NamesGuest rows guest × HasQuestion question rows × HasFlag rows (codes "progress") progress
+
+-- the name of a request's command
+abbrev pub name_of : Request → Text
+name_of requests.Demonstration = codes ""
+name_of (requests.New store) = codes "new"
+name_of (requests.Record recording) = codes "record"
+name_of (requests.List store) = codes "list"
+name_of (requests.Dump guest form) = codes "dump"
+name_of (requests.Verify guest long progress) = codes "verify"
+name_of (requests.Ask guest question progress) = question_name question
+
+-- a request asks for what was found
+abbrev pub Asks : Request → Text × List Row → Type 0
+Asks request found = (found.0 ≡ name_of request) × HasValues request found.1
+
+-- a question is that of what was found
+abbrev pub IsQuestionOf : Question → Text × List Row → Type 0
+IsQuestionOf question found = (found.0 ≡ question_name question) × HasQuestion question found.1

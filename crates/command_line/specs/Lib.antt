@@ -1,4 +1,5 @@
+pub mod Arguments
 pub mod Commands
 pub mod Lines
-pub mod Request
 pub mod Unread
+pub mod Values

@@ -1,173 +1,170 @@
-//! The commands of the program.
+//! The commands of the program: their arguments, and what they ask for by the values that the parser found.
 
-ghost use Rattle.std.specs.Prelude.{◌≡◌, IfOk, true};
+ghost use Rattle.std.specs.Prelude.{◌≡◌, IfOk, codes, true};
 ghost use Rattle.clap.specs.Words.{is_simple_and_free};
-ghost use Rattle.command_line.specs.Commands.{IsCommand, back_command, bare_program, choices_command, core_command, dump_command, last_command};
-ghost use Rattle.command_line.specs.Commands.{program, record_choices, record_command, record_inputs, record_numbers, replay_command};
-ghost use Rattle.command_line.specs.Commands.{verify_command};
+ghost use Rattle.command_line.specs.Arguments.{IsCommand};
+ghost use Rattle.command_line.specs.Commands.{Asks, IsNameOf, IsQuestionOf, asking_commands, bare_program, commands, program};
+ghost use Rattle.command_line.specs.Unread.{Reads};
+ghost use Rattle.command_line.specs.Values.{rows_in};
 
-use crate::builder::{
-    flag, needed, of_guest, of_guest_from, of_store, option, option_or, repeated, several,
-    with_argument, with_command, with_memory, with_progress,
-};
-use clap::Command;
+use crate::arguments::{Argument, Subcommand, with_subcommands};
+use crate::memory::memory;
+use crate::recording::recording;
+use crate::request::{Question, Request};
+use crate::unread::Unread;
+use crate::values::{address, flag, form, guest, number, place, text, text_or_none, texts};
+use clap::{ArgMatches, Command};
 use std::alloc::{AllocError, Global};
 
 /// The version of the program.
 const VERSION: &str = "0.1.0";
 
-/// `record STORE ELF..` with its numbers alone.
-fn record_numbers<'a>(alloc: Global) -> Result<Command<'a>, AllocError>
-    ensures { IfOk result (IsCommand record_numbers) }
-{
-    let quantum = option_or(
-        alloc,
-        "quantum",
-        "N",
-        "50000",
-        "instructions of a slice at most, 64 to 1048576",
-    );
-    let every = option_or(
-        alloc,
-        "every",
-        "N",
-        "1048576",
-        "instructions between checkpoints, 0 for none",
-    );
-    let command = of_store(alloc, "record", "records 1 to 16 programs at once");
-    with_argument(with_argument(command, quantum), every)
-}
+const STORE: Argument = Argument::Needed("STORE", "the file of the store");
 
-/// And with what the guests read.
-fn record_inputs<'a>(alloc: Global) -> Result<Command<'a>, AllocError>
-    ensures { IfOk result (IsCommand record_inputs) }
-{
-    let input = option(
-        alloc,
-        "input",
-        "FILE",
-        "what each guest reads, up to 1048576 bytes",
-    );
-    let seed = option(alloc, "seed", "HEX", "the seed of random bytes, 32 digits");
-    with_argument(with_argument(record_numbers(alloc), input), seed)
-}
+const GUEST: Argument = Argument::Needed("GUEST", "the guest's number in the store");
 
-/// And with the choices of their turns.
-fn record_choices<'a>(alloc: Global) -> Result<Command<'a>, AllocError>
-    ensures { IfOk result (IsCommand record_choices) }
-{
-    let choices = repeated(
-        alloc,
-        "choices",
-        "FILE",
-        "the choices of the turns, once or once for each ELF",
-    );
-    let then = option_or(
-        alloc,
-        "then",
-        "THEN",
-        "turns",
-        "what follows the choices: turns or none",
-    );
-    with_argument(with_argument(record_inputs(alloc), choices), then)
-}
+const FROM: Argument = Argument::Needed(
+    "FROM",
+    "the place to go back from, in instructions, or end",
+);
 
-/// `record STORE ELF..`.
-fn record<'a>(alloc: Global) -> Result<Command<'a>, AllocError>
-    ensures { IfOk result (IsCommand record_command) }
-{
-    let files = several(alloc, "ELF", 16, "static RISC-V programs (ELF32, RV32IMA)");
-    with_argument(with_progress(alloc, record_choices(alloc)), files)
-}
+const MEMORY: Argument = Argument::Repeated(
+    "memory",
+    "ADDR:LEN",
+    "print LEN bytes of memory from ADDR on, up to 65536",
+);
 
-/// `dump STORE GUEST`.
-fn dump<'a>(alloc: Global) -> Result<Command<'a>, AllocError>
-    ensures { IfOk result (IsCommand dump_command) }
-{
-    let places = flag(alloc, "places", "add the places of each frame");
-    let events = flag(
-        alloc,
-        "trace-events",
-        "print the frames as trace events in JSON, instead",
-    );
-    let command = of_guest(alloc, "dump", "prints a line for each record of a guest");
-    with_argument(with_argument(command, places), events)
-}
+const PROGRESS: Argument = Argument::Flag("progress", "show how far it is, on standard error");
 
-/// `verify STORE GUEST`.
-fn verify<'a>(alloc: Global) -> Result<Command<'a>, AllocError>
-    ensures { IfOk result (IsCommand verify_command) }
-{
-    let long = flag(alloc, "long", "tell more of how the guest ended");
-    let command = of_guest(alloc, "verify", "replays a guest's records and compares");
-    with_progress(alloc, with_argument(command, long))
-}
-
-/// `replay STORE GUEST`.
-fn replay<'a>(alloc: Global) -> Result<Command<'a>, AllocError>
-    ensures { IfOk result (IsCommand replay_command) }
-{
-    let at = option(
-        alloc,
-        "at",
-        "T",
-        "print the state behind T instructions, or at the end, instead",
-    );
-    let command = of_guest(alloc, "replay", "puts a guest's output out again");
-    with_memory(alloc, with_argument(command, at))
-}
-
-/// `back STORE GUEST FROM N`.
-fn back<'a>(alloc: Global) -> Result<Command<'a>, AllocError>
-    ensures { IfOk result (IsCommand back_command) }
-{
-    let count = needed(alloc, "N", "how many instructions to go back");
-    let command = of_guest_from(alloc, "back", "prints the state so many instructions back");
-    with_memory(alloc, with_argument(command, count))
-}
-
-/// `last STORE GUEST FROM ADDR`.
-fn last<'a>(alloc: Global) -> Result<Command<'a>, AllocError>
-    ensures { IfOk result (IsCommand last_command) }
-{
-    let address = needed(
-        alloc,
-        "ADDR",
-        "the byte's address, 1 to 8 hexadecimal digits",
-    );
-    let command = of_guest_from(
-        alloc,
-        "last",
-        "prints the state before a byte's last change",
-    );
-    with_memory(alloc, with_argument(command, address))
-}
-
-/// `choices STORE GUEST`.
-fn choices<'a>(alloc: Global) -> Result<Command<'a>, AllocError>
-    ensures { IfOk result (IsCommand choices_command) }
-{
-    let command = of_guest(alloc, "choices", "prints the choices of a guest's turns");
-    with_progress(alloc, command)
-}
-
-/// `core STORE GUEST AT FILE`.
-fn core<'a>(alloc: Global) -> Result<Command<'a>, AllocError>
-    ensures { IfOk result (IsCommand core_command) }
-{
-    let at = needed(
-        alloc,
-        "AT",
-        "the place of the state, in instructions, or end",
-    );
-    let file = needed(alloc, "FILE", "the core file to write");
-    let command = of_guest(
-        alloc,
-        "core",
-        "writes an ELF core file of the state at a place",
-    );
-    with_progress(alloc, with_argument(with_argument(command, at), file))
-}
+/// The commands, in the order in which help lists them.
+const SUBCOMMANDS: &[Subcommand] = &[
+    Subcommand {
+        name: "new",
+        about: "makes an empty store in a new file",
+        arguments: &[STORE],
+    },
+    Subcommand {
+        name: "record",
+        about: "records 1 to 16 programs at once",
+        arguments: &[
+            STORE,
+            Argument::Defaulted(
+                "quantum",
+                "N",
+                "50000",
+                "instructions of a slice at most, 64 to 1048576",
+            ),
+            Argument::Defaulted(
+                "every",
+                "N",
+                "1048576",
+                "instructions between checkpoints, 0 for none",
+            ),
+            Argument::Optional(
+                "input",
+                "FILE",
+                "what each guest reads, up to 1048576 bytes",
+            ),
+            Argument::Optional("seed", "HEX", "the seed of random bytes, 32 digits"),
+            Argument::Repeated(
+                "choices",
+                "FILE",
+                "the choices of the turns, once or once for each ELF",
+            ),
+            Argument::Defaulted(
+                "then",
+                "THEN",
+                "turns",
+                "what follows the choices: turns or none",
+            ),
+            PROGRESS,
+            Argument::Several("ELF", "static RISC-V programs (ELF32, RV32IMA)"),
+        ],
+    },
+    Subcommand {
+        name: "list",
+        about: "prints a line for each guest",
+        arguments: &[STORE],
+    },
+    Subcommand {
+        name: "dump",
+        about: "prints a line for each record of a guest",
+        arguments: &[
+            STORE,
+            GUEST,
+            Argument::Flag("places", "add the places of each frame"),
+            Argument::Flag(
+                "trace-events",
+                "print the frames as trace events in JSON, instead",
+            ),
+        ],
+    },
+    Subcommand {
+        name: "verify",
+        about: "replays a guest's records and compares",
+        arguments: &[
+            STORE,
+            GUEST,
+            Argument::Flag("long", "tell more of how the guest ended"),
+            PROGRESS,
+        ],
+    },
+    Subcommand {
+        name: "replay",
+        about: "puts a guest's output out again",
+        arguments: &[
+            STORE,
+            GUEST,
+            Argument::Optional(
+                "at",
+                "T",
+                "print the state behind T instructions, or at the end, instead",
+            ),
+            MEMORY,
+            PROGRESS,
+        ],
+    },
+    Subcommand {
+        name: "back",
+        about: "prints the state so many instructions back",
+        arguments: &[
+            STORE,
+            GUEST,
+            FROM,
+            Argument::Needed("N", "how many instructions to go back"),
+            MEMORY,
+            PROGRESS,
+        ],
+    },
+    Subcommand {
+        name: "last",
+        about: "prints the state before a byte's last change",
+        arguments: &[
+            STORE,
+            GUEST,
+            FROM,
+            Argument::Needed("ADDR", "the byte's address, 1 to 8 hexadecimal digits"),
+            MEMORY,
+            PROGRESS,
+        ],
+    },
+    Subcommand {
+        name: "choices",
+        about: "prints the choices of a guest's turns",
+        arguments: &[STORE, GUEST, PROGRESS],
+    },
+    Subcommand {
+        name: "core",
+        about: "writes an ELF core file of the state at a place",
+        arguments: &[
+            STORE,
+            GUEST,
+            Argument::Needed("AT", "the place of the state, in instructions, or end"),
+            Argument::Needed("FILE", "the core file to write"),
+            PROGRESS,
+        ],
+    },
+];
 
 /// The program without its commands.
 fn bare_program<'a>(alloc: Global) -> Result<Command<'a>, AllocError>
@@ -187,16 +184,82 @@ pub fn program<'a>(alloc: Global) -> Result<Command<'a>, AllocError>
     ensures commands { IfOk result (IsCommand program) }
     ensures exact { is_simple_and_free program ≡ true }
 {
-    let new = of_store(alloc, "new", "makes an empty store in a new file");
-    let list = of_store(alloc, "list", "prints a line for each guest");
-    let command = with_command(bare_program(alloc), new);
-    let command = with_command(command, record(alloc));
-    let command = with_command(command, list);
-    let command = with_command(command, dump(alloc));
-    let command = with_command(command, verify(alloc));
-    let command = with_command(command, replay(alloc));
-    let command = with_command(command, back(alloc));
-    let command = with_command(command, last(alloc));
-    let command = with_command(command, choices(alloc));
-    with_command(command, core(alloc))
+    with_subcommands(alloc, bare_program(alloc)?, SUBCOMMANDS)
+}
+
+/// A command that the parser found: its name, and its values.
+type Found<'m, 'a> = (&'m str, &'m ArgMatches<'a>);
+
+/// What a command of the program asks for.
+pub(crate) fn request_of<'a>(alloc: Global, found: Found<'_, 'a>) -> Result<Request<'a>, Unread<'a>>
+    requires { IsNameOf found.0.now commands }
+    ensures { Reads (λ request. Asks request (found.entry.0.now, rows_in found.entry.1.now)) result }
+{
+    let (name, values) = found;
+    match name {
+        "new" => Ok(Request::New {
+            store: text(values, "STORE")?,
+        }),
+        "record" => Ok(Request::Record(recording(alloc, values)?)),
+        "list" => Ok(Request::List {
+            store: text(values, "STORE")?,
+        }),
+        "dump" => Ok(Request::Dump {
+            guest: guest(values)?,
+            form: form(values)?,
+        }),
+        "verify" => Ok(Request::Verify {
+            guest: guest(values)?,
+            long: flag(values, "long"),
+            progress: flag(values, "progress"),
+        }),
+        _ => Ok(Request::Ask {
+            guest: guest(values)?,
+            question: question(alloc, found)?,
+            progress: flag(values, "progress"),
+        }),
+    }
+}
+
+/// What a command asks of a guest's recording.
+fn question<'a>(alloc: Global, found: Found<'_, 'a>) -> Result<Question<'a>, Unread<'a>>
+    requires { IsNameOf found.0.now asking_commands }
+    ensures { Reads (λ question. IsQuestionOf question (found.entry.0.now, rows_in found.entry.1.now)) result }
+{
+    let (name, values) = found;
+    match name {
+        "replay" => replay(alloc, values),
+        "back" => Ok(Question::Back {
+            from: place(values, "FROM")?,
+            count: number(values, "N", 0, u64::MAX)?,
+            memory: memory(alloc, values)?,
+        }),
+        "last" => Ok(Question::Last {
+            from: place(values, "FROM")?,
+            address: address(values, "ADDR")?,
+            memory: memory(alloc, values)?,
+        }),
+        "choices" => Ok(Question::Choices),
+        "core" => Ok(Question::Core {
+            at: place(values, "AT")?,
+            file: text(values, "FILE")?,
+        }),
+        _ => unreachable!(),
+    }
+}
+
+/// What `replay` asks for: the state at a place, where one is given, and else the output.
+fn replay<'a>(alloc: Global, values: &ArgMatches<'a>) -> Result<Question<'a>, Unread<'a>>
+    ensures { Reads (λ question. IsQuestionOf question (codes "replay", rows_in values.now)) result }
+{
+    if text_or_none(values, "at").is_some() {
+        return Ok(Question::State {
+            at: place(values, "at")?,
+            memory: memory(alloc, values)?,
+        });
+    }
+    if !texts(values, "memory").is_empty() {
+        return Err(Unread::MemoryAlone);
+    }
+    Ok(Question::Output)
 }

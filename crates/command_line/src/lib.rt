@@ -17,13 +17,13 @@
 //! - `seed`: Ok exactly for 32 hexadecimal digits, with the 16 bytes that they write.
 #![tactic(auto)]
 
-mod builder;
+mod arguments;
 mod commands;
 mod digits;
 mod lines;
 mod memory;
 mod numbers;
-mod reading;
+mod recording;
 mod request;
 mod unread;
 mod values;
@@ -31,4 +31,4 @@ mod values;
 pub use commands::program;
 pub use digits::{BadSeed, seed};
 pub use lines::line;
-pub use request::{DumpForm, GuestOf, MemoryRange, Place, Recording, Request, Then};
+pub use request::{DumpForm, GuestOf, MemoryRange, Place, Question, Recording, Request, Then};

@@ -3,12 +3,10 @@
 ghost use Rattle.std.specs.Prelude.{◌≡◌, ◌≤◌, [], IfErr, IfOk, IsSomeAnd, OnOk, length, map, true};
 ghost use Rattle.clap.specs.declared.error.kind.ErrorKind.{ErrorKind};
 ghost use Rattle.clap.specs.Words.{FailsBy, fault_of, has_subcommand, kind_of, subcommand_of, subcommand_rows_of};
-ghost use Rattle.command_line.specs.Commands.{program};
-ghost use Rattle.command_line.specs.Request.{Asks};
+ghost use Rattle.command_line.specs.Commands.{Asks, program};
 ghost use Rattle.command_line.specs.Lines.{IsRefused, IsWithinLimits};
 
-use crate::commands::program;
-use crate::reading::request_of;
+use crate::commands::{program, request_of};
 use crate::request::Request;
 use crate::unread::Unread;
 use clap::error::ErrorKind as LineFault;
@@ -53,10 +51,10 @@ pub fn line<'a, S: AsStr>(alloc: Global, words: &'a [S]) -> Result<Request<'a>, 
         return Ok(Request::Demonstration);
     }
     let matches = found(alloc, words)?;
-    let Some((name, values)) = matches.subcommand() else {
+    let Some(command) = matches.subcommand() else {
         unreachable!()
     };
-    match request_of(alloc, name, values) {
+    match request_of(alloc, command) {
         Ok(request) => Ok(request),
         Err(Unread::Memory) => Err(Error::from(AllocError)),
         Err(bad) => Err(bad_value(alloc, &bad)?),

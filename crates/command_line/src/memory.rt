@@ -1,14 +1,13 @@
 //! The bytes of memory that a line names.
 
-ghost use Rattle.std.specs.Prelude.{◌≡◌, IfErr, IfOk, IfSome, List, None, [], map};
+ghost use Rattle.std.specs.Prelude.{◌≡◌, IfSome, None, map};
 ghost use Rattle.std.specs.List.{AllZip};
-ghost use Rattle.clap.specs.Words.{found_of, rows_of};
-ghost use Rattle.command_line.specs.Request.{HasMemory, IsMemoryRange};
-ghost use Rattle.command_line.specs.Unread.{OnBad};
+ghost use Rattle.command_line.specs.Unread.{ReadsAs};
+ghost use Rattle.command_line.specs.Values.{HasMemory, IsMemoryRange, rows_in};
 ghost use Rattle.command_line.specs.declared.request.MemoryRange.{MemoryRange};
 
 use crate::numbers::{address_in, number_in};
-use crate::request::{MemoryRange, Place};
+use crate::request::MemoryRange;
 use crate::unread::{Unread, Wanted};
 use crate::values::texts;
 use clap::ArgMatches;
@@ -30,9 +29,7 @@ fn range_in(text: &str) -> Option<MemoryRange>
 
 /// The bytes that texts name, in their order.
 fn ranges_in<'a>(alloc: Global, texts: &[&'a str]) -> Result<Vec<MemoryRange>, Unread<'a>>
-    ensures found { IfOk result (λ ranges. AllZip IsMemoryRange (map (λ s. s.now) texts.now) ranges.items) }
-    ensures none { IfErr result (λ e. OnBad e
-        ((ranges : List MemoryRange) → AllZip IsMemoryRange (map (λ s. s.now) texts.now) ranges → ⊥)) }
+    ensures { ReadsAs (λ ranges. ranges.items) (AllZip IsMemoryRange (map (λ s. s.now) texts.now)) result }
 {
     let mut ranges = Vec::new(alloc);
     for text in texts {
@@ -55,26 +52,7 @@ pub(crate) fn memory<'a>(
     alloc: Global,
     values: &ArgMatches<'a>,
 ) -> Result<Vec<MemoryRange>, Unread<'a>>
-    ensures found { IfOk result (λ ranges. HasMemory (rows_of (found_of values.now)) ranges.items) }
-    ensures none { IfErr result (λ e. OnBad e
-        ((ranges : List MemoryRange) → HasMemory (rows_of (found_of values.now)) ranges → ⊥)) }
+    ensures { ReadsAs (λ ranges. ranges.items) (HasMemory (rows_in values.now)) result }
 {
     ranges_in(alloc, texts(values, "memory"))
-}
-
-/// The same where the state is that at a place, or none is printed.
-pub(crate) fn memory_at<'a>(
-    alloc: Global,
-    values: &ArgMatches<'a>,
-    at: Option<Place>,
-) -> Result<Vec<MemoryRange>, Unread<'a>>
-    ensures found { IfOk result (λ ranges. HasMemory (rows_of (found_of values.now)) ranges.items) }
-    ensures beside { IfOk result (λ ranges. at ≡ None → ranges.items ≡ []) }
-    ensures none { IfErr result (λ e. OnBad e ((ranges : List MemoryRange)
-        → HasMemory (rows_of (found_of values.now)) ranges → (at ≡ None → ranges ≡ []) → ⊥)) }
-{
-    if at.is_none() && !texts(values, "memory").is_empty() {
-        return Err(Unread::MemoryAlone);
-    }
-    memory(alloc, values)
 }

@@ -1,7 +1,7 @@
 //! The numbers of a line.
 
 ghost use Rattle.std.specs.Prelude.{◌≡◌, ℕ, IfSome, None};
-ghost use Rattle.command_line.specs.Request.{IsAddress, IsNumberIn, IsPlace, without_0x};
+ghost use Rattle.command_line.specs.Values.{IsAddress, IsNumberIn, IsPlace, without_0x};
 ghost use Rattle.command_line.specs.declared.request.Place.{Place};
 
 use crate::request::Place;

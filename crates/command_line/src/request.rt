@@ -28,42 +28,43 @@ pub enum Request<'a> {
         long: bool,
         progress: bool,
     },
-    /// `replay STORE GUEST`: puts the guest's output out again, or prints the state at a place, with the bytes of `memory`.
-    Replay {
+    /// Asks something of a guest's recording, whose records are verified first.
+    Ask {
         guest: GuestOf<'a>,
-        at: Option<Place>,
-        /// None of them where no place is given.
-        memory: Vec<MemoryRange>,
+        question: Question<'a>,
         progress: bool,
+    },
+}
+
+/// What is asked of a guest's recording.
+#[derive(Drop)]
+pub enum Question<'a> {
+    /// `replay STORE GUEST`: puts the output out again.
+    Output,
+    /// `replay STORE GUEST --at T`: prints the state at a place, with the bytes of `memory`.
+    State {
+        at: Place,
+        memory: Vec<MemoryRange>,
     },
     /// `back STORE GUEST FROM N`: prints the state `count` instructions before `from`, with the bytes of `memory`.
     Back {
-        guest: GuestOf<'a>,
         from: Place,
         count: u64,
         memory: Vec<MemoryRange>,
-        progress: bool,
     },
     /// `last STORE GUEST FROM ADDR`: prints the state before the last change, below `from`, of the byte at `address`, with the
     /// bytes of `memory`.
     Last {
-        guest: GuestOf<'a>,
         from: Place,
         address: u32,
         memory: Vec<MemoryRange>,
-        progress: bool,
     },
-    /// `choices STORE GUEST`: prints the choices of a guest's turns.
-    Choices {
-        guest: GuestOf<'a>,
-        progress: bool,
-    },
+    /// `choices STORE GUEST`: prints the choices of the turns.
+    Choices,
     /// `core STORE GUEST AT FILE`: writes an ELF core file of the state at a place.
     Core {
-        guest: GuestOf<'a>,
         at: Place,
         file: &'a str,
-        progress: bool,
     },
 }
 

@@ -1,21 +1,19 @@
 //! The values that the parser found, read as what they stand for.
 
-ghost use Rattle.std.specs.Prelude.{◌≡◌, ℕ, IfErr, IfOk, Option, map, option_map};
-ghost use Rattle.clap.specs.Words.{Text, all_of, found_of, rows_of};
-ghost use Rattle.command_line.specs.Request.{HasAddress, HasFlag, HasNumberIn, HasOption, HasPlace, HasPlaceOrNone, HasText, HasThen};
-ghost use Rattle.command_line.specs.Request.{NamesGuest, texts_of};
-ghost use Rattle.command_line.specs.Unread.{OnBad};
-ghost use Rattle.command_line.specs.declared.request.Place.{Place};
-ghost use Rattle.command_line.specs.declared.request.Then.{Then};
+ghost use Rattle.std.specs.Prelude.{◌≡◌, map, option_map};
+ghost use Rattle.clap.specs.Words.{all_of};
+ghost use Rattle.command_line.specs.Unread.{Reads, ReadsAs};
+ghost use Rattle.command_line.specs.Values.{HasAddress, HasFlag, HasForm, HasNumberIn, HasOption, HasPlace, HasText, HasThen, NamesGuest};
+ghost use Rattle.command_line.specs.Values.{rows_in, texts_of};
 
 use crate::numbers::{address_in, number_in, place_in};
-use crate::request::{GuestOf, Place, Then};
+use crate::request::{DumpForm, GuestOf, Place, Then};
 use crate::unread::{Unread, Wanted};
 use clap::ArgMatches;
 
 /// The text of an option, where it is there.
 pub(crate) fn text_or_none<'a>(values: &ArgMatches<'a>, name: &str) -> Option<&'a str>
-    ensures { HasOption (rows_of (found_of values.now)) name.now result }
+    ensures { HasOption (rows_in values.now) name.now result }
 {
     values.get_str(name)
 }
@@ -25,23 +23,21 @@ pub(crate) fn several_or_none<'m, 'a>(
     values: &'m ArgMatches<'a>,
     name: &str,
 ) -> Option<&'m [&'a str]>
-    ensures { all_of name.now (rows_of (found_of values.now)) ≡ option_map (λ s. map (λ t. t.now) s.now) result }
+    ensures { all_of name.now (rows_in values.now) ≡ option_map (λ s. map (λ t. t.now) s.now) result }
 {
     values.get_strs(name)
 }
 
 /// The texts of an option that may be given several times, in the order of the line.
 pub(crate) fn texts<'m, 'a>(values: &'m ArgMatches<'a>, name: &str) -> &'m [&'a str]
-    ensures { map (λ t. t.now) result.now ≡ texts_of name.now (rows_of (found_of values.now)) }
+    ensures { map (λ t. t.now) result.now ≡ texts_of name.now (rows_in values.now) }
 {
     several_or_none(values, name).unwrap_or_default()
 }
 
 /// The text of an argument that has to be there.
 pub(crate) fn text<'a>(values: &ArgMatches<'a>, name: &'a str) -> Result<&'a str, Unread<'a>>
-    ensures found { IfOk result (λ text. HasText (rows_of (found_of values.now)) name.now text.now) }
-    ensures none { IfErr result (λ e. OnBad e
-        ((text : Text) → HasText (rows_of (found_of values.now)) name.now text → ⊥)) }
+    ensures { ReadsAs (λ text. text.now) (HasText (rows_in values.now) name.now) result }
 {
     match text_or_none(values, name) {
         Some(text) => Ok(text),
@@ -56,9 +52,7 @@ pub(crate) fn number<'a>(
     least: u64,
     most: u64,
 ) -> Result<u64, Unread<'a>>
-    ensures found { IfOk result (HasNumberIn least most (rows_of (found_of values.now)) name.now) }
-    ensures none { IfErr result (λ e. OnBad e
-        ((n : ℕ) → HasNumberIn least most (rows_of (found_of values.now)) name.now n → ⊥)) }
+    ensures { Reads (HasNumberIn least most (rows_in values.now) name.now) result }
 {
     let text = text(values, name)?;
     match number_in(text, least, most) {
@@ -73,9 +67,7 @@ pub(crate) fn number<'a>(
 
 /// The place of an argument that has to be there.
 pub(crate) fn place<'a>(values: &ArgMatches<'a>, name: &'a str) -> Result<Place, Unread<'a>>
-    ensures found { IfOk result (HasPlace (rows_of (found_of values.now)) name.now) }
-    ensures none { IfErr result (λ e. OnBad e
-        ((place : Place) → HasPlace (rows_of (found_of values.now)) name.now place → ⊥)) }
+    ensures { Reads (HasPlace (rows_in values.now) name.now) result }
 {
     let text = text(values, name)?;
     match place_in(text) {
@@ -88,26 +80,9 @@ pub(crate) fn place<'a>(values: &ArgMatches<'a>, name: &'a str) -> Result<Place,
     }
 }
 
-/// The place of an option, where it is there.
-pub(crate) fn place_or_none<'a>(
-    values: &ArgMatches<'a>,
-    name: &'a str,
-) -> Result<Option<Place>, Unread<'a>>
-    ensures found { IfOk result (HasPlaceOrNone (rows_of (found_of values.now)) name.now) }
-    ensures none { IfErr result (λ e. OnBad e
-        ((place : Option Place) → HasPlaceOrNone (rows_of (found_of values.now)) name.now place → ⊥)) }
-{
-    if text_or_none(values, name).is_none() {
-        return Ok(None);
-    }
-    Ok(Some(place(values, name)?))
-}
-
 /// The address of an argument that has to be there.
 pub(crate) fn address<'a>(values: &ArgMatches<'a>, name: &'a str) -> Result<u32, Unread<'a>>
-    ensures found { IfOk result (HasAddress (rows_of (found_of values.now)) name.now) }
-    ensures none { IfErr result (λ e. OnBad e
-        ((n : ℕ) → HasAddress (rows_of (found_of values.now)) name.now n → ⊥)) }
+    ensures { Reads (HasAddress (rows_in values.now) name.now) result }
 {
     let text = text(values, name)?;
     match address_in(text) {
@@ -122,9 +97,7 @@ pub(crate) fn address<'a>(values: &ArgMatches<'a>, name: &'a str) -> Result<u32,
 
 /// What follows the last of the choices.
 pub(crate) fn then<'a>(values: &ArgMatches<'a>) -> Result<Then, Unread<'a>>
-    ensures found { IfOk result (HasThen (rows_of (found_of values.now))) }
-    ensures none { IfErr result (λ e. OnBad e
-        ((after : Then) → HasThen (rows_of (found_of values.now)) after → ⊥)) }
+    ensures { Reads (HasThen (rows_in values.now)) result }
 {
     let text = text(values, "then")?;
     match text {
@@ -140,7 +113,7 @@ pub(crate) fn then<'a>(values: &ArgMatches<'a>) -> Result<Then, Unread<'a>>
 
 /// Whether an option without a value is there.
 pub(crate) fn flag(values: &ArgMatches<'_>, name: &str) -> bool
-    ensures { HasFlag (rows_of (found_of values.now)) name.now result }
+    ensures { HasFlag (rows_in values.now) name.now result }
 {
     match text_or_none(values, name) {
         Some(text) => text == "true",
@@ -150,12 +123,24 @@ pub(crate) fn flag(values: &ArgMatches<'_>, name: &str) -> bool
 
 /// The guest that a line names.
 pub(crate) fn guest<'a>(values: &ArgMatches<'a>) -> Result<GuestOf<'a>, Unread<'a>>
-    ensures found { IfOk result (NamesGuest (rows_of (found_of values.now))) }
-    ensures none { IfErr result (λ e. OnBad e
-        ((guest : GuestOf) → NamesGuest (rows_of (found_of values.now)) guest → ⊥)) }
+    ensures { Reads (NamesGuest (rows_in values.now)) result }
 {
     Ok(GuestOf {
         store: text(values, "STORE")?,
         number: number(values, "GUEST", 0, u64::MAX)?,
     })
+}
+
+/// How `dump` is to print records.
+pub(crate) fn form<'a>(values: &ArgMatches<'a>) -> Result<DumpForm, Unread<'a>>
+    ensures { Reads (HasForm (rows_in values.now)) result }
+{
+    let places = flag(values, "places");
+    let events = flag(values, "trace-events");
+    match (places, events) {
+        (false, false) => Ok(DumpForm::Lines),
+        (true, false) => Ok(DumpForm::Places),
+        (false, true) => Ok(DumpForm::TraceEvents),
+        (true, true) => Err(Unread::TwoForms),
+    }
 }

@@ -30,11 +30,14 @@ name_in name (items.Opening o ∷ rest) = name_in o.name rest
 name_in name (items.Frame f ∷ rest) = name_in name rest
 name_in name (items.Part p ∷ rest) = name_in name rest
 
+-- the line of a guest of this name with these records
+abbrev pub named_line : (guest : ℕ) → (name : List ℕ) → List Record → List ℕ
+named_line guest name records =
+    list_line guest name (length records) (length (frames_of (items_of records))) (total (frames_of (items_of records)))
+
 -- the line of a guest with these records
 abbrev pub guest_line : ℕ → List Record → List ℕ
-guest_line guest records =
-    list_line guest (name_in [] (items_of records)) (length records)
-    (length (frames_of (items_of records))) (total (frames_of (items_of records)))
+guest_line guest records = named_line guest (name_in [] (items_of records)) records
 
 -- the name of the guest at a place of the line
 abbrev pub name_at : ℕ → List ℕ

@@ -1,5 +1,5 @@
 -- What is printed of the guests of a recording.
-use Rattle.std.specs.Prelude.{ℕ, ◌+◌, ◌==◌, Bool, false, if◌then◌else◌, List, [], ◌∷◌, ◌++◌, Option, Some, None}
+use Rattle.std.specs.Prelude.{ℕ, ◌+◌, ◌==◌, Bool, false, if◌then◌else◌, List, [], ◌∷◌, ◌++◌, Option, Some}
 use Rattle.std.specs.FinMap.{len}
 use Rattle.rrv_model.specs.declared.machine.GuestEnd.{GuestEnd}
 use Rattle.rrv_model.specs.declared.machine.GuestEnd.TheVariants as guest_ends
@@ -12,10 +12,8 @@ use Rattle.commands.specs.Printed.{name_at, with_newline}
 
 -- a guest with so many live threads exited when the last of them did, and not by `exit_group`
 abbrev pub has_left : Option GuestEnd → (live : ℕ) → Bool
-has_left None live = false
 has_left (Some (guest_ends.Exited status)) live = live == 0
-has_left (Some (guest_ends.Faulted kind)) live = false
-has_left (Some guest_ends.Stuck) live = false
+has_left _ live = false
 
 -- what ended a guest, unless its last thread exited: of that its report tells
 abbrev pub left_lines : (place last : ℕ) → State → List ℕ

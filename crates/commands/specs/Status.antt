@@ -3,9 +3,8 @@ use Rattle.std.specs.Prelude.{◌≡◌, ◌⊎◌, ℕ, List, IsSomeAnd}
 use Rattle.clap.specs.declared.error.kind.ErrorKind.{ErrorKind}
 use Rattle.clap.specs.declared.error.kind.ErrorKind.TheVariants as kinds
 use Rattle.clap.specs.Words.{Text, subcommand_of}
-use Rattle.command_line.specs.Commands.{program}
+use Rattle.command_line.specs.Commands.{Asks, program}
 use Rattle.command_line.specs.Lines.{Refuses}
-use Rattle.command_line.specs.Request.{Asks}
 use Rattle.command_line.specs.declared.request.Request.{Request}
 
 -- the exit status of a line that is refused by an error of this kind: 1 also of help that can't be printed

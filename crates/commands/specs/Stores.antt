@@ -1,15 +1,22 @@
 -- What is found of a guest in a store, and why it isn't.
-use Rattle.std.specs.Prelude.{◌≡◌, ◌⊎◌, ℕ, ◌<◌, ◌≤◌, List, [], length}
+use Rattle.std.specs.Prelude.{◌≡◌, ◌⊎◌, ℕ, ◌+◌, ◌<◌, ◌≤◌, List, [], length, Option, IfSome, Result, IfErr, IfOk, OnOk, Vec}
+use Rattle.std.specs.declared.alloc.Global.{Global}
 use Rattle.choices.specs.ChoiceText.{IsFirstBad}
 use Rattle.rrv_model.specs.declared.record.Record.{Record}
 use Rattle.recover.specs.declared.fault.OpenFault.{OpenFault}
+use Rattle.rrv_model.specs.StateAt.{total}
+use Rattle.recover.specs.declared.spot.Spot.{Spot}
 use Rattle.recover.specs.Opened.{IsFailure, IsFaultOf}
+use Rattle.recover.specs.Spots.{StandOn}
 use Rattle.replayer.specs.declared.fault.VerifyFault.TheVariants as verify_faults
 use Rattle.replayer.specs.Sourced.{RefusesSource}
+use Rattle.replayer.specs.Verified.{VerifiedValue}
+use Rattle.reverse_step.specs.Cursors.{CursorValue}
 use Rattle.reverse_step.specs.declared.fault.SeekFault.TheVariants as seek_faults
 use Rattle.commands.specs.declared.refusal.Refusal.{Refusal}
 use Rattle.commands.specs.declared.refusal.Refusal.TheVariants as refusals
 use Rattle.commands.specs.Told.{open_told}
+use Rattle.trace_disk.specs.Devices.{Device}
 
 -- the bytes are no store that can be opened, or the device failed, or there was no memory
 abbrev pub RefusesStore : List ℕ → Refusal → Type 0
@@ -19,6 +26,14 @@ RefusesStore bytes e =
 -- the device failed, or there was no memory
 abbrev pub IsFailed : Refusal → Type 0
 IsFailed e = (e ≡ refusals.DeviceFailed) ⊎ (e ≡ refusals.Memory)
+
+-- What is read of a store is so where its records stand on an honest disk, on which they then stand still; else the device failed, or there
+-- was no memory.
+pub record ReadsStore {D T : Type 0} (device : Device D) (spots : List Spot) (result : Result T Refusal) (old new : D)
+    (IsRead : T → Type 0) : Type 0 where
+  pub read : StandOn device.honest device.state old spots → IfOk result IsRead
+  pub refused : StandOn device.honest device.state old spots → IfErr result IsFailed
+  pub on : StandOn device.honest device.state old spots → StandOn device.honest device.state new spots
 
 -- a guest has no records, or some that are no recording, and then the first bad one is named, or one that was not read, or
 -- there was no memory
@@ -36,6 +51,17 @@ RefusesPlace (refusals.Seek seek_faults.BeforeStart) total from count = (from �
 RefusesPlace refusals.Memory total from count = Unit {0}
 RefusesPlace refusals.OutputFailed total from count = Unit {0}
 RefusesPlace _ total from count = ⊥
+
+-- the place is within, from which so many instructions can be gone back; or it is refused
+pub record Reaches {T : Type 0} (result : Result T Refusal) (total from count : ℕ) : Type 0 where
+  pub within : OnOk result (from ≤ total)
+  pub refused : IfErr result (λ e. RefusesPlace e total from count)
+
+-- a cursor over a recording stands so many instructions before a place
+pub record GoesBack (verified : VerifiedValue) (result : Result CursorValue Refusal) (from count : ℕ) : Type 0 where
+  pub verified_is : IfOk result (λ cursor. cursor.verified ≡ verified)
+  pub at : IfOk result (λ cursor. cursor.place + count ≡ from)
+  pub reaches : Reaches result (total verified.frames) from count
 
 -- why lines aren't printed
 abbrev pub RefusesPrint : Refusal → Type 0
@@ -62,3 +88,9 @@ abbrev pub RefusesChoices : List ℕ → Refusal → Type 0
 RefusesChoices text refusals.Memory = Unit {0}
 RefusesChoices text (refusals.BadChoices file line) = IsFirstBad text line
 RefusesChoices text _ = ⊥
+
+-- all bytes that a reader has are read, where they are known, and so many at most
+pub record ReadsWhole (remaining : Option (List ℕ)) (most : ℕ) (result : Result (Vec ℕ Global) Refusal) : Type 0 where
+  pub whole : IfOk result (λ bytes. IfSome remaining (λ all. bytes.items ≡ all))
+  pub within : IfOk result (λ bytes. length bytes.items ≤ most)
+  pub refused : IfErr result (λ e. (e ≡ refusals.Memory) ⊎ (e ≡ refusals.CannotReadFile))

@@ -9,7 +9,7 @@ ghost use Rattle.guest_calls.specs.Guest.{state_of};
 ghost use Rattle.commands.specs.Cores.{RunsNext, shown_place};
 ghost use Rattle.commands.specs.Stores.{RefusesCore};
 
-use crate::printing::{finish, in_blocks};
+use crate::printing::in_blocks;
 use crate::refusal::Refusal;
 use crate::states::{cursor_at, place_in};
 use command_line::Place;
@@ -72,24 +72,13 @@ fn put_core<W: Write>(
 {
     let first = first_thread(verified, cursor.place());
     let core = CoreFile::new(alloc, cursor.guest(), first)?;
-    match core.write_to(out) {
-        Ok(()) => Ok(()),
-        Err(_) => Err(Refusal::CannotWriteCore),
-    }
-}
-
-/// Writes the same in blocks.
-fn put_blocks<W: Write>(
-    alloc: Global,
-    verified: &Verified,
-    cursor: &Cursor<'_>,
-    out: &mut W,
-) -> Result<(), Refusal>
-    requires { cursor.now.verified ≡ verified.now }
-{
-    let mut out = in_blocks(alloc, out)?;
-    put_core(alloc, verified, cursor, &mut out)?;
-    finish(&mut out).map_err(|_| Refusal::CannotWriteCore)
+    let Ok(()) = core.write_to(out) else {
+        return Err(Refusal::CannotWriteCore);
+    };
+    let Ok(()) = out.flush() else {
+        return Err(Refusal::CannotWriteCore);
+    };
+    Ok(())
 }
 
 /// Makes a core file of the state at a place. A file that can't be written whole is removed again.
@@ -100,9 +89,11 @@ pub(crate) fn write_core<R: Files<File = File> + AllocGlobal>(
     path: &str,
 ) -> Result<(), Refusal> {
     let cursor = cursor_at(rt.alloc(), verified, place_in(at, verified))?;
-    let mut file = File::create_new(rt, path).map_err(|_| Refusal::CannotMakeCore)?;
-    let result = put_blocks(rt.alloc(), verified, &cursor, &mut file);
-    drop(file);
+    let file = File::create_new(rt, path).map_err(|_| Refusal::CannotMakeCore)?;
+    let result = match in_blocks(rt.alloc(), file) {
+        Ok(mut out) => put_core(rt.alloc(), verified, &cursor, &mut out),
+        Err(refusal) => Err(refusal),
+    };
     if result.is_err() {
         let _ = fs::remove_file(rt, path);
     }

@@ -5,7 +5,7 @@ use crate::refusal::Refusal;
 use crate::reports::print_report;
 use crate::store::{Store, opened};
 use crate::stored::StoredGuest;
-use crate::verifying::{extent_of, verified};
+use crate::verifying::verified;
 use guest_calls::Outside;
 use replayer::VerifiedEnd;
 use rrv_model::sink::Sink;
@@ -103,16 +103,10 @@ fn print_ended<R: Clock, D: Disk + Drop, W: Write>(
     place: usize,
     out: &mut W,
 ) -> Result<Store<D>, Refusal> {
-    let Store { lists, disk } = store;
     let guest = first.saturating_add(u32::try_from(place).unwrap_or(u32::MAX));
-    let records = lists.len(guest);
-    let all = extent_of(&lists, guest);
-    let mut source = StoredGuest {
-        lists,
-        disk,
-        guest,
-        withheld: None,
-    };
+    let mut source = StoredGuest::new(store, guest);
+    let records = source.lists.len(guest);
+    let all = source.extent();
     let end: Result<VerifiedEnd, Refusal> = verified(
         rt,
         alloc,

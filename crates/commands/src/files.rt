@@ -1,7 +1,7 @@
 //! The files that a line reads: the programs, and the input of the guests.
 
-ghost use Rattle.std.specs.Prelude.{◌≡◌, ◌≤◌, ◌⊎◌, IfErr, IfOk, IfSome, length};
 ghost use Rattle.rrv_model.specs.declared.limits.TheConstants.{MAX_ELF};
+ghost use Rattle.commands.specs.Stores.{ReadsWhole};
 
 use crate::refusal::Refusal;
 use elf_load::{Image, parse};
@@ -20,9 +20,7 @@ pub(crate) fn read_whole<F: Read + Drop>(
     file: F,
     most: u32,
 ) -> Result<Vec<u8>, Refusal>
-    ensures whole { IfOk result (λ bytes. IfSome (F.remaining file) (λ all. bytes.items ≡ all)) }
-    ensures within { IfOk result (λ bytes. length bytes.items ≤ most) }
-    ensures refused { IfErr result (λ e. (e ≡ Refusal.Memory) ⊎ (e ≡ Refusal.CannotReadFile)) }
+    ensures { ReadsWhole (F.remaining file) most result }
 {
     let mut bytes = Vec::new(alloc);
     let read = file.take(u64::from(most) + 1).read_to_end(&mut bytes);
@@ -37,9 +35,7 @@ pub(crate) fn read_whole<F: Read + Drop>(
 
 /// All bytes that a reader has, where they are no more than a program's file may have, and no read fails.
 pub fn read_program<F: Read + Drop>(alloc: Global, file: F) -> Result<Vec<u8>, Refusal>
-    ensures whole { IfOk result (λ bytes. IfSome (F.remaining file) (λ all. bytes.items ≡ all)) }
-    ensures within { IfOk result (λ bytes. length bytes.items ≤ MAX_ELF) }
-    ensures refused { IfErr result (λ e. (e ≡ Refusal.Memory) ⊎ (e ≡ Refusal.CannotReadFile)) }
+    ensures { ReadsWhole (F.remaining file) MAX_ELF result }
 {
     read_whole(alloc, file, MAX_ELF)
 }

@@ -5,10 +5,10 @@ ghost use Rattle.std.specs.Io.KnownBytes.{Appends};
 ghost use Rattle.rrv_model.specs.Recording.{items_of};
 ghost use Rattle.rrv_model.specs.Recovered.{of_guest};
 ghost use Rattle.recover.specs.Spots.{records_of, StandOn};
-ghost use Rattle.commands.specs.Printed.{IsList, dump_lines, guest_line, name_in, with_newline};
-ghost use Rattle.commands.specs.Stores.{IsFailed, RefusesDump, RefusesList};
+ghost use Rattle.commands.specs.Printed.{IsList, dump_lines, name_in, named_line, with_newline};
+ghost use Rattle.commands.specs.Stores.{ReadsStore, RefusesDump, RefusesList};
 
-use crate::printing::{finish, in_blocks, print_line};
+use crate::printing::{OutputFailed, finish, in_blocks, print_line};
 use crate::refusal::Refusal;
 use crate::store::{Store, guest_in, record_in};
 use crate::turns::print_turns;
@@ -26,10 +26,8 @@ fn name_of<D: Disk>(
     disk: &mut D,
     guest: u32,
 ) -> Result<Vec<u8>, Refusal>
-    ensures name { StandOn D.honest D.state disk.old lists.now → IfOk result (λ name.
-        name.items ≡ name_in [] (items_of (of_guest guest (records_of lists.now)))) }
-    ensures refused { StandOn D.honest D.state disk.old lists.now → IfErr result IsFailed }
-    ensures on { StandOn D.honest D.state disk.old lists.now → StandOn D.honest D.state disk.new lists.now }
+    ensures { ReadsStore D.Disk lists.now result disk.old disk.new
+        (λ name. name.items ≡ name_in [] (items_of (of_guest guest (records_of lists.now)))) }
 {
     if lists.len(guest) == 0 {
         return Ok(Vec::new(alloc));
@@ -41,32 +39,20 @@ fn name_of<D: Disk>(
     }
 }
 
-/// Prints a guest's line.
-fn print_guest<D: Disk, W: Write>(
-    alloc: Global,
+/// Prints the line of a guest, which has this name.
+fn print_guest<W: Write>(
     lists: &Lists,
-    disk: &mut D,
     guest: u32,
+    name: &[u8],
     out: &mut W,
-) -> Result<(), Refusal>
-    ensures printed { StandOn D.honest D.state disk.old lists.now
-        → OnOk result (Appends (W.contents out.old) (W.contents out.new)
-        (with_newline (guest_line guest (of_guest guest (records_of lists.now))))) }
-    ensures refused { StandOn D.honest D.state disk.old lists.now → IfErr result RefusesList }
-    ensures on { StandOn D.honest D.state disk.old lists.now → StandOn D.honest D.state disk.new lists.now }
+) -> Result<(), OutputFailed>
+    ensures printed { OnOk result (Appends (W.contents out.old) (W.contents out.new)
+        (with_newline (named_line guest name.now (of_guest guest (records_of lists.now))))) }
 {
-    let name = name_of(alloc, lists, disk, guest)?;
     let records = u64::from(lists.len(guest));
     let count = lists.count(guest);
-    let line = ListLine::new(
-        guest,
-        name.as_slice(),
-        records,
-        count.frames,
-        count.instructions,
-    );
-    print_line(out, &line)?;
-    Ok(())
+    let line = ListLine::new(guest, name, records, count.frames, count.instructions);
+    print_line(out, &line)
 }
 
 /// Prints a line for each guest, by rising number.
@@ -82,7 +68,8 @@ fn print_guests<D: Disk, W: Write>(
     ensures refused { StandOn D.honest D.state disk.old lists.now → IfErr result RefusesList }
 {
     for guest in lists.guests() {
-        print_guest(alloc, lists, disk, *guest, out)?;
+        let name = name_of(alloc, lists, disk, *guest)?;
+        print_guest(lists, *guest, name.as_slice(), out)?;
     }
     Ok(())
 }

@@ -1,13 +1,12 @@
-//! What a line asks of a guest's recording once it is verified.
+//! What a line asks of a guest's recording.
 
 use crate::choosing::show_choices;
 use crate::core_files::write_core;
 use crate::refusal::Refusal;
 use crate::replaying::put_out;
 use crate::states::{show_back, show_last};
-use crate::store::open_store;
-use crate::verifying::verified_in;
-use command_line::{GuestOf, MemoryRange, Place};
+use crate::verifying::verified_of;
+use command_line::{GuestOf, Question};
 use replayer::Verified;
 use std::fs::File;
 use std::io::Write;
@@ -15,90 +14,36 @@ use std::rt::Files;
 use std::sync::Wait;
 use std::time::Clock;
 
-/// A guest's recording in a store in a file, verified. The store is closed again. How far it is goes to `err`, where
-/// `is_shown` says so.
-fn guest_verified<R: Files<File = File> + AllocGlobal + Clock, E: Write + Drop>(
-    rt: &R,
-    guest: GuestOf<'_>,
-    is_shown: bool,
-    err: &mut E,
-) -> Result<Verified, Refusal> {
-    let store = open_store(rt, guest.store)?;
-    verified_in(rt, rt.alloc(), store, guest.number, is_shown, err)
-}
-
-/// Puts the output of a guest out again, or prints the state at a place.
-pub(crate) fn replay<
+/// Answers a question of a guest's recording in a store in a file, once that is verified. How far it is goes to `err`, where `is_shown`
+/// says so.
+pub(crate) fn answer<
     R: Files<File = File> + AllocGlobal + Wait + Clock,
     O: Write + Drop,
     E: Write + Drop,
 >(
     rt: &R,
     guest: GuestOf<'_>,
-    at: Option<Place>,
-    ranges: &[MemoryRange],
+    question: &Question<'_>,
     is_shown: bool,
     out: &mut O,
     err: &mut E,
 ) -> Result<(), Refusal> {
-    let verified = guest_verified(rt, guest, is_shown, err)?;
-    match at {
-        Some(place) => show_back(rt.alloc(), &verified, place, 0, ranges, out),
-        None => put_out(rt, rt.alloc(), &verified, out, err),
+    let verified: Verified = verified_of(rt, guest, is_shown, err)?;
+    let alloc = rt.alloc();
+    match question {
+        Question::Output => put_out(rt, alloc, &verified, out, err),
+        Question::State { at, memory } => show_back(alloc, &verified, *at, 0, memory, out),
+        Question::Back {
+            from,
+            count,
+            memory,
+        } => show_back(alloc, &verified, *from, *count, memory, out),
+        Question::Last {
+            from,
+            address,
+            memory,
+        } => show_last(alloc, &verified, *from, *address, memory, out),
+        Question::Choices => show_choices(alloc, &verified, out),
+        Question::Core { at, file } => write_core(rt, &verified, *at, file),
     }
-}
-
-/// Prints the state so many instructions before a place.
-pub(crate) fn back<R: Files<File = File> + AllocGlobal + Clock, O: Write, E: Write + Drop>(
-    rt: &R,
-    guest: GuestOf<'_>,
-    from: Place,
-    count: u64,
-    ranges: &[MemoryRange],
-    is_shown: bool,
-    out: &mut O,
-    err: &mut E,
-) -> Result<(), Refusal> {
-    let verified = guest_verified(rt, guest, is_shown, err)?;
-    show_back(rt.alloc(), &verified, from, count, ranges, out)
-}
-
-/// Prints the state before the last change of a byte.
-pub(crate) fn last<R: Files<File = File> + AllocGlobal + Clock, O: Write, E: Write + Drop>(
-    rt: &R,
-    guest: GuestOf<'_>,
-    from: Place,
-    address: u32,
-    ranges: &[MemoryRange],
-    is_shown: bool,
-    out: &mut O,
-    err: &mut E,
-) -> Result<(), Refusal> {
-    let verified = guest_verified(rt, guest, is_shown, err)?;
-    show_last(rt.alloc(), &verified, from, address, ranges, out)
-}
-
-/// Prints the choices of a guest's turns.
-pub(crate) fn choices<R: Files<File = File> + AllocGlobal + Clock, O: Write, E: Write + Drop>(
-    rt: &R,
-    guest: GuestOf<'_>,
-    is_shown: bool,
-    out: &mut O,
-    err: &mut E,
-) -> Result<(), Refusal> {
-    let verified = guest_verified(rt, guest, is_shown, err)?;
-    show_choices(rt.alloc(), &verified, out)
-}
-
-/// Writes a core file of the state at a place.
-pub(crate) fn core<R: Files<File = File> + AllocGlobal + Clock, E: Write + Drop>(
-    rt: &R,
-    guest: GuestOf<'_>,
-    at: Place,
-    file: &str,
-    is_shown: bool,
-    err: &mut E,
-) -> Result<(), Refusal> {
-    let verified = guest_verified(rt, guest, is_shown, err)?;
-    write_core(rt, &verified, at, file)
 }

@@ -9,15 +9,15 @@ ghost use Rattle.commands.specs.Status.{IsStatus, IsStatusOf};
 use crate::demonstration::demonstrate;
 use crate::guests::{dump, list};
 use crate::printing::print_whole;
-use crate::questions::{back, choices, core, last, replay};
+use crate::questions::answer;
 use crate::record::record;
 use crate::refusal::Refusal;
 use crate::replaying::tell;
 use crate::store::{make_store, open_store};
 use crate::terminals::Terminals;
-use crate::verifying::verified_in;
+use crate::verifying::verified_of;
 use clap::error::ErrorKind as LineFault;
-use command_line::{GuestOf, Request, line};
+use command_line::{Request, line};
 use replayer::VerifiedEnd;
 use std::alloc::Global;
 use std::convert::AsStr;
@@ -157,71 +157,13 @@ fn perform<
             long,
             progress,
         } => {
-            let end = guest_end(rt, guest, progress || terminals.err, err)?;
+            let end: VerifiedEnd = verified_of(rt, guest, progress || terminals.err, err)?;
             tell(alloc, &end, long, out)
         }
-        Request::Replay {
+        Request::Ask {
             guest,
-            at,
-            memory,
+            question,
             progress,
-        } => replay(rt, guest, at, &memory, progress || terminals.err, out, err),
-        Request::Back {
-            guest,
-            from,
-            count,
-            memory,
-            progress,
-        } => back(
-            rt,
-            guest,
-            from,
-            count,
-            &memory,
-            progress || terminals.err,
-            out,
-            err,
-        ),
-        Request::Last {
-            guest,
-            from,
-            address,
-            memory,
-            progress,
-        } => last(
-            rt,
-            guest,
-            from,
-            address,
-            &memory,
-            progress || terminals.err,
-            out,
-            err,
-        ),
-        Request::Choices { guest, progress } => choices(
-            rt,
-            guest,
-            progress || terminals.err,
-            out,
-            err,
-        ),
-        Request::Core {
-            guest,
-            at,
-            file,
-            progress,
-        } => core(rt, guest, at, file, progress || terminals.err, err),
+        } => answer(rt, guest, &question, progress || terminals.err, out, err),
     }
-}
-
-/// Where a guest's recording in a store in a file ends, once it is verified. The store is closed again. How far it is goes to `err`,
-/// where `is_shown` says so.
-fn guest_end<R: Files<File = File> + AllocGlobal + Clock, E: Write + Drop>(
-    rt: &R,
-    guest: GuestOf<'_>,
-    is_shown: bool,
-    err: &mut E,
-) -> Result<VerifiedEnd, Refusal> {
-    let store = open_store(rt, guest.store)?;
-    verified_in(rt, rt.alloc(), store, guest.number, is_shown, err)
 }

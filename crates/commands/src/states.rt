@@ -1,12 +1,12 @@
 //! The state at a place of a verified recording.
 
-ghost use Rattle.std.specs.Prelude.{◌≡◌, ◌+◌, ◌≤◌, IfErr, IfOk, List, OnOk, Option, ℕ};
+ghost use Rattle.std.specs.Prelude.{◌≡◌, ◌+◌, List, OnOk, Option, ℕ};
 ghost use Rattle.std.specs.Io.KnownBytes.{Appends};
 ghost use Rattle.rrv_model.specs.StateAt.{total};
 ghost use Rattle.guest_calls.specs.Guest.{state_of};
 ghost use Rattle.reverse_step.specs.Changes.{IsLastChange};
 ghost use Rattle.commands.specs.Printed.{IsFoundText, IsStateText, place_in, ranges_lines};
-ghost use Rattle.commands.specs.Stores.{RefusesPlace};
+ghost use Rattle.commands.specs.Stores.{GoesBack, Reaches};
 
 use crate::printing::{OutputFailed, finish, in_blocks, print_line, print_text};
 use crate::refusal::Refusal;
@@ -34,10 +34,7 @@ pub(crate) fn cursor_at<'a>(
     verified: &'a Verified,
     place: u64,
 ) -> Result<Cursor<'a>, Refusal>
-    ensures verified { IfOk result (λ cursor. cursor.verified ≡ verified.now) }
-    ensures at { IfOk result (λ cursor. cursor.place ≡ place) }
-    ensures within { OnOk result (place ≤ total verified.now.frames) }
-    ensures refused { IfErr result (λ e. RefusesPlace e (total verified.now.frames) place 0) }
+    ensures { GoesBack verified.now result place 0 }
 {
     let mut cursor = Cursor::new(alloc, verified)?;
     cursor.seek(alloc, place)?;
@@ -51,10 +48,7 @@ fn cursor_back<'a>(
     from: u64,
     count: u64,
 ) -> Result<Cursor<'a>, Refusal>
-    ensures verified { IfOk result (λ cursor. cursor.verified ≡ verified.now) }
-    ensures at { IfOk result (λ cursor. cursor.place + count ≡ from) }
-    ensures within { OnOk result (from ≤ total verified.now.frames) }
-    ensures refused { IfErr result (λ e. RefusesPlace e (total verified.now.frames) from count) }
+    ensures { GoesBack verified.now result from count }
 {
     let mut cursor = cursor_at(alloc, verified, from)?;
     cursor.back(alloc, count)?;
@@ -107,9 +101,7 @@ fn print_back<W: Write>(
     ensures printed { OnOk result ((place : ℕ) × (place + count ≡ place_in (total verified.now.frames) from)
         × (text : List ℕ) × IsStateText verified.now.opening verified.now.frames ranges.now place text
         × Appends (W.contents out.old) (W.contents out.new) text) }
-    ensures within { OnOk result (place_in (total verified.now.frames) from ≤ total verified.now.frames) }
-    ensures refused { IfErr result (λ e.
-        RefusesPlace e (total verified.now.frames) (place_in (total verified.now.frames) from) count) }
+    ensures reaches { Reaches result (total verified.now.frames) (place_in (total verified.now.frames) from) count }
 {
     let cursor = cursor_back(alloc, verified, place_in(from, verified), count)?;
     print_state(&cursor, verified.total(), ranges, out)?;
@@ -129,9 +121,7 @@ fn print_last<W: Write>(
         × IsLastChange verified.now.opening verified.now.frames address (place_in (total verified.now.frames) from) found
         × IsFoundText verified.now.opening verified.now.frames ranges.now found text
         × Appends (W.contents out.old) (W.contents out.new) text) }
-    ensures within { OnOk result (place_in (total verified.now.frames) from ≤ total verified.now.frames) }
-    ensures refused { IfErr result (λ e.
-        RefusesPlace e (total verified.now.frames) (place_in (total verified.now.frames) from) 0) }
+    ensures reaches { Reaches result (total verified.now.frames) (place_in (total verified.now.frames) from) 0 }
 {
     let mut cursor = cursor_at(alloc, verified, place_in(from, verified))?;
     match cursor.last_change(alloc, address)? {

@@ -5,8 +5,8 @@ ghost use Rattle.rrv_model.specs.Recovered.{IsRecovered, of_guest};
 ghost use Rattle.store_model.specs.StoreText.{IsStore};
 ghost use Rattle.rrv_model.specs.declared.record.Record.{Record};
 ghost use Rattle.recover.specs.Opened.{IsOpened, IsRead, IsReady};
-ghost use Rattle.recover.specs.Spots.{records_of, StandOn};
-ghost use Rattle.commands.specs.Stores.{IsFailed, RefusesStore};
+ghost use Rattle.recover.specs.Spots.{records_of};
+ghost use Rattle.commands.specs.Stores.{IsFailed, ReadsStore, RefusesStore};
 
 use crate::refusal::Refusal;
 use recover::{Lists, open, read, settle};
@@ -127,10 +127,8 @@ pub(crate) fn record_in<D: Disk>(
     index: u32,
 ) -> Result<Record, Refusal>
     requires { index < length (of_guest guest (records_of lists.now)) }
-    ensures record { StandOn D.honest D.state disk.old lists.now
-        → IfOk result (λ r. slice_get (of_guest guest (records_of lists.now)) index ≡ Some r) }
-    ensures refused { StandOn D.honest D.state disk.old lists.now → IfErr result IsFailed }
-    ensures on { StandOn D.honest D.state disk.old lists.now → StandOn D.honest D.state disk.new lists.now }
+    ensures { ReadsStore D.Disk lists.now result disk.old disk.new
+        (λ r. slice_get (of_guest guest (records_of lists.now)) index ≡ Some r) }
 {
     match lists.item(alloc, disk, guest, index) {
         Ok(entry) => Ok(entry),

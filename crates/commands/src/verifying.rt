@@ -1,10 +1,8 @@
 //! The verification of a guest's records.
 
-ghost use Rattle.std.specs.Prelude.{◌≡◌, IfErr, IfOk, List, length};
+ghost use Rattle.std.specs.Prelude.{◌≡◌, IfErr, IfOk, List};
 ghost use Rattle.rrv_model.specs.declared.record.Record.{Record};
-ghost use Rattle.rrv_model.specs.Recording.{frames_of, items_of};
 ghost use Rattle.rrv_model.specs.Recovered.{of_guest};
-ghost use Rattle.rrv_model.specs.StateAt.{total};
 ghost use Rattle.recover.specs.Spots.{records_of, StandOn};
 ghost use Rattle.replayer.specs.Sourced.{IsEndOf, NamesWithheld, RefusesSource};
 ghost use Rattle.replayer.specs.Verified.{Keeps};
@@ -12,29 +10,20 @@ ghost use Rattle.commands.specs.Stores.{RefusesGuest};
 ghost use Rattle.commands.specs.Told.{verify_told};
 
 use crate::refusal::Refusal;
-use crate::store::{Store, guest_in};
+use crate::store::{Store, guest_in, open_store};
 use crate::stored::StoredGuest;
+use command_line::GuestOf;
 use progress::{Count, VerifyProgress};
-use recover::Lists;
 use replayer::{
     Source, Verified, VerifiedEnd, VerifyFault, Watch, verify_source_end, verify_source_watched,
 };
 use std::alloc::Global;
+use std::fs::File;
 use std::io::Write;
+use std::rt::Files;
 use std::sync::atomic::AtomicBool;
 use std::time::Clock;
 use trace_disk::Disk;
-
-/// How many records a guest of a store has, and how many instructions these count.
-pub(crate) fn extent_of(lists: &Lists, guest: u32) -> Count
-    ensures records { result.records ≡ length (of_guest guest (records_of lists.now)) }
-    ensures instructions { result.instructions ≡ total (frames_of (items_of (of_guest guest (records_of lists.now)))) }
-{
-    Count {
-        records: u64::from(lists.len(guest)),
-        instructions: lists.count(guest).instructions,
-    }
-}
 
 /// What is kept of records as they are verified: their recording, or where it ends.
 pub(crate) trait Kept: Sized + Drop {
@@ -112,14 +101,19 @@ pub(crate) fn verified_in<K: Kept, R: Clock, D: Disk + Drop, E: Write + Drop>(
     ensures refused { StandOn D.honest D.state store.disk store.lists
         → IfErr result (λ e. RefusesGuest e (of_guest number (records_of store.lists))) }
 {
-    let Store { lists, disk } = store;
-    let guest = guest_in(&lists, number)?;
-    let all = extent_of(&lists, guest);
-    let mut source = StoredGuest {
-        lists,
-        disk,
-        guest,
-        withheld: None,
-    };
+    let guest = guest_in(&store.lists, number)?;
+    let mut source = StoredGuest::new(store, guest);
+    let all = source.extent();
     verified(rt, alloc, &mut source, all, is_shown, err)
+}
+
+/// The same of a store in a file, which is closed again.
+pub(crate) fn verified_of<K: Kept, R: Files<File = File> + AllocGlobal + Clock, E: Write + Drop>(
+    rt: &R,
+    guest: GuestOf<'_>,
+    is_shown: bool,
+    err: &mut E,
+) -> Result<K, Refusal> {
+    let store = open_store(rt, guest.store)?;
+    verified_in(rt, rt.alloc(), store, guest.number, is_shown, err)
 }

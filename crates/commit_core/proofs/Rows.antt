@@ -1,5 +1,5 @@
 -- Each event keeps what holds, a lemma a row.
-use Rattle.std.proofs.Common.{◌≡◌, ◌≢◌, ◌⊎◌, inl, inr, ⊎_elim, ℕ, zero, suc, ◌+◌, ◌<◌, ◌≤◌, min, Bool, true, false, if◌then◌else◌, List, [], ◌∷◌, ◌++◌, length, map, take, drop, refl, ap, arith, sym, subst, ◌∙◌, append_assoc, length-append, take-append-drop, eqb-true}
+use Rattle.std.proofs.Common.{◌≡◌, ◌≢◌, ◌⊎◌, inl, inr, ⊎_elim, ℕ, zero, suc, ◌+◌, ◌<◌, ◌≤◌, min, Bool, true, false, if◌then◌else◌, ◌==◌, List, [], ◌∷◌, ◌++◌, length, map, take, drop, refl, ap, arith, sym, subst, ◌∙◌, append_assoc, length-append, take-append-drop, eqb-true}
 use Rattle.std.specs.Prelude.{Option, Some, slice_get, IsSomeAnd}
 use Rattle.std.specs.List.{AllByRecursion}
 use Rattle.std.proofs.lemmas.List.{append-nil, map-append, length-take-le, take-append-le}
@@ -9,20 +9,20 @@ use Rattle.rrv_model.specs.State.{State}
 use Rattle.store_model.specs.CrashModel.{DiskState}
 use Rattle.store_model.specs.DiskCalls.{FailsToWrite}
 use Rattle.rrv_model.specs.RecordText.{HasText}
-use Rattle.rrv_model.specs.Recording.{IsRecording, IsNumbered, EndsIn, items_of}
+use Rattle.rrv_model.specs.Recording.{IsNumbered, EndsIn, items_of}
 use Rattle.store_model.specs.StoreText.{IsBody}
 use Rattle.rrv_model.specs.Recovered.{body_text, of_guest, OpensAtZero}
 use Rattle.commit_core.specs.Runs.{IsOutput}
 use Rattle.commit_core.specs.World.{World, Recorder, Stage, made, received, committed_count, stored_bodies, joined, flag, left_word}
 use Rattle.commit_core.specs.World.Stage.{Idle, Written, Synced, Opened, Broken}
-use Rattle.commit_core.specs.Events.{Event, after, May, CanSlice, CanPush, CanWrite, put, with_recorder, with_flusher, gate_place, next_body, behind_gate, left_place, sliced, pushed, looked, released, looked_at_halt, gone, took, at_stage}
+use Rattle.commit_core.specs.Events.{Event, after, May, CanSlice, CanPush, CanWrite, put, with_recorder, with_flusher, gate_place, next_body, behind_gate, left_place, sliced, pushed, gone, took, at_stage}
 use Rattle.commit_core.specs.Events.Event.{Slice, Push, Look, Release, LookHalt, Leave, Pop, WriteBody, WriteBodyFails, Sync1, Sync1Fails, OpenGate, OpenGateFails, Sync2, Sync2Fails, Publish, Halt, LookLeft}
 use Rattle.commit_core.specs.Facts.{HadStates}
 use Rattle.outcomes.proofs.Lists.{AllByRecursion-append, AllByRecursion-back, AllByRecursion-push}
 use Rattle.rrv_model.proofs.RecoveredLaws.{of_guest-append}
 use Rattle.commit_core.proofs.Lists.{of_guest_one, of_guest_other, joined-push, put_cases, put_each, put_other, put_same}
-use Rattle.commit_core.proofs.Runs.{output_further, recording_opens}
-use Rattle.commit_core.proofs.Invariant.{total, IsOwn, RecordingInvariant, RecorderInvariant, Invariant}
+use Rattle.commit_core.proofs.Runs.{output_longer, recording_opens}
+use Rattle.commit_core.proofs.Invariant.{total, IsOwn, RecordingInvariant, SeenInvariant, RecorderInvariant, Invariant}
 use Rattle.commit_core.proofs.Stages.{IsCommittable, DiskAt, outcome_at, to_written, to_written_fails, to_synced, to_opened, to_opened_fails, to_idle, some_body}
 
 -- ---- changes of one part
@@ -322,48 +322,36 @@ publish_keeps w old g h may =
     told_seen : (j : ℕ) → j < w.guests → (w.recorders j).seen ≤ w.flusher.told j
     told_seen j l = subst (λ (x : ℕ). (w.recorders j).seen ≤ x) (h.words.counts j l) (h.each j l).seen.in_word
 
-take_less : (m n : ℕ) (xs : List Record) → m ≤ n → (more : List Record) × (take n xs ≡ take m xs ++ more)
-take_less zero n xs l = (take n xs, refl)
-take_less (suc m) zero xs l = absurd (omega arith)
-take_less (suc m) (suc n) [] l = ([], refl)
-take_less (suc m) (suc n) (x ∷ xs) l = let more = take_less m n xs (omega arith) in (more.0, ap (λ (k : List Record). x ∷ k) more.1)
-
--- the output of more records of a recording goes on
-more_seen : (out : List (ℕ × ℕ)) (m n : ℕ) (records : List Record) → IsRecording records → m ≤ n → IsOutput out (take m records) →
-    IsOutput out (take n records)
-more_seen out m n records is l put =
-    let more = take_less m n records l in
-    let whole : (take m records ++ more.0) ++ drop n records ≡ records =
-    ap (λ (k : List Record). k ++ drop n records) (sym more.1) ∙ take-append-drop n records in
-    subst (IsOutput out) (sym more.1) (output_further out (take m records) more.0 (drop n records) (subst IsRecording (sym whole) is) put)
+-- a row of one recorder, which looks or puts something out
+sees_keeps : (w : World) (old : List Record) (g seen : ℕ) (knows_halt : Bool) (out : List (ℕ × ℕ)) → Invariant w old → g < w.guests
+    → SeenInvariant seen (w.words g) (w.recorders g).sent → (knows_halt ≡ true → w.flusher.halted ≡ true)
+    → IsOutput out (take seen (made (w.recorders g)))
+    → Invariant (with_recorder w g (record (w.recorders g) { seen = seen; knows_halt = knows_halt; out = out })) old
+sees_keeps w old g seen knows_halt out h may low known put =
+    let one = h.each g may in
+    recorder_keeps w old g (record (w.recorders g) { seen = seen; knows_halt = knows_halt; out = out }) h (λ l. record {
+      sent = one.sent;
+      recording = one.recording;
+      left = one.left;
+      seen = low;
+      halt_known = known;
+      output = put;
+    })
 
 look_keeps : (w : World) (old : List Record) (g : ℕ) → Invariant w old → g < w.guests → Invariant (after w (Look g)) old
 look_keeps w old g h may =
     let r = w.recorders g in
     let one = h.each g may in
     let seen = min (w.words g) (length r.sent) in
-    recorder_keeps w old g (looked (w.words g) r) h (λ l. record {
-      sent = one.sent;
-      recording = one.recording;
-      halt_known = one.halt_known;
-      left = one.left;
-      seen = record { in_word = omega arith; in_sent = omega arith };
-      output = more_seen r.out r.seen seen (made r) one.recording.run.recording (omega (arith, one.seen.in_word, one.seen.in_sent))
-          one.output;
-    })
+    sees_keeps w old g seen r.knows_halt r.out h may (record { in_word = omega arith; in_sent = omega arith }) one.halt_known
+    (output_longer r.out r.seen seen (made r) one.recording.run.recording (omega (arith, one.seen.in_word, one.seen.in_sent)) one.output)
 
 release_keeps : (w : World) (old : List Record) (g : ℕ) (more : List (ℕ × ℕ)) → Invariant w old → g < w.guests
     → IsOutput ((w.recorders g).out ++ more) (take (w.recorders g).seen (made (w.recorders g))) → Invariant (after w (Release g more)) old
-release_keeps w old g more h l may =
-    let one = h.each g l in
-    recorder_keeps w old g (released more (w.recorders g)) h (λ l. record {
-      sent = one.sent;
-      recording = one.recording;
-      halt_known = one.halt_known;
-      left = one.left;
-      seen = one.seen;
-      output = may;
-    })
+release_keeps w old g more h may put =
+    let r = w.recorders g in
+    let one = h.each g may in
+    sees_keeps w old g r.seen r.knows_halt (r.out ++ more) h may one.seen one.halt_known put
 
 halt_keeps : (w : World) (old : List Record) → Invariant w old → Invariant (after w Halt) old
 halt_keeps w old h =
@@ -386,15 +374,10 @@ flag_true false e = absurd (omega (arith, e))
 
 look_halt_keeps : (w : World) (old : List Record) (g : ℕ) → Invariant w old → g < w.guests → Invariant (after w (LookHalt g)) old
 look_halt_keeps w old g h may =
+    let r = w.recorders g in
     let one = h.each g may in
-    recorder_keeps w old g (looked_at_halt (w.words w.guests) (w.recorders g)) h (λ l. record {
-      sent = one.sent;
-      recording = one.recording;
-      left = one.left;
-      seen = one.seen;
-      output = one.output;
-      halt_known = λ knows. flag_true w.flusher.halted (sym h.words.halt ∙ eqb-true (w.words w.guests) 1 knows);
-    })
+    sees_keeps w old g r.seen (w.words w.guests == 1) r.out h may one.seen
+    (λ knows. flag_true w.flusher.halted (sym h.words.halt ∙ eqb-true (w.words w.guests) 1 knows)) one.output
 
 known_still : (b : Bool) (n t : ℕ) → (t ≡ 0) ⊎ (t ≡ (if b then n else 0)) → (t ≡ 0) ⊎ (t ≡ n)
 known_still b n t (inl z) = inl z

@@ -1,5 +1,5 @@
 -- Output and states of a beginning of a recording.
-use Rattle.std.proofs.Common.{◌≡◌, ◌≢◌, ℕ, ◌+◌, ◌-◌, ◌<◌, ◌≤◌, Bool, true, false, nat_le, List, [], ◌∷◌, ◌++◌, length, take, Option, Some, None, refl, sym, ◌∙◌, ap, subst, arith, append_assoc}
+use Rattle.std.proofs.Common.{◌≡◌, ◌≢◌, ℕ, zero, suc, ◌+◌, ◌-◌, ◌<◌, ◌≤◌, Bool, true, false, nat_le, List, [], ◌∷◌, ◌++◌, length, take, drop, Option, Some, None, refl, sym, ◌∙◌, ap, subst, arith, append_assoc, take-append-drop}
 use Rattle.std.specs.Prelude.{MatchBool, MatchOption, ◌↔◌}
 use Rattle.std.specs.List.{AllByRecursion}
 use Rattle.std.proofs.lemmas.Bool.Decides.{nat_tests}
@@ -16,7 +16,8 @@ use Rattle.rrv_model.specs.declared.record.Record.{Record}
 use Rattle.rrv_model.specs.State.{State, thread_at}
 use Rattle.rrv_model.specs.FrameStep.{Steps, FrameStep}
 use Rattle.rrv_model.specs.StateAt.{total, StateAtFrom}
-use Rattle.rrv_model.specs.Output.{CallPutsAt, Chunk, FramePuts, PutFrom, call_in, put_out_by, spread, to_descriptor}
+use Rattle.rrv_model.specs.Ends.{call_in}
+use Rattle.rrv_model.specs.Output.{CallPutsAt, Chunk, FramePuts, PutFrom, put_out_by, spread, to_descriptor}
 use Rattle.rrv_model.specs.Recording.{IsRecording, IsNumbered, ItemsFollow, Starts, EndsIn, items_of, frames_of, base_after, row_after}
 use Rattle.rrv_model.specs.Recovered.{OpensAtZero, IsOpening}
 use Rattle.rrv_model.proofs.Ends.{frame_split, puts_some}
@@ -124,6 +125,21 @@ output_further out (x ∷ xs) ys zs is put =
     subst (λ (l : List Item). ItemsPut l puts.0) (items_of-append (x ∷ xs) ys) puts.1 in
     let more = items_put_further (items_of (x ∷ xs)) (items_of ys) put.0 puts.0 put.1 there in
     (puts.0, puts.1, begins_further out (spread put.0) (spread puts.0) put.2 (spread_further put.0 puts.0 more))
+
+take_less : (m n : ℕ) (xs : List Record) → m ≤ n → (more : List Record) × (take n xs ≡ take m xs ++ more)
+take_less zero n xs l = (take n xs, refl)
+take_less (suc m) zero xs l = absurd (omega arith)
+take_less (suc m) (suc n) [] l = ([], refl)
+take_less (suc m) (suc n) (x ∷ xs) l = let more = take_less m n xs (omega arith) in (more.0, ap (λ (k : List Record). x ∷ k) more.1)
+
+-- so of the first records of a recording, and of more of them
+pub output_longer : (out : List (ℕ × ℕ)) (m n : ℕ) (records : List Record) → IsRecording records → m ≤ n → IsOutput out (take m records) →
+    IsOutput out (take n records)
+output_longer out m n records is l put =
+    let more = take_less m n records l in
+    let whole : (take m records ++ more.0) ++ drop n records ≡ records =
+    ap (λ (k : List Record). k ++ drop n records) (sym more.1) ∙ take-append-drop n records in
+    subst (IsOutput out) (sym more.1) (output_further out (take m records) more.0 (drop n records) (subst IsRecording (sym whole) is) put)
 
 -- nothing is a beginning of any output of a recording's beginning
 pub nothing_put : IsOutput [] []

@@ -8,6 +8,7 @@ use Rattle.store_model.specs.CrashModel.{DiskState}
 use Rattle.rrv_model.specs.Recovered.{of_guest}
 use Rattle.trace_log.specs.Kept.{LogValue}
 use Rattle.commit_core.specs.World.{World, committed_count}
+use Rattle.commit_core.specs.World.Stage.{Idle}
 use Rattle.commit_core.specs.Events.{Event, IsSchedule, run, after, left_place}
 use Rattle.commit_core.specs.Events.Event.{LookLeft}
 use Rattle.commit_core.proofs.Lists.{put_same, put_other}
@@ -16,6 +17,7 @@ use Rattle.commit_group.specs.Seats.{FlusherValue, committed_of}
 use Rattle.commit_group.specs.Turns.{AllCommitted, TurnFindsNone}
 use Rattle.commit_group.specs.Worlds.{StandsFor, ComesBy, HaveLeft, WordsStand, IdleTurnsAreEvents, LastTurnsAreEvents, left_looks}
 use Rattle.commit_group.proofs.Refusals.{comes_by, of_same}
+use Rattle.commit_group.proofs.WorldSteps.{stands_again}
 
 -- ---- looks at the words of n guests, from a on
 
@@ -68,17 +70,8 @@ looked_stands state old new log log' w totals turn h same =
     of_same (λ f l. StandsFor state (base new.first_guest) f l (with_totals w totals))
     (record old { first_guest = new.first_guest; totals = new.totals }) new log log' turn.seat turn.same_log
     (record {
-      stands = record {
-        guests = s.guests;
-        first_is = s.first_is;
-        finished = s.finished;
-        waiting = s.waiting;
-        told = s.told;
-        totals = same;
-        halted = s.halted;
-        stage_is = s.stage_is;
-        disk = s.disk;
-      };
+      stands = stands_again state Idle (base new.first_guest) old (record old { first_guest = new.first_guest; totals = new.totals }) log w
+          (with_totals w totals) refl refl s s.told same s.halted;
       hand = h.hand;
       keeps = h.keeps;
     })

@@ -100,48 +100,23 @@ stops w k disk can (inr (inr (inr (inr never)))) = absurd never
 
 record HasPublished (m : ℕ) (w w' : World) : Type 0 where
   reaches : Reaches w w'
-  guests : w'.guests ≡ w.guests
-  first : w'.first_guest ≡ w.first_guest
-  bodies : w'.bodies ≡ w.bodies
-  queue : w'.queue ≡ w.queue
-  recorders : w'.recorders ≡ w.recorders
-  disk : w'.disk ≡ w.disk
-  flusher : w'.flusher ≡ record w.flusher { told = w'.flusher.told }
+  same : w' ≡ record w { words = w'.words; flusher = record w.flusher { told = w'.flusher.told } }
   told : (g : ℕ) → g < m → w'.flusher.told g ≡ committed_count (w.first_guest + g) w.flusher
 
 publishes : (m : ℕ) (w : World) → m ≤ w.guests → (w' : World) × HasPublished m w w'
-publishes zero w le = (
-  w,
-  record {
-    reaches = reaches_none w w refl;
-    guests = refl;
-    first = refl;
-    bodies = refl;
-    queue = refl;
-    recorders = refl;
-    disk = refl;
-    flusher = refl;
-    told = λ g l. absurd (omega arith);
-  },
-)
+publishes zero w le = (w, record { reaches = reaches_none w w refl; same = refl; told = λ g l. absurd (omega arith) })
 publishes (suc m) w le =
     let before = publishes m w (omega arith) in
     let u = before.0 in
     let h = before.1 in
     let next = after u (Publish m) in
-    let low : m < u.guests = (let e = h.guests in omega arith) in
+    let low : m < u.guests = (let e = ap (λ (v : World). v.guests) h.same in omega arith) in
     let count : committed_count (u.first_guest + m) u.flusher ≡ committed_count (w.first_guest + m) w.flusher =
-    λ i. length (of_guest (h.first i + m) (joined (h.flusher i).finished)) in (
+    ap (λ (v : World). committed_count (v.first_guest + m) v.flusher) h.same in (
       next,
       record {
         reaches = reaches_both w u next h.reaches (reaches_one u (Publish m) low);
-        guests = h.guests;
-        first = h.first;
-        bodies = h.bodies;
-        queue = h.queue;
-        recorders = h.recorders;
-        disk = h.disk;
-        flusher = λ i. record (h.flusher i) { told = next.flusher.told };
+        same = ap (λ (v : World). record v { words = next.words; flusher = record v.flusher { told = next.flusher.told } }) h.same;
         told = λ g l. dite (ℕ_discrete g m)
             (λ e. ap next.flusher.told e ∙ put_same u.flusher.told m (committed_count (u.first_guest + m) u.flusher) ∙ count
             ∙ ap (λ (n : ℕ). committed_count (w.first_guest + n) w.flusher) (sym e))
@@ -363,37 +338,40 @@ module _ {D : Type 0} (device : Device D) (old new : FlusherValue) (log log' : L
   told_all : (y : World) → HasPublished w.guests x y → ComesTo (StandsFor device.state (base new.first_guest) new log') w rest
   told_all y h =
       let s = turn.seat in
+      let guests' : y.guests ≡ x.guests = ap (λ (v : World). v.guests) h.same in
+      let first : y.first_guest ≡ x.first_guest = ap (λ (v : World). v.first_guest) h.same in
+      let flusher = ap (λ (v : World). v.flusher) h.same in
       let guests : w.guests ≡ new.group.guests = stands.guests ∙ ap (λ (f : FlusherValue). f.group.guests) (sym s) in
-      let hand : y.flusher.hand ≡ [] = ap (λ (f : Flusher). f.hand) h.flusher ∙ ap (λ (f : Flusher). f.hand) x_flusher in
+      let hand : y.flusher.hand ≡ [] = ap (λ (f : Flusher). f.hand) flusher ∙ ap (λ (f : Flusher). f.hand) x_flusher in
       record {
         end = y;
         reaches = reaches_both w x y reaches_x h.reaches;
         holds = record {
           stands = record {
-            guests = h.guests ∙ same_x.guests ∙ guests;
-            first_is = h.first ∙ same_x.first ∙ stands.first_is;
-            finished = ap (λ (f : Flusher). joined f.finished) h.flusher ∙ x_joined;
+            guests = guests' ∙ same_x.guests ∙ guests;
+            first_is = first ∙ same_x.first ∙ stands.first_is;
+            finished = ap (λ (f : Flusher). joined f.finished) flusher ∙ x_joined;
             waiting = ap (λ (l : List Record). l ++ y.flusher.waiting) hand
-                ∙ ap (λ (f : Flusher). f.waiting) h.flusher ∙ ap (λ (f : Flusher). f.waiting) x_flusher ∙ ap (drop k) waiting_is
+                ∙ ap (λ (f : Flusher). f.waiting) flusher ∙ ap (λ (f : Flusher). f.waiting) x_flusher ∙ ap (drop k) waiting_is
                 ∙ sym (ap (λ (f : FlusherValue). f.waiting) s);
             told = λ g low.
-                let low' : g < w.guests = (let e = h.guests ∙ same_x.guests in omega arith) in
+                let low' : g < w.guests = (let e = guests' ∙ same_x.guests in omega arith) in
                 let low'' : g < new.group.guests = (let e = guests in omega arith) in
                 h.told g low' ∙ (λ i. length (of_guest ((same_x.first ∙ stands.first_is) i + g) (x_joined i))) ∙ sym (turn.told g low'');
             totals = λ g low.
-                let low' : g < w.guests = (let e = h.guests ∙ same_x.guests in omega arith) in
-                ap (λ (f : Flusher). f.totals g) h.flusher ∙ ap (λ (f : Flusher). f.totals g) x_flusher ∙ u_totals g ∙ stands.totals g low'
+                let low' : g < w.guests = (let e = guests' ∙ same_x.guests in omega arith) in
+                ap (λ (f : Flusher). f.totals g) flusher ∙ ap (λ (f : Flusher). f.totals g) x_flusher ∙ u_totals g ∙ stands.totals g low'
                 ∙ ap (λ (f : FlusherValue). slice_index f.totals g) (sym s);
-            halted = ap (λ (f : Flusher). f.halted) h.flusher ∙ ap (λ (f : Flusher). f.halted) x_flusher ∙ u_halted ∙ stands.halted
+            halted = ap (λ (f : Flusher). f.halted) flusher ∙ ap (λ (f : Flusher). f.halted) x_flusher ∙ u_halted ∙ stands.halted
                 ∙ ap (λ (f : FlusherValue). f.halted) (sym s);
-            stage_is = ap (λ (f : Flusher). f.stage) h.flusher ∙ ap (λ (f : Flusher). f.stage) x_flusher;
-            disk = h.disk ∙ x_disk;
+            stage_is = ap (λ (f : Flusher). f.stage) flusher ∙ ap (λ (f : Flusher). f.stage) x_flusher;
+            disk = ap (λ (v : World). v.disk) h.same ∙ x_disk;
           };
           hand = hand;
-          keeps = subst (Keeps device.state log') (sym ((λ i. h.bodies i ++ map body_text (h.flusher i).finished) ∙ x_stored)) x_keeps;
+          keeps = subst (Keeps device.state log') (sym (ap stored_bodies h.same ∙ x_stored)) x_keeps;
         };
-        queue = h.queue ∙ same_x.left;
-        recorders = h.recorders ∙ same_x.recorders;
+        queue = ap (λ (v : World). v.queue) h.same ∙ same_x.left;
+        recorders = ap (λ (v : World). v.recorders) h.same ∙ same_x.recorders;
       }
 
   is_events : ComesTo (StandsFor device.state (base new.first_guest) new log') w rest

@@ -37,21 +37,16 @@
 //! - `waits_in_order`: a law. With the first ones of what waits in one body more, they are recovered after what is committed.
 //! - `end`: what each recorder sent and saw, and how many of its records were committed; seen is at most committed, and
 //!   committed at most sent. What is committed is the first of what was sent, also with what waits after it.
-//! - `turns_are_events`: let seat and log stand for the flusher of a world of `commit_core`, before a turn that commits. Then
-//!   some schedule of its events, guards included, leads to a world for whose flusher they stand after the turn. Its queue has
-//!   lost just what was received.
-//! - `failures_are_events`: the same of a turn that a failed call of the disk stopped. The flusher is then at its broken stage
-//!   and has halted.
-//! - `shortages_are_events`: one that returns `Memory` is just the receiving of its records. The seat and the log stand for the
-//!   flusher after it.
-//! - `limits_are_events`: one that returns `TooLong` receives its records and halts. The refused batch may not be written in
-//!   that world either.
-//! - `halted_turns_are_no_events`: one that returns `Halted` is no event. The world's flusher has halted, and all stands as
-//!   before.
-//! - `idle_turns_are_events`, `last_turns_are_events`: one that returns `Idle` or `Done` looks at leave words, one guest after
-//!   another, and the totals of the seat are then the world's. After `Done` all guests were looked at, and each word is one
-//!   more than what is committed. After `Idle` that isn't so. The words that were loaded are taken to stand in the world as the
-//!   turn begins.
+//! - `turns_are_events`, by the answer of a turn. Let seat and log stand for the flusher of a world of `commit_core`, before a turn
+//!   that commits. Then some schedule of its events, guards included, leads to a world for whose flusher they stand after the turn.
+//!   Its queue has lost just what was received.
+//!   - The same of a turn that a failed call of the disk stopped. The flusher is then at its broken stage and has halted.
+//!   - One that returns `Memory` is just the receiving of its records. The seat and the log stand for the flusher after it.
+//!   - One that returns `TooLong` receives its records and halts. The refused batch may not be written in that world either.
+//!   - One that returns `Halted` is no event. The world's flusher has halted, and all stands as before.
+//!   - One that returns `Idle` or `Done` looks at leave words, one guest after another, and the totals of the seat are then the
+//!     world's. After `Done` all guests were looked at, and each word is one more than what is committed. After `Idle` that isn't
+//!     so. The words that were loaded are taken to stand in the world as the turn begins.
 //! - `recorder_calls_are_events`, `flusher_calls_are_events`: so is each other call of a seat, as one event.
 //!
 //! That a turn receives anything is in no contract: a body that always returns `Idle` or `Memory` fails the tests alone.
@@ -83,8 +78,4 @@ pub use laws::lone_guests_fill_the_queue;
 pub use recorder_seat::RecorderSeat;
 pub use report::{Report, end};
 pub use turn::Turn;
-pub use world::{
-    failures_are_events, flusher_calls_are_events, halted_turns_are_no_events,
-    idle_turns_are_events, last_turns_are_events, limits_are_events, recorder_calls_are_events,
-    shortages_are_events, turns_are_events,
-};
+pub use world::{flusher_calls_are_events, recorder_calls_are_events, turns_are_events};

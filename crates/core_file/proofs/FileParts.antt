@@ -1,5 +1,5 @@
 -- Where the parts of a core file stand.
-use Rattle.std.proofs.Common.{◌≡◌, ◌∙◌, ℕ, ◌+◌, ◌-◌, ◌*◌, ◌^◌, ◌<◌, ◌==◌, T, Bool, true, false, cond, ◌&&◌, if◌then◌else◌, List, [], ◌∷◌, ◌++◌, length, take, drop, reverse, Option, Some, None, IfSome, flat_map, sum_by, append_assoc, refl, sym, ap, subst, length-append, length-drop, arith}
+use Rattle.std.proofs.Common.{◌≡◌, ◌∙◌, ℕ, ◌+◌, ◌-◌, ◌*◌, ◌^◌, ◌<◌, ◌==◌, T, Bool, true, false, cond, if◌then◌else◌, List, [], ◌∷◌, ◌++◌, length, take, drop, reverse, Option, Some, None, IfSome, flat_map, sum_by, append_assoc, refl, sym, ap, subst, length-append, length-drop, arith}
 use Rattle.std.specs.List.{AllByRecursion}
 use Rattle.std.proofs.Math.Seq.{drop-append_seam, take-append_seam}
 use Rattle.std.proofs.lemmas.Grind.{flat_map-append, reverse_onto}
@@ -8,13 +8,14 @@ use Rattle.std.proofs.lemmas.List.Sums.{sum_by-cons}
 use Rattle.std.specs.Cmp.{ranks}
 use Rattle.std.specs.declared.cmp.Ordering.{Ordering}
 use Rattle.std.specs.declared.cmp.Ordering.TheVariants.{Less, Equal, Greater}
-use Rattle.std.specs.Ordering.{MatchOrdering, nat_cmp, is_lt, is_eq}
+use Rattle.std.specs.Ordering.{MatchOrdering, nat_cmp, is_eq}
 use Rattle.std.specs.FinMap.{entries, entries_sorted, find, get-entries}
-use Rattle.std.specs.FinMap.Entries.{below_all, is_sorted}
+use Rattle.std.specs.FinMap.Entries.{is_sorted}
 use Rattle.rrv_model.specs.declared.machine.Thread.{Thread}
 use Rattle.rrv_model.specs.Memory.{Memory, page_bytes}
 use Rattle.rrv_model.specs.RecordText.{number}
 use Rattle.rrv_model.specs.State.{State, IsState, IsThread}
+use Rattle.rrv_model.proofs.CheckpointLaws.{both_hold, none_below}
 use Rattle.rrv_model.proofs.MemoryRules.{length_bytes_at}
 use Rattle.core_file.specs.declared.headers.ProgramHeader.{ProgramHeader}
 use Rattle.core_file.specs.declared.runs.Run.{Run}
@@ -175,37 +176,12 @@ each_load m front rest file at (r ∷ rs) long fall is =
 
 -- ---- each thread of a state
 
-left : (a b : Bool) → T (a && b) → T a
-left true b h = tt
-left false b h = h
-
-right : (a b : Bool) → T (a && b) → T b
-right true b h = h
-right false b h = absurd h
-
-above : (x y : ℕ) → T (is_lt (nat_cmp x y)) → x < y
-above x y h = by (nat_cmp x y) (ranks x y) h where
-  by : (o : Ordering) → MatchOrdering o (x < y) (x ≡ y) (y < x) → T (is_lt o) → x < y
-  by Less r h = r
-  by Equal r h = absurd h
-  by Greater r h = absurd h
-
--- the first tid is not among those behind it
-none_behind : (q x : ℕ) (es : List (ℕ × Thread)) → q ≡ x → T (below_all nat_cmp x es) → find nat_cmp q es ≡ None
-none_behind q x [] same h = refl
-none_behind q x (e ∷ es) same h = by (nat_cmp q e.0) (ranks q e.0) (none_behind q x es same (right _ _ h)) where
-  by : (o : Ordering) → MatchOrdering o (q < e.0) (q ≡ e.0) (e.0 < q) → find nat_cmp q es ≡ None →
-      cond (is_eq o) (Some e.1) (find nat_cmp q es) ≡ None
-  by Less r none = none
-  by Equal r none = let low = above x e.0 (left _ _ h) in absurd (omega (arith, r, same, low))
-  by Greater r none = none
-
 each_entry : (P : Thread → Type 0) (es : List (ℕ × Thread)) → T (is_sorted nat_cmp es) → ((q : ℕ) → IfSome (find nat_cmp q es) P) →
     AllByRecursion (λ e. P e.1) es
 each_entry P [] sorted h = tt
 each_entry P (e ∷ es) sorted h = (
   here (nat_cmp e.0 e.0) (ranks e.0 e.0) (h e.0),
-  each_entry P es (right _ _ sorted) (λ q. later q (nat_cmp q e.0) (ranks q e.0) (h q)),
+  each_entry P es (both_hold _ _ sorted).1 (λ q. later q (nat_cmp q e.0) (ranks q e.0) (h q)),
 ) where
   here : (o : Ordering) → MatchOrdering o (e.0 < e.0) (e.0 ≡ e.0) (e.0 < e.0) → IfSome (cond (is_eq o) (Some e.1) (find nat_cmp e.0 es)) P →
       P e.1
@@ -216,7 +192,8 @@ each_entry P (e ∷ es) sorted h = (
   later : (q : ℕ) (o : Ordering) → MatchOrdering o (q < e.0) (q ≡ e.0) (e.0 < q) →
       IfSome (cond (is_eq o) (Some e.1) (find nat_cmp q es)) P → IfSome (find nat_cmp q es) P
   later q Less r p = p
-  later q Equal r p = subst (λ (o : Option Thread). IfSome o P) (sym (none_behind q e.0 es r (left _ _ sorted))) tt
+  later q Equal r p = subst (λ (o : Option Thread). IfSome o P)
+      (sym (ap (λ k. find nat_cmp k es) r ∙ none_below e.0 es (both_hold _ _ sorted).0)) tt
   later q Greater r p = p
 
 full_thread : (o : Option Thread) → IfSome o IsThread → IfSome o (λ t. length t.regs.registers ≡ 32)

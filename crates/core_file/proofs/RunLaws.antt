@@ -79,60 +79,63 @@ higher_rest m n first (r ∷ rs) low under h =
 
 begun_below : (m : Memory) (n flags before : ℕ) (blank : Bool) → is_blank m n ≡ blank → flags_at m n ≡ Some flags →
     ((p : ℕ) → p + 1 ≡ n → flags_at m p ≢ Some flags) → IsRunBelow m (suc n) (begun n flags blank before)
-begun_below m n flags before true is has low = record {
+begun_below m n flags before blank is has low = record {
   some = omega arith;
-  alike = begun_alike m n flags before true has;
+  alike = begun_alike m n flags before blank has;
   below = low;
   above = λ l. absurd (omega (arith, l));
   high = omega arith;
-  filled = omega arith;
-  last = λ k e. absurd (omega (arith, e));
-  blank = λ k from to. let here : n + k ≡ n = omega (arith, to) in ap (is_blank m) here ∙ is;
-}
-begun_below m n flags before false is has low = record {
-  some = omega arith;
-  alike = begun_alike m n flags before false has;
-  below = low;
-  above = λ l. absurd (omega (arith, l));
-  high = omega arith;
-  filled = omega arith;
-  last = λ k e. let here : n + k ≡ n = omega (arith, e) in ap (is_blank m) here ∙ is;
-  blank = λ k from to. absurd (omega (arith, from, to));
-}
+  filled = filled blank;
+  last = last blank is;
+  blank = behind blank is;
+} where
+  filled : (b : Bool) → (begun n flags b before).filled ≤ 1
+  filled true = omega arith
+  filled false = omega arith
+
+  last : (b : Bool) → is_blank m n ≡ b → (k : ℕ) → k + 1 ≡ (begun n flags b before).filled → is_blank m (n + k) ≡ false
+  last true is k e = absurd (omega (arith, e))
+  last false is k e = let here : n + k ≡ n = omega (arith, e) in ap (is_blank m) here ∙ is
+
+  behind : (b : Bool) → is_blank m n ≡ b → (k : ℕ) → (begun n flags b before).filled ≤ k → k < 1 → is_blank m (n + k) ≡ true
+  behind true is k from to = let here : n + k ≡ n = omega (arith, to) in ap (is_blank m) here ∙ is
+  behind false is k from to = absurd (omega (arith, from, to))
 
 longer_below : (m : Memory) (n flags : ℕ) (blank : Bool) (r : Run) → is_blank m n ≡ blank → flags_at m n ≡ Some flags →
     continues n flags r ≡ true →
     IsRunBelow m n r → IsRunBelow m (suc n) (longer blank r)
-longer_below m n flags true r is has next f =
-    let place = eqb-true n (r.first + r.pages) (front (n == r.first + r.pages) (flags == r.flags) next) in record {
-      some = omega arith;
-      alike = longer_alike m n flags true r has next f.alike;
-      below = f.below;
-      above = λ l. absurd (omega (arith, l, place));
-      high = omega (arith, place);
-      filled = omega (arith, f.filled);
-      last = f.last;
-      blank = λ k from to. by k (nat_lt k r.pages) refl from to place;
-    }
-  where
-    by : (k : ℕ) (b : Bool) → nat_lt k r.pages ≡ b → r.filled ≤ k → k < r.pages + 1 → n ≡ r.first + r.pages →
-        is_blank m (r.first + k) ≡ true
-    by k true e from to place = f.blank k from (ltb-true k r.pages e)
-    by k false e from to place =
-        let not_low = ltb-false k r.pages e in
-        let here : r.first + k ≡ n = omega (arith, not_low, to, place) in
-        ap (is_blank m) here ∙ is
-longer_below m n flags false r is has next f =
-    let place = eqb-true n (r.first + r.pages) (front (n == r.first + r.pages) (flags == r.flags) next) in record {
-      some = omega arith;
-      alike = longer_alike m n flags false r has next f.alike;
-      below = f.below;
-      above = λ l. absurd (omega (arith, l, place));
-      high = omega (arith, place);
-      filled = omega arith;
-      last = λ k e. let here : r.first + k ≡ n = omega (arith, e, place) in ap (is_blank m) here ∙ is;
-      blank = λ k from to. absurd (omega (arith, from, to));
-    }
+longer_below m n flags blank r is has next f = record {
+  some = omega arith;
+  alike = longer_alike m n flags blank r has next f.alike;
+  below = f.below;
+  above = λ l. absurd (omega (arith, l, place));
+  high = omega (arith, place);
+  filled = filled blank;
+  last = last blank is;
+  blank = behind blank is;
+} where
+  place : n ≡ r.first + r.pages
+  place = eqb-true n (r.first + r.pages) (front (n == r.first + r.pages) (flags == r.flags) next)
+
+  filled : (b : Bool) → (longer b r).filled ≤ r.pages + 1
+  filled true = omega (arith, f.filled)
+  filled false = omega arith
+
+  last : (b : Bool) → is_blank m n ≡ b → (k : ℕ) → k + 1 ≡ (longer b r).filled → is_blank m (r.first + k) ≡ false
+  last true is k e = f.last k e
+  last false is k e = let here : r.first + k ≡ n = omega (arith, e, place) in ap (is_blank m) here ∙ is
+
+  among : (k : ℕ) (low : Bool) → nat_lt k r.pages ≡ low → is_blank m n ≡ true → r.filled ≤ k → k < r.pages + 1 →
+      is_blank m (r.first + k) ≡ true
+  among k true e is from to = f.blank k from (ltb-true k r.pages e)
+  among k false e is from to =
+      let not_low = ltb-false k r.pages e in
+      let here : r.first + k ≡ n = omega (arith, not_low, to, place) in
+      ap (is_blank m) here ∙ is
+
+  behind : (b : Bool) → is_blank m n ≡ b → (k : ℕ) → (longer b r).filled ≤ k → k < r.pages + 1 → is_blank m (r.first + k) ≡ true
+  behind true is k from to = among k (nat_lt k r.pages) refl is from to
+  behind false is k from to = absurd (omega (arith, from, to))
 
 -- ---- the runs with page n
 

@@ -10,6 +10,7 @@ use Rattle.rrv_model.specs.declared.limits.TheConstants.{MAX_PAGES}
 use Rattle.rrv_model.specs.Memory.{Memory, Cell, is_mapped, page_bytes, page_count, pages_below}
 use Rattle.outcomes.proofs.Lists.{AllByRecursion-push, AllByRecursion-weaker}
 use Rattle.rrv_model.specs.RecordText.{permissions_byte}
+use Rattle.rrv_model.proofs.PageCounts.{pages_skip}
 use Rattle.guest_pages.specs.declared.page.PageView.{PageView}
 use Rattle.guest_pages.specs.Snapshots.{IsNextPage, IsPageOf}
 use Rattle.core_file.specs.declared.runs.Run.{Run}
@@ -145,11 +146,8 @@ no_page m n (Some c) rs e = absurd (false≢true (sym e))
 runs_skip : (m : Memory) (least d n : ℕ) → n ≡ least + d → ((q : ℕ) → least ≤ q → q < n → is_mapped m q ≡ false) →
     runs_below n m ≡ runs_below least m
 unfolding runs_below
-runs_skip m least zero n e free = let same : n ≡ least = omega (arith, e) in ap (λ (k : ℕ). runs_below k m) same
-runs_skip m least (suc d) zero e free = absurd (omega (arith, e))
-runs_skip m least (suc d) (suc n) e free =
-    no_page m n (m (n * page_bytes)) (runs_below n m) (free n (omega (arith, e)) (omega arith))
-    ∙ runs_skip m least d n (omega (arith, e)) (λ q from below. free q from (omega (arith, below)))
+runs_skip m least d n =
+    pages_skip (λ (k : ℕ). runs_below k m) m (λ q none. no_page m q (m (q * page_bytes)) (runs_below q m) none) least d n
 
 cell_of_view : (m : Memory) (n : ℕ) (v : PageView) (rs : List Run) → length v.bytes.now ≡ page_bytes → IsPageOf m n (Some v) →
     with_cell m n (m (n * page_bytes)) rs ≡ with_page n (permissions_byte (Some v.permissions)) (list_all (λ b. b == 0) v.bytes.now) rs

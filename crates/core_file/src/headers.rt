@@ -6,7 +6,7 @@ ghost use Rattle.core_file.specs.Core.{headers_text, load_header, note_header, n
 ghost use Rattle.core_file.specs.Runs.{Fits};
 
 use crate::counts::Counts;
-use crate::numbers::{put_half, put_number, put_zeros};
+use crate::numbers::{put_half, put_numbers, put_zeros};
 use crate::runs::Run;
 use rrv_model::limits::PAGE_BYTES;
 use std::alloc::AllocError;
@@ -72,11 +72,7 @@ fn put_file_fields(out: &mut Vec<u8>) -> Result<(), AllocError>
 {
     put_half(out, ET_CORE)?;
     put_half(out, EM_RISCV)?;
-    put_number(out, EV_CURRENT)?;
-    put_number(out, 0)?;
-    put_number(out, FILE_HEADER_BYTES)?;
-    put_number(out, 0)?;
-    put_number(out, 0)
+    put_numbers(out, &[EV_CURRENT, 0, FILE_HEADER_BYTES, 0, 0])
 }
 
 /// From `e_ehsize` to `e_shstrndx`.
@@ -96,14 +92,19 @@ fn put_table_fields(out: &mut Vec<u8>, headers: u16) -> Result<(), AllocError>
 fn put_header(out: &mut Vec<u8>, header: &ProgramHeader) -> Result<(), AllocError>
     ensures { OnOk result (out.new.items ≡ out.old.items ++ header_text header.now) }
 {
-    put_number(out, header.kind)?;
-    put_number(out, header.offset)?;
-    put_number(out, header.address)?;
-    put_number(out, 0)?;
-    put_number(out, header.file_len)?;
-    put_number(out, header.memory_len)?;
-    put_number(out, header.flags)?;
-    put_number(out, header.align)
+    put_numbers(
+        out,
+        &[
+            header.kind,
+            header.offset,
+            header.address,
+            0,
+            header.file_len,
+            header.memory_len,
+            header.flags,
+            header.align,
+        ],
+    )
 }
 
 /// Where the notes begin, in bytes.

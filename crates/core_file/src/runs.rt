@@ -2,12 +2,12 @@
 
 ghost use Rattle.std.specs.Prelude.{◌≡◌, ◌+◌, ◌<◌, ◌^◌, ◌==◌, Some, length, reverse, IfOk, OnOk, All, ◌≤◌};
 ghost use Rattle.std.specs.List.{list_all};
-ghost use Rattle.rrv_model.specs.RecordText.{bit, permissions_byte};
+ghost use Rattle.rrv_model.specs.RecordText.{permissions_byte};
 ghost use Rattle.rrv_model.specs.Memory.{page_bytes};
 ghost use Rattle.guest_pages.specs.Space.{memory_of};
 ghost use Rattle.core_file.specs.Runs.{begun, continues, longer, runs_of, with_page, Fits};
 
-use guest_pages::Space;
+use guest_pages::{Space, permissions_byte};
 use lane_pages::is_zero;
 use rrv_model::machine::Permissions;
 use rrv_model::refusal::Memory;
@@ -110,12 +110,5 @@ fn is_blank(bytes: &[u8; 4096]) -> bool
 fn flags_of(permissions: Permissions) -> u32
     ensures { result ≡ permissions_byte (Some permissions) }
 {
-    bit(permissions.execute, 1) + bit(permissions.write, 2) + bit(permissions.read, 4)
-}
-
-/// A number where a bit is set, else 0.
-fn bit(is_set: bool, value: u32) -> u32
-    ensures { result ≡ bit is_set value }
-{
-    if is_set { value } else { 0 }
+    u32::from(permissions_byte(permissions))
 }

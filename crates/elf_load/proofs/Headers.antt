@@ -6,7 +6,8 @@ use Rattle.std.specs.Prelude.{fold, filter, ◌&&◌, ◌||◌}
 use Rattle.std.proofs.lemmas.List.Folds.{list_any_at}
 use Rattle.rrv_model.specs.Elf.{Header, header_at, headers_from, elf_phoff, is_load}
 use Rattle.rrv_model.specs.Opening.{headers_address}
-use Rattle.elf_load.specs.Refusals.{holds_headers, higher_end}
+use Rattle.elf_load.specs.declared.header.LoadTest.{LoadTest}
+use Rattle.elf_load.specs.Refusals.{holds_headers, higher_end, load_test}
 
 -- the header at index i, and those behind it
 pub headers_from-step : (file : List ℕ) (p n i : ℕ) → i < n →
@@ -67,10 +68,10 @@ any_load-first p h hs = by_kind (is_load h) where
   by_kind false = refl
 
 -- some PT_LOAD from index i on passes the test: that header, or one behind it
-pub any_load-step : (p : Header → Bool) (file : List ℕ) (place n i : ℕ) → i < n →
-    list_any p (filter is_load (headers_from file (place + 32 * i) (n - i)))
-    ≡ ((is_load (header_at file (place + 32 * i)) && p (header_at file (place + 32 * i)))
-    || list_any p (filter is_load (headers_from file (place + 32 * (i + 1)) (n - (i + 1)))))
-any_load-step p file place n i h =
-    ap (λ (hs : List Header). list_any p (filter is_load hs)) (headers_from-step file place n i h)
-    ∙ any_load-first p (header_at file (place + 32 * i)) (headers_from file (place + 32 * (i + 1)) (n - (i + 1)))
+pub any_load-step : (test : LoadTest) (file : List ℕ) (place n i : ℕ) → i < n →
+    list_any (load_test test file) (filter is_load (headers_from file (place + 32 * i) (n - i)))
+    ≡ ((is_load (header_at file (place + 32 * i)) && load_test test file (header_at file (place + 32 * i)))
+    || list_any (load_test test file) (filter is_load (headers_from file (place + 32 * (i + 1)) (n - (i + 1)))))
+any_load-step test file place n i h =
+    ap (λ (hs : List Header). list_any (load_test test file) (filter is_load hs)) (headers_from-step file place n i h)
+    ∙ any_load-first (load_test test file) (header_at file (place + 32 * i)) (headers_from file (place + 32 * (i + 1)) (n - (i + 1)))

@@ -102,11 +102,12 @@ wait_line tid (Some address) =
 
 -- ---- any end
 
+-- where a frame of no thread ended the guest, each thread that waits
 abbrev pub lines_of : Option GuestEnd → (place last : ℕ) → State → List ℕ
 lines_of None place last s = []
 lines_of (Some (guest_ends.Exited status)) place last s = exit_line place last
 lines_of (Some (guest_ends.Faulted kind)) place last s = fault_line kind place last s
-lines_of (Some guest_ends.Stuck) place last s = flat_map (λ e. wait_line e.0 e.1.waits_at) (entries s.threads)
+lines_of (Some _) place last s = flat_map (λ e. wait_line e.0 e.1.waits_at) (entries s.threads)
 
 -- of a state behind so many instructions, where the thread of this tid ran last
 abbrev pub end_lines : (place last : ℕ) → State → List ℕ

@@ -14,8 +14,8 @@ use std::fmt;
 use trace_text::{ThreadText, fault_name, write_each, write_word};
 
 /// The lines that tell how a guest ended behind so many instructions, each with its newline. A fault: its kind, the
-/// thread that ran last, its instruction and the address of the fault. A stuck guest: where each thread waits, by
-/// rising tid. An exit: the thread. A guest that has not ended: none.
+/// thread that ran last, its instruction and the address of the fault. An exit: the thread. An end for want of a thread that
+/// runs: where each thread waits, by rising tid. A guest that has not ended: none.
 #[derive(Drop)]
 pub struct EndLines<'a> {
     guest: &'a Guest,
@@ -45,7 +45,7 @@ impl<'a> fmt::Display for EndLines<'a> {
             Some(GuestEnd::Faulted(kind)) => {
                 write_fault(f, self.guest, kind, self.place, self.last)
             }
-            Some(GuestEnd::Stuck) => write_each::<Wait, W>(f, self.guest.threads()),
+            Some(_) => write_each::<Wait, W>(f, self.guest.threads()),
         }
     }
 }

@@ -1,7 +1,6 @@
 //! The instruction that faulted, and the address of its fault.
 
-ghost use Rattle.std.specs.Prelude.{◌≡◌, ◌<◌};
-ghost use Rattle.std.specs.Option.{option_map};
+ghost use Rattle.std.specs.Prelude.{◌≡◌};
 ghost use Rattle.rrv_model.specs.State.{register, AreRegs};
 ghost use Rattle.rrv_model.specs.WordReader.{read};
 ghost use Rattle.rrv_model.specs.Words.{plus};
@@ -21,22 +20,11 @@ pub(crate) fn mapped_word(space: &Space, address: u32) -> Option<u32>
     ensures { result ≡ ends.mapped_word (memory_of space.now) address }
 {
     let start = u64::from(address);
-    let first = byte_at(space, start)?;
-    let second = byte_at(space, start + 1)?;
-    let third = byte_at(space, start + 2)?;
-    let fourth = byte_at(space, start + 3)?;
+    let first = space.byte(start)?;
+    let second = space.byte(start + 1)?;
+    let third = space.byte(start + 2)?;
+    let fourth = space.byte(start + 3)?;
     Some(u32::from_le_bytes([first, second, third, fourth]))
-}
-
-/// The byte at an address, if one is mapped there.
-fn byte_at(space: &Space, address: u64) -> Option<u8>
-    requires { address < 17179869184 }
-    ensures { result ≡ option_map (λ c. c.byte) (memory_of space.now address) }
-{
-    match space.page((address / 4096) as u32) {
-        Some(view) => Some(view.bytes[(address % 4096) as usize]),
-        None => None,
-    }
 }
 
 /// The instruction that a word stands for, if there is a word and it stands for one.

@@ -1,5 +1,5 @@
 -- What a call leaves, by its row.
-use Rattle.std.specs.Prelude.{◌≡◌, ◌*◌, ℕ, List, [], ◌∷◌, Result, IfOk, OnErr}
+use Rattle.std.specs.Prelude.{◌≡◌, ◌*◌, ℕ, List, [], ◌∷◌, Result, IfOk, OnErr, OnOk}
 use Rattle.rrv_model.specs.declared.machine.Permissions.{Permissions}
 use Rattle.rrv_model.specs.declared.machine.Thread.{Thread}
 use Rattle.rrv_model.specs.declared.record.CallRecord.{CallRecord}
@@ -20,6 +20,17 @@ pub record KeepsRest (old new : GuestValue) : Type 0 where
   pub ran_before_call : new.ran_before_call ≡ old.ran_before_call
   pub snapshots : snapshots_of new.space ≡ snapshots_of old.space
 
+-- a guest's state is this now, and its counters and snapshots are as before
+pub record Becomes (after : State) (old new : GuestValue) : Type 0 where
+  pub state : state_of new ≡ after
+  pub keeps : KeepsRest old new
+
+-- so it is unless the change is refused, which changes nothing
+pub record BecomesOrStays {T E : Type 0} (result : Result T E) (after : State) (old new : GuestValue) : Type 0 where
+  pub state : OnOk result (state_of new ≡ after)
+  pub refused : OnErr result (new ≡ old)
+  pub keeps : KeepsRest old new
+
 -- the row, which asks nothing, leads from one state to the next, with this record
 pub record Carries (row : Row) (tid : ℕ) (old : State) (r : CallRecord) (new : State) : Type 0 where
   pub records : HasRecord row Silence r
@@ -32,6 +43,14 @@ pub record Makes (row : Row) (chunks : List Chunk) (tid : ℕ)
   pub text : HasCallText r
   pub puts : chunks_of new.put ≡ chunks
   pub keeps : KeepsRest old new
+
+-- what a call that asks nothing comes to, by its row and by what it puts out with a result; or it finds no memory, where it
+-- may take some, and nothing has changed
+pub record MakesOrStays (row : Row) (puts : ℕ → List Chunk) (MayTakeMemory : Type 0) (tid : ℕ)
+    (old : GuestValue) (result : Result CallRecord Memory) (new : GuestValue) : Type 0 where
+  pub makes : IfOk result (λ r. Makes row (puts r.result) tid old r new)
+  pub memory : OnErr result MayTakeMemory
+  pub refused : OnErr result (new ≡ old)
 
 -- an exit that clears a word and wakes a thread
 abbrev pub clearing_row : (clear tid status : ℕ) → Row

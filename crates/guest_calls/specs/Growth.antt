@@ -1,5 +1,5 @@
--- Which calls may take memory.
-use Rattle.std.specs.Prelude.{◌≡◌, ℕ, ◌-◌, ◌*◌, ◌/◌, ◌%◌, ◌^◌, ◌<◌, ◌≤◌, IsTrue, Option, Some, None}
+-- Which calls may take memory, and which ask the outside.
+use Rattle.std.specs.Prelude.{◌≡◌, ◌≢◌, ℕ, ◌-◌, ◌*◌, ◌/◌, ◌%◌, ◌^◌, ◌<◌, ◌≤◌, IsTrue, Option, Some, None}
 use Rattle.rrv_model.specs.declared.machine.Thread.{Thread}
 use Rattle.rrv_model.specs.Memory.{readable, pages_for}
 use Rattle.rrv_model.specs.State.{State, register}
@@ -68,3 +68,9 @@ MayGrow _ tid s t = ⊥
 abbrev pub CallMayGrow : State → ℕ → Option Thread → Type 0
 CallMayGrow s tid None = ⊥
 CallMayGrow s tid (Some t) = MayGrow (syscall_of (register t.regs 17)) tid s t
+
+-- the call asks nobody
+pub record IsQuiet (call : Syscall) : Type 0 where
+  pub not_read : call ≢ calls.Read
+  pub not_getrandom : call ≢ calls.Getrandom
+  pub not_clock_gettime : call ≢ calls.ClockGettime

@@ -2,7 +2,6 @@
 use Rattle.std.specs.Prelude.{ℕ, ◌+◌, ◌^◌, ◌-◌, min, List, [], ◌∷◌, Option, Some, None}
 use Rattle.rrv_model.specs.declared.machine.GuestEnd.{GuestEnd}
 use Rattle.rrv_model.specs.State.{State, thread_at, IsRunning}
-use Rattle.rrv_model.specs.FrameStep.{closed, closed_at_end}
 use Rattle.rrv_model.specs.Output.{Chunk}
 use Rattle.guest_pages.specs.Space.{SpaceValue, memory_of}
 use Rattle.guest_calls.specs.declared.put.Put.{Put}
@@ -44,11 +43,6 @@ counted ran steps = min (ran + steps) (2 ^ 64 - 1)
 abbrev pub chunks_of : Option Put → List Chunk
 chunks_of None = []
 chunks_of (Some p) = record { descriptor = p.descriptor; bytes = p.bytes } ∷ []
-
--- the end of a slice, which may end the guest
-abbrev pub closed_by : Option GuestEnd → State → State
-closed_by None s = closed s
-closed_by (Some end) s = closed_at_end end s
 
 -- some thread runs
 abbrev pub HasRunning : State → Type 0

@@ -1,9 +1,7 @@
 -- What a call asks of the outside, and the rows that ask so.
-use Rattle.std.specs.Prelude.{◌≡◌, ◌≢◌, ℕ, ◌≤◌, ◌==◌, if◌then◌else◌, not, List, Result, Ok, Err, length}
+use Rattle.std.specs.Prelude.{◌≡◌, ℕ, ◌≤◌, ◌==◌, if◌then◌else◌, not, List, Result, Ok, Err, length}
 use Rattle.rrv_model.specs.declared.limits.TheConstants.{MAX_TRANSFER}
 use Rattle.rrv_model.specs.declared.machine.Thread.{Thread}
-use Rattle.rrv_model.specs.declared.syscall.Syscall.{Syscall}
-use Rattle.rrv_model.specs.declared.syscall.Syscall.TheVariants as calls
 use Rattle.rrv_model.specs.Memory.{writable}
 use Rattle.rrv_model.specs.State.{State}
 use Rattle.rrv_model.specs.CallRows.{Row, AsksInput, AsksRandom, AsksTime, argument, fails, only_returns}
@@ -67,9 +65,3 @@ Takes gives wants.Random room value bytes before after =
     (value ≡ room) × (length bytes ≡ room) × gives before (Random room) (Bytes bytes) after
 Takes gives (wants.Moment clock) room value bytes before after =
     (value ≡ 0) × (length bytes ≡ room) × TellsMoment gives clock bytes before after
-
--- the call asks nobody
-pub record IsQuiet (call : Syscall) : Type 0 where
-  pub not_read : call ≢ calls.Read
-  pub not_getrandom : call ≢ calls.Getrandom
-  pub not_clock_gettime : call ≢ calls.ClockGettime

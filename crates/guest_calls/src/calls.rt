@@ -12,9 +12,8 @@ ghost use Rattle.rrv_model.specs.RecordText.{HasCallText};
 ghost use Rattle.rrv_model.specs.Output.{puts, put_out, put_out_by};
 ghost use Rattle.guest_calls.specs.Guest.{state_of, chunks_of};
 ghost use Rattle.guest_calls.specs.Asking.{CallAsks, CallIsAnswered};
-ghost use Rattle.guest_calls.specs.Carries.{CallDoes, ComesTo, KeepsRest, Makes, clearing_row};
-ghost use Rattle.guest_calls.specs.Growth.{CallMayGrow, MayGrow, PutsBytes};
-ghost use Rattle.guest_calls.specs.Requests.{IsQuiet};
+ghost use Rattle.guest_calls.specs.Carries.{CallDoes, ComesTo, KeepsRest, Makes, MakesOrStays, clearing_row};
+ghost use Rattle.guest_calls.specs.Growth.{CallMayGrow, IsQuiet, MayGrow, PutsBytes};
 
 use crate::guest::Guest;
 use crate::outside::Outside;
@@ -173,10 +172,9 @@ impl Guest {
         requires running { thread.now.waits_at ≡ None }
         requires fits { IsThread thread.now }
         requires quiet { IsQuiet call }
-        ensures makes { IfOk result (λ r. Makes (row_of call tid (state_of self.old) thread.now)
-            (puts call (state_of self.old).memory thread.now r.result) tid self.old r self.new) }
-        ensures memory { OnErr result (MayGrow call tid (state_of self.old) thread.now) }
-        ensures refused { OnErr result (self.new ≡ self.old) }
+        ensures { MakesOrStays (row_of call tid (state_of self.old) thread.now)
+            (puts call (state_of self.old).memory thread.now)
+            (MayGrow call tid (state_of self.old) thread.now) tid self.old result self.new }
     {
         match call {
             Syscall::Write => self.write(alloc, tid, thread),
@@ -226,10 +224,9 @@ impl Guest {
 
     /// write(fd, buf, len)
     fn write(&mut self, alloc: Global, tid: u32, thread: &Thread) -> CallResult
-        ensures makes { IfOk result (λ r. Makes (write_row (state_of self.old) thread.now)
-            (puts Write (state_of self.old).memory thread.now r.result) tid self.old r self.new) }
-        ensures memory { OnErr result (PutsBytes (state_of self.old) thread.now) }
-        ensures refused { OnErr result (self.new ≡ self.old) }
+        ensures { MakesOrStays (write_row (state_of self.old) thread.now)
+            (puts Write (state_of self.old).memory thread.now)
+            (PutsBytes (state_of self.old) thread.now) tid self.old result self.new }
     {
         let descriptor = thread.regs.registers[10];
         let address = thread.regs.registers[11];
@@ -252,10 +249,8 @@ impl Guest {
     /// exit(status)
     fn exit(&mut self, alloc: Global, tid: u32, thread: &Thread) -> CallResult
         requires { IsRunning (thread_at (state_of self.old) tid) }
-        ensures makes { IfOk result (λ r.
-            Makes (exit_row tid (state_of self.old) thread.now) [] tid self.old r self.new) }
-        ensures memory { OnErr result (IsTrue (clears (state_of self.old) thread.now)) }
-        ensures refused { OnErr result (self.new ≡ self.old) }
+        ensures { MakesOrStays (exit_row tid (state_of self.old) thread.now) (λ _. [])
+            (IsTrue (clears (state_of self.old) thread.now)) tid self.old result self.new }
     {
         let status = thread.regs.registers[10];
         if self.clears(thread) {

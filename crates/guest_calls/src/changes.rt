@@ -1,13 +1,13 @@
 //! Small changes of a guest's state.
 
-ghost use Rattle.std.specs.Prelude.{◌≡◌, ◌≤◌, ◌<◌, OnOk, OnErr, IsTrue, length};
+ghost use Rattle.std.specs.Prelude.{◌≡◌, ◌≤◌, ◌<◌, IsTrue, length};
 ghost use Rattle.std.specs.Int.{w32, to_le_bytes};
 ghost use Rattle.rrv_model.specs.Memory.{writable, stored};
 ghost use Rattle.rrv_model.specs.State.{thread_at, with_register, AreRegs, IsRunning};
 ghost use Rattle.rrv_model.specs.CallRows.{change_thread, waiters, waits, wakes, leaves, clears, ends, with_memory};
 ghost use Rattle.rrv_model.specs.Calls.{results};
 ghost use Rattle.guest_calls.specs.Guest.{state_of};
-ghost use Rattle.guest_calls.specs.Carries.{KeepsRest};
+ghost use Rattle.guest_calls.specs.Carries.{Becomes, BecomesOrStays};
 
 use crate::guest::Guest;
 use guest_pages::AddressSpace;
@@ -32,8 +32,7 @@ pub(crate) fn with_register(regs: Regs, register: usize, value: u32) -> Regs
 impl Guest {
     /// Puts a call's result into a0.
     pub(crate) fn set_result(&mut self, tid: u32, value: u32)
-        ensures state { state_of self.new ≡ results tid value (state_of self.old) }
-        ensures keeps { KeepsRest self.old self.new }
+        ensures { Becomes (results tid value (state_of self.old)) self.old self.new }
     {
         if let Some(thread) = self.threads.get(tid) {
             self.threads
@@ -43,8 +42,7 @@ impl Guest {
 
     /// Sets the clear address.
     pub(crate) fn set_clear(&mut self, tid: u32, address: u32)
-        ensures state { state_of self.new ≡ change_thread tid (λ t. record t { clear = address }) (state_of self.old) }
-        ensures keeps { KeepsRest self.old self.new }
+        ensures { Becomes (change_thread tid (λ t. record t { clear = address }) (state_of self.old)) self.old self.new }
     {
         self.threads.set_clear(tid, address);
     }
@@ -59,10 +57,9 @@ impl Guest {
     /// Clears a word.
     pub(crate) fn clear_word(&mut self, address: u32) -> Result<(), Memory>
         requires { IsTrue (writable (state_of self.old).memory address 4) }
-        ensures state { OnOk result (state_of self.new
-            ≡ with_memory (stored address (to_le_bytes w32 0) (state_of self.old).memory) (state_of self.old)) }
-        ensures keeps { KeepsRest self.old self.new }
-        ensures refused { OnErr result (self.new ≡ self.old) }
+        ensures { BecomesOrStays result
+            (with_memory (stored address (to_le_bytes w32 0) (state_of self.old).memory) (state_of self.old))
+            self.old self.new }
     {
         match self.space.store_word(address, 0) {
             Ok(()) => Ok(()),
@@ -73,9 +70,7 @@ impl Guest {
     /// A running thread waits at an address, last in the waiting order.
     pub(crate) fn wait(&mut self, tid: u32, address: u32) -> Result<(), Memory>
         requires { IsRunning (thread_at (state_of self.old) tid) }
-        ensures state { OnOk result (state_of self.new ≡ waits tid address (state_of self.old)) }
-        ensures refused { OnErr result (self.new ≡ self.old) }
-        ensures keeps { KeepsRest self.old self.new }
+        ensures { BecomesOrStays result (waits tid address (state_of self.old)) self.old self.new }
     {
         let Ok(()) = self.threads.wait(tid, address) else {
             return Err(Memory);
@@ -86,16 +81,14 @@ impl Guest {
     /// Wakes the first count threads that wait at an address, in the waiting order, and answers how many it woke.
     pub(crate) fn wake(&mut self, address: u32, count: u32) -> u32
         ensures count { result ≡ length (waiters (state_of self.old) address count) }
-        ensures state { state_of self.new ≡ wakes address count (state_of self.old) }
-        ensures keeps { KeepsRest self.old self.new }
+        ensures wakes { Becomes (wakes address count (state_of self.old)) self.old self.new }
     {
         self.threads.wake(address, count)
     }
 
     /// Ends the guest.
     pub(crate) fn end(&mut self, status: u32)
-        ensures state { state_of self.new ≡ ends status (state_of self.old) }
-        ensures keeps { KeepsRest self.old self.new }
+        ensures { Becomes (ends status (state_of self.old)) self.old self.new }
     {
         self.ended = Some(GuestEnd::Exited((status % 256) as u8));
     }
@@ -103,8 +96,7 @@ impl Guest {
     /// A running thread leaves; the last one ends the guest.
     pub(crate) fn leave(&mut self, tid: u32, status: u32)
         requires { IsRunning (thread_at (state_of self.old) tid) }
-        ensures state { state_of self.new ≡ leaves tid status (state_of self.old) }
-        ensures keeps { KeepsRest self.old self.new }
+        ensures { Becomes (leaves tid status (state_of self.old)) self.old self.new }
     {
         let Ok(()) = self.threads.exit(tid) else {
             unreachable!();

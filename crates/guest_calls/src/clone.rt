@@ -1,6 +1,6 @@
 //! clone: a thread makes another one (Linux man pages, clone(2)).
 
-ghost use Rattle.std.specs.Prelude.{◌≡◌, ◌==◌, ◌∷◌, [], ◌≤◌, None, IfOk, OnOk, OnErr, true, false, length};
+ghost use Rattle.std.specs.Prelude.{◌≡◌, ◌==◌, ◌∷◌, [], ◌≤◌, None, IfOk, OnErr, true, false, length};
 ghost use Rattle.std.specs.Prelude.{if◌then◌else◌};
 ghost use Rattle.std.specs.Int.{w32, to_le_bytes};
 ghost use Rattle.std.specs.List.{AllByRecursion};
@@ -10,7 +10,7 @@ ghost use Rattle.rrv_model.specs.CallRows.{tid_places};
 ghost use Rattle.rrv_model.specs.RecordText.{HasCallText, HasWrittenText};
 ghost use Rattle.guest_threads.specs.Threads.{is_full, spawned, with_threads};
 ghost use Rattle.guest_calls.specs.Guest.{state_of};
-ghost use Rattle.guest_calls.specs.Carries.{KeepsRest, Makes};
+ghost use Rattle.guest_calls.specs.Carries.{BecomesOrStays, Makes, MakesOrStays};
 ghost use Rattle.guest_calls.specs.Clones.{MayHaveChild, makes_child, with_child_at, words_at};
 ghost use Rattle.guest_calls.specs.Growth.{Succeeds};
 
@@ -166,9 +166,8 @@ impl Guest {
     pub(crate) fn clone_thread(&mut self, alloc: Global, tid: u32, thread: &Thread) -> CallResult
         requires fits { IsThread thread.now }
         requires running { thread.now.waits_at ≡ None }
-        ensures makes { IfOk result (λ r. Makes (clone_row (state_of self.old) thread.now) [] tid self.old r self.new) }
-        ensures memory { OnErr result (Succeeds (clone_row (state_of self.old) thread.now)) }
-        ensures refused { OnErr result (self.new ≡ self.old) }
+        ensures { MakesOrStays (clone_row (state_of self.old) thread.now) (λ _. [])
+            (Succeeds (clone_row (state_of self.old) thread.now)) tid self.old result self.new }
     {
         if !are_clone_flags(thread.regs.registers[10]) {
             return Ok(self.answer(alloc, tid, failure(INVALID)));
@@ -214,12 +213,10 @@ impl Guest {
     /// a refusal leaves all as before.
     fn add_child(&mut self, alloc: Global, thread: &Thread, places: &[u32]) -> CallResult
         requires { MayHaveChild self.old thread.now places.now }
-        ensures state { OnOk result (state_of self.new ≡ with_child_at places.now thread.now (state_of self.old)) }
+        ensures child { BecomesOrStays result (with_child_at places.now thread.now (state_of self.old)) self.old self.new }
         ensures record_is { IfOk result (λ r. let tid = (state_of self.old).next_tid in
             r ≡ record { result = tid; written = words_at places.now tid }) }
         ensures text { IfOk result HasCallText }
-        ensures refused { OnErr result (self.new ≡ self.old) }
-        ensures keeps { KeepsRest self.old self.new }
     {
         let child = self.threads.next_tid();
         let written = written_words(alloc, places, child)?;

@@ -4,7 +4,7 @@ ghost use Rattle.std.specs.Prelude.{◌≡◌, ◌%◌, ◌/◌, ◌*◌, ◌-�
 ghost use Rattle.rrv_model.specs.State.{thread_at, IsRunning};
 ghost use Rattle.rrv_model.specs.CallRows.{Returns, futex_row, waiters, waits, wakes};
 ghost use Rattle.guest_calls.specs.Guest.{state_of};
-ghost use Rattle.guest_calls.specs.Carries.{Makes};
+ghost use Rattle.guest_calls.specs.Carries.{Makes, MakesOrStays};
 ghost use Rattle.guest_calls.specs.Growth.{BeginsWait};
 
 use crate::calls::{BAD_ADDRESS, CallResult, INVALID, NO_SUCH_CALL, TRY_AGAIN, failure};
@@ -29,10 +29,8 @@ impl Guest {
     /// futex(a, op, val, timeout)
     pub(crate) fn futex(&mut self, alloc: Global, tid: u32, thread: &Thread) -> CallResult
         requires { IsRunning (thread_at (state_of self.old) tid) }
-        ensures makes { IfOk result (λ r.
-            Makes (futex_row tid (state_of self.old) thread.now) [] tid self.old r self.new) }
-        ensures memory { OnErr result (BeginsWait tid (state_of self.old) thread.now) }
-        ensures refused { OnErr result (self.new ≡ self.old) }
+        ensures { MakesOrStays (futex_row tid (state_of self.old) thread.now) (λ _. [])
+            (BeginsWait tid (state_of self.old) thread.now) tid self.old result self.new }
     {
         let address = thread.regs.registers[10];
         let operation = operation_of(thread.regs.registers[11]);

@@ -71,7 +71,8 @@ impl Drop for Guest {
 }
 
 impl Guest {
-    ghost use Rattle.guest_calls.specs.Guest.{state_of, closed_by, HasRunning};
+    ghost use Rattle.rrv_model.specs.FrameStep.{closed_by};
+    ghost use Rattle.guest_calls.specs.Guest.{state_of, HasRunning};
 
     /// How the guest ended; None while it runs.
     pub fn ended(&self) -> Option<GuestEnd>

@@ -1,11 +1,10 @@
 //! A guest's calls that change its memory: brk, munmap, mmap and mprotect.
 
-ghost use Rattle.std.specs.Prelude.{◌≡◌, ◌&&◌, ◌||◌, ◌==◌, ◌%◌, ◌+◌, ◌-◌, ◌^◌, ◌≤◌, [], not, nat_lt, IfOk, IfSome};
-ghost use Rattle.std.specs.Prelude.{OnErr};
+ghost use Rattle.std.specs.Prelude.{◌≡◌, ◌&&◌, ◌||◌, ◌==◌, ◌%◌, ◌+◌, ◌-◌, ◌^◌, ◌≤◌, [], not, nat_lt, IfSome};
 ghost use Rattle.rrv_model.specs.Memory.{highest_free_up_to, page_bytes, pages_for};
 ghost use Rattle.rrv_model.specs.CallRows.{argument, has_flag, brk_row, munmap_row, mmap_row, mmap_place, mprotect_row};
 ghost use Rattle.guest_calls.specs.Guest.{state_of};
-ghost use Rattle.guest_calls.specs.Carries.{Makes};
+ghost use Rattle.guest_calls.specs.Carries.{Makes, MakesOrStays};
 ghost use Rattle.guest_calls.specs.Growth.{RaisesBreak, Succeeds};
 
 use crate::calls::{CallResult, INVALID, NO_MEMORY, failure};
@@ -51,9 +50,8 @@ fn is_mapping(thread: &Thread) -> bool
 impl Guest {
     /// brk(a)
     pub(crate) fn brk(&mut self, alloc: Global, tid: u32, thread: &Thread) -> CallResult
-        ensures makes { IfOk result (λ r. Makes (brk_row (state_of self.old) thread.now) [] tid self.old r self.new) }
-        ensures memory { OnErr result (RaisesBreak (state_of self.old) thread.now) }
-        ensures refused { OnErr result (self.new ≡ self.old) }
+        ensures { MakesOrStays (brk_row (state_of self.old) thread.now) (λ _. [])
+            (RaisesBreak (state_of self.old) thread.now) tid self.old result self.new }
     {
         let address = thread.regs.registers[10];
         if address < self.opening_break || HIGHEST_BREAK < address {
@@ -119,9 +117,8 @@ impl Guest {
 
     /// mmap(a, len, prot, flags, ..)
     pub(crate) fn mmap(&mut self, alloc: Global, tid: u32, thread: &Thread) -> CallResult
-        ensures makes { IfOk result (λ r. Makes (mmap_row (state_of self.old) thread.now) [] tid self.old r self.new) }
-        ensures memory { OnErr result (Succeeds (mmap_row (state_of self.old) thread.now)) }
-        ensures refused { OnErr result (self.new ≡ self.old) }
+        ensures { MakesOrStays (mmap_row (state_of self.old) thread.now) (λ _. [])
+            (Succeeds (mmap_row (state_of self.old) thread.now)) tid self.old result self.new }
     {
         if !is_mapping(thread) {
             return Ok(self.answer(alloc, tid, failure(INVALID)));

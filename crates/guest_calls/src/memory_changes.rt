@@ -5,7 +5,7 @@ ghost use Rattle.std.specs.Prelude.{IsFalse, IfOk, OnErr};
 ghost use Rattle.rrv_model.specs.Memory.{all_mapped, unmapped, protected, page_bytes, page_count, pages_for};
 ghost use Rattle.rrv_model.specs.CallRows.{page_limit, permissions_of, with_memory};
 ghost use Rattle.guest_calls.specs.Guest.{state_of};
-ghost use Rattle.guest_calls.specs.Carries.{KeepsRest, pages_mapped};
+ghost use Rattle.guest_calls.specs.Carries.{Becomes, KeepsRest, pages_mapped};
 
 use crate::guest::Guest;
 use guest_pages::{AddressSpace, PageFault};
@@ -66,9 +66,9 @@ impl Guest {
     /// Takes pages away.
     pub(crate) fn unmap_pages(&mut self, page: u32, count: u32)
         requires { page + count < 2 ^ 32 }
-        ensures state { state_of self.new ≡ with_memory
-            (unmapped (page * page_bytes) (count * page_bytes) (state_of self.old).memory) (state_of self.old) }
-        ensures keeps { KeepsRest self.old self.new }
+        ensures { Becomes
+            (with_memory (unmapped (page * page_bytes) (count * page_bytes) (state_of self.old).memory) (state_of self.old))
+            self.old self.new }
     {
         self.space.unmap(page, count);
     }
@@ -91,8 +91,7 @@ impl Guest {
     pub(crate) fn set_break(&mut self, address: u32)
         requires low { (state_of self.old).opening_break ≤ address }
         requires high { address ≤ 0x70000000 }
-        ensures state { state_of self.new ≡ record (state_of self.old) { program_break = address } }
-        ensures keeps { KeepsRest self.old self.new }
+        ensures { Becomes (record (state_of self.old) { program_break = address }) self.old self.new }
     {
         self.program_break = address;
     }

@@ -1,8 +1,10 @@
 //! Room for what the outside answers.
 
-ghost use Rattle.std.specs.Prelude.{◌≡◌, ◌≤◌, [], length, vec_len, vec_capacity, IfOk};
+ghost use Rattle.std.specs.Prelude.{◌≡◌, ◌≤◌, [], ◌++◌, length, vec_len, vec_capacity, IfOk};
+ghost use Rattle.std.specs.Int.{w64, to_le_bytes};
 ghost use Rattle.rrv_model.specs.declared.limits.TheConstants.{MAX_TRANSFER};
 ghost use Rattle.rrv_model.specs.CallRows.{range};
+ghost use Rattle.guest_calls.specs.Asking.{TellsMoment};
 ghost use Rattle.guest_calls.specs.Requests.{HasRoom, Takes};
 
 use crate::outside::Outside;
@@ -21,6 +23,15 @@ pub(crate) struct Room {
     ghost empty: { written.items ≡ [] },
     ghost none: { vec_len written ≡ 0 },
     ghost room: { vec_capacity written ≡ 1 },
+}
+
+/// Writes a moment as a guest has it in memory, each number with its low byte first.
+fn put_moment(into: &mut [u8], seconds: u64, nanoseconds: u32)
+    requires { length into.old ≡ 16 }
+    ensures { into.new ≡ to_le_bytes w64 seconds ++ to_le_bytes w64 nanoseconds }
+{
+    into[..8].copy_from_slice(&seconds.to_le_bytes());
+    into[8..].copy_from_slice(&u64::from(nanoseconds).to_le_bytes());
 }
 
 impl Room {
@@ -48,6 +59,36 @@ impl Room {
                 0
             }
         }
+    }
+
+    /// Takes as much input as there is room for, and answers how much it is.
+    fn take_input<O: Outside>(&mut self, outside: &mut O) -> u32
+        requires { length self.old.bytes.items ≤ MAX_TRANSFER }
+        ensures { Takes O.gives Wanted.Input (length self.old.bytes.items) result self.new.bytes.items
+            outside.old outside.new }
+    {
+        let len = outside.read(self.bytes.as_mut_slice());
+        self.bytes.truncate(len);
+        len as u32
+    }
+
+    /// Takes as many random bytes as there is room for, and answers how many they are.
+    fn take_random<O: Outside>(&mut self, outside: &mut O) -> u32
+        requires { length self.old.bytes.items ≤ MAX_TRANSFER }
+        ensures { Takes O.gives Wanted.Random (length self.old.bytes.items) result self.new.bytes.items
+            outside.old outside.new }
+    {
+        outside.random(self.bytes.as_mut_slice());
+        self.bytes.len() as u32
+    }
+
+    /// Takes the moment of a clock, for which there is room.
+    fn take_moment<O: Outside>(&mut self, clock: u32, outside: &mut O)
+        requires { length self.old.bytes.items ≡ 16 }
+        ensures { TellsMoment O.gives clock self.new.bytes.items outside.old outside.new }
+    {
+        let moment = outside.now(clock);
+        put_moment(self.bytes.as_mut_slice(), moment.0, moment.1);
     }
 
     /// What a call wrote that wrote these bytes. It takes no memory.

@@ -1,11 +1,9 @@
 //! writev: the buffers of a list, put out one behind another.
-
-ghost use Rattle.std.specs.Prelude.{◌≡◌, IfOk, OnErr};
 ghost use Rattle.rrv_model.specs.declared.syscall.Syscall.TheVariants.{Writev};
 ghost use Rattle.rrv_model.specs.CallRows.{writev_row};
 ghost use Rattle.rrv_model.specs.Output.{puts};
 ghost use Rattle.guest_calls.specs.Guest.{state_of};
-ghost use Rattle.guest_calls.specs.Carries.{Makes};
+ghost use Rattle.guest_calls.specs.Carries.{MakesOrStays};
 ghost use Rattle.guest_calls.specs.Growth.{ReadsBuffers};
 
 use crate::calls::{BAD_ADDRESS, BAD_DESCRIPTOR, CallResult, INVALID, failure, is_output, put_of};
@@ -24,10 +22,9 @@ const MAX_TOTAL: u64 = 0x7FFF_FFFF;
 impl Guest {
     /// writev(fd, iov, cnt)
     pub(crate) fn writev(&mut self, alloc: Global, tid: u32, thread: &Thread) -> CallResult
-        ensures makes { IfOk result (λ r. Makes (writev_row (state_of self.old) thread.now)
-            (puts Writev (state_of self.old).memory thread.now r.result) tid self.old r self.new) }
-        ensures memory { OnErr result (ReadsBuffers (state_of self.old) thread.now) }
-        ensures refused { OnErr result (self.new ≡ self.old) }
+        ensures { MakesOrStays (writev_row (state_of self.old) thread.now)
+            (puts Writev (state_of self.old).memory thread.now)
+            (ReadsBuffers (state_of self.old) thread.now) tid self.old result self.new }
     {
         let descriptor = thread.regs.registers[10];
         let address = thread.regs.registers[11];

@@ -84,12 +84,12 @@ fn status(trial: &Trial<'_>) -> Option<u32> {
 /// What is found.
 pub fn find(alloc: Global, trial: &mut Trial<'_>, asked: Asked) -> Result<Answer, Memory> {
     match asked {
-        Asked::Call(tid, number, arguments) => {
-            let result = trial.call(alloc, tid, number, arguments)?;
+        Asked::Call(call) => {
+            let result = trial.call(alloc, call)?;
             of_call(alloc, trial, result)
         }
-        Asked::CallUnder(next, tid, number, arguments) => {
-            let result = trial.call_under(alloc, next, tid, number, arguments)?;
+        Asked::CallUnder(next, call) => {
+            let result = trial.call_under(alloc, next, call)?;
             of_call(alloc, trial, result)
         }
         Asked::Answer(tid) => {

@@ -2,16 +2,16 @@
 
 use crate::names::number;
 use std::alloc::Global;
-use test_guests::trial::Question;
+use test_guests::trial::{Question, ThreadCall};
 
 /// What a line asks of a guest, or does with it. Each answer is a list of numbers, or none.
 #[derive(Clone, Copy, Debug, PartialEq, Eq)]
 pub enum Asked {
     /// A thread makes a call: its tid, the number, and a0 to a4. The answer is the result, and where the call wrote or put
     /// out something, how many ranges and how many bytes.
-    Call(u32, u32, [u32; 5]),
+    Call(ThreadCall),
     /// The same where this tid is the next one.
-    CallUnder(u32, u32, u32, [u32; 5]),
+    CallUnder(u32, ThreadCall),
     /// A thread makes the call that its instructions came to. The answer is as for the other calls.
     Answer(u32),
     /// A thread runs up to its call. The answer is how many instructions that took; none where it came to none.
@@ -108,13 +108,23 @@ fn arguments(numbers: &[u32]) -> Option<[u32; 5]> {
     Some(all)
 }
 
+/// The call of a tid, a number and arguments.
+fn call_of(numbers: &[u32]) -> Option<ThreadCall> {
+    let [tid, number, given @ ..] = numbers else {
+        return None;
+    };
+    Some(ThreadCall {
+        tid: *tid,
+        number: *number,
+        arguments: arguments(given)?,
+    })
+}
+
 /// What a name asks with its numbers.
 fn asked_of(name: &str, numbers: &[u32]) -> Option<Asked> {
     match (name, numbers) {
-        ("call", [tid, number, given @ ..]) => Some(Asked::Call(*tid, *number, arguments(given)?)),
-        ("call_under", [next, tid, number, given @ ..]) => {
-            Some(Asked::CallUnder(*next, *tid, *number, arguments(given)?))
-        }
+        ("call", given) => Some(Asked::Call(call_of(given)?)),
+        ("call_under", [next, given @ ..]) => Some(Asked::CallUnder(*next, call_of(given)?)),
         (_, []) => asked_alone(name),
         (_, [one]) => asked_of_one(name, *one),
         (_, [one, two]) => asked_of_two(name, *one, *two),

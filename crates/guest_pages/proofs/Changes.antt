@@ -1,5 +1,5 @@
 -- The pages on which two memories differ.
-use Rattle.std.proofs.Common.{refl, ◌≡◌, ◌≢◌, ◌⊎◌, ℕ, zero, suc, ◌+◌, ◌*◌, ◌%◌, ◌<◌, ◌≤◌, List, [], ◌∷◌, ◌++◌, length, Option, Some, None, IfSome, IsSomeAnd, is_some, ap, ◌∙◌, sym, subst, arith, slice_index, Contains, inl, inr, length-append}
+use Rattle.std.proofs.Common.{refl, ◌≡◌, ◌≢◌, ◌⊎◌, ℕ, zero, suc, ◌+◌, ◌*◌, ◌%◌, ◌<◌, ◌≤◌, List, [], ◌∷◌, ◌++◌, length, Option, Some, None, IfSome, IsSome, IsSomeAnd, is_some, ap, ◌∙◌, sym, subst, arith, slice_index, Contains, inl, inr, length-append}
 use Rattle.std.proofs.lemmas.Bool.{false≢true, cases_lt}
 use Rattle.std.proofs.lemmas.Bool.Decides.{eqb_tells}
 use Rattle.std.proofs.lemmas.List.{get_or_append_left}
@@ -160,10 +160,18 @@ differs kept pages n each h apart same = by_slot (kept n) (each n) apart same wh
   by_slot None i a e = a
   by_slot (Some before) i a e = a.1 (pages_of_same before pages i h (cc (e)) a.0)
 
+-- nothing is listed up to the first at which either has a page
+pub none_then_on : (kept : Option PageMap) (pages : PageMap) (next : ℕ) → IsSome kept →
+    ((q : ℕ) → 0 ≤ q → q < next → IsSomeAnd kept (λ before. SameAt before pages q)) →
+    IsSomeAnd kept (λ before. ListsOthers (SameAt before pages) next [])
+none_then_on None pages next some rest = absurd (false≢true some)
+none_then_on (Some before) pages next some rest =
+    more_pass (SameAt before pages) 0 next [] (lists_none (SameAt before pages)) (omega arith) rest
+
 -- one number further, and on to the next at which either has a page
 pub same_then_on : (kept : Option PageMap) (pages : PageMap) (n next : ℕ) (xs : List ℕ) → n + 1 ≤ next →
     IsSomeAnd kept (λ before. ListsOthers (SameAt before pages) n xs)
-    → IsSomeAnd kept (λ before. pages n ≡ before n) → IsSomeAnd kept (λ before. (q : ℕ) → n + 1 ≤ q → q < next → SameAt before pages q)
+    → IsSomeAnd kept (λ before. pages n ≡ before n) → ((q : ℕ) → n + 1 ≤ q → q < next → IsSomeAnd kept (λ before. SameAt before pages q))
     → IsSomeAnd kept (λ before. ListsOthers (SameAt before pages) next xs)
 same_then_on None pages n next xs on listed here rest = absurd listed
 same_then_on (Some before) pages n next xs on listed here rest =
@@ -171,7 +179,7 @@ same_then_on (Some before) pages n next xs on listed here rest =
 
 pub differ_then_on : (kept : Option PageMap) (pages : PageMap) (n next : ℕ) (xs : List ℕ) → n + 1 ≤ next →
     IsSomeAnd kept (λ before. ListsOthers (SameAt before pages) n xs)
-    → IsSomeAnd kept (λ before. pages n ≢ before n) → IsSomeAnd kept (λ before. (q : ℕ) → n + 1 ≤ q → q < next → SameAt before pages q)
+    → IsSomeAnd kept (λ before. pages n ≢ before n) → ((q : ℕ) → n + 1 ≤ q → q < next → IsSomeAnd kept (λ before. SameAt before pages q))
     → IsSomeAnd kept (λ before. ListsOthers (SameAt before pages) next (xs ++ n ∷ []))
 differ_then_on None pages n next xs on listed here rest = absurd listed
 differ_then_on (Some before) pages n next xs on listed here rest =

@@ -13,5 +13,5 @@ pub mod WholePages
 pub mod OwnPages
 pub mod Spaces
 pub mod Stays
-pub mod PutRefusals
+pub mod PutStores
 pub mod Live

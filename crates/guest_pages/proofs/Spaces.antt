@@ -44,10 +44,6 @@ pub page_read : (pages : PageMap) (n : ℕ) (v : Option PageView) → option_map
 page_read pages n None e = λ k l. in_page pages n k l ∙ ap (option_map (cell_in k)) (sym e)
 page_read pages n (Some v) e = λ k l. in_page pages n k l ∙ ap (option_map (cell_in k)) (sym e)
 
-pub and_map : {A : Type 0} (o : Option A) (P Q : A → Type 0) → ((x : A) → P x → Q x) → IsSomeAnd o P → IsSomeAnd o Q
-and_map None P Q h i = absurd i
-and_map (Some x) P Q h i = h x i
-
 -- a space once a snapshot is made
 pub kept_space : (s t : SpaceValue) (mapped number : ℕ) → IsSpace s mapped → IsKept number (contents_of s) (contents_of t) →
     IsSpace t mapped

@@ -1,10 +1,11 @@
 -- How many pages there are: those of a space and of its live snapshots, a shared one counted once.
-use Rattle.std.specs.Prelude.{◌≡◌, ℕ, ◌+◌, ◌-◌, ◌/◌, ◌==◌, if◌then◌else◌, List, Option, Some, None, Result, OnOk, OnErr}
-use Rattle.rrv_model.specs.Memory.{page_bytes, stored}
+use Rattle.std.specs.Prelude.{◌≡◌, ℕ, ◌+◌, ◌-◌, ◌/◌, ◌==◌, if◌then◌else◌, List, length, Option, Some, None, Result, OnOk, OnErr, IfErr, IsTrue}
+use Rattle.rrv_model.specs.Memory.{page_bytes, stored, writable}
 use Rattle.page_tables.specs.Contents.{contents_of, sum_below}
 use Rattle.page_tables.specs.Changes.{added, added_at, freed, is_listed}
 use Rattle.guest_pages.specs.declared.page.PageView.{PageView}
-use Rattle.guest_pages.specs.Space.{SpaceValue, memory_of, snapshots_of, CanFill, KeepsOwn}
+use Rattle.guest_pages.specs.declared.fault.PageFault.{PageFault}
+use Rattle.guest_pages.specs.Space.{SpaceValue, memory_of, snapshots_of, BecomesOrStays, CanFill, KeepsOwn, IsStoreRefusal}
 use Rattle.guest_pages.specs.Stores.{word_pages}
 
 abbrev pub live_of : SpaceValue → ℕ
@@ -64,3 +65,10 @@ pub record Prepares {T E : Type 0} (result : Result T E) (a count : ℕ) (old ne
   pub err : OnErr result (new ≡ old)
   pub snapshots : snapshots_of new ≡ snapshots_of old
   pub live : OnOk result (live_of new ≡ live_of old + added_across old a count)
+
+-- bytes are stored from a on: all, at the cost of pages of their own, or none, and then the fault says why
+pub record StoresBytes {T : Type 0} (result : Result T PageFault) (a : ℕ) (bytes : List ℕ) (old new : SpaceValue) : Type 0 where
+  pub allowed : OnOk result (IsTrue (writable (memory_of old) a (length bytes)))
+  pub stored : BecomesOrStays result (stored a bytes (memory_of old)) old new
+  pub refused : IfErr result (IsStoreRefusal (memory_of old) a (length bytes))
+  pub live : OnOk result (live_of new ≡ live_of old + added_across old a (length bytes))

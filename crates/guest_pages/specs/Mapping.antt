@@ -63,3 +63,9 @@ pub record ListsOthers (P : ℕ → Type 0) (n : ℕ) (numbers : List ℕ) : Typ
   pub below : (q : ℕ) → Contains numbers q → q < n
   pub fail : (q : ℕ) → Contains numbers q → P q → ⊥
   pub pass : (q : ℕ) → q < n → (Contains numbers q → ⊥) → P q
+
+-- a number from least on, or the end of all pages: those before it are passed over
+pub record SkipsTo (least number : ℕ) (IsPassed : ℕ → Type 0) : Type 0 where
+  pub low : least ≤ 0x80000 → least ≤ number
+  pub high : number ≤ 0x80000
+  pub passed : (q : ℕ) → least ≤ q → q < number → IsPassed q

@@ -1,12 +1,12 @@
 //! Loads and stores of an address space.
 
 ghost use Rattle.std.specs.Prelude.{◌≡◌, ℕ, ◌+◌, ◌<◌, ◌≤◌, ◌^◌, OnOk, OnErr, IfErr, IsTrue, IsSome, None, true, false, length, slice_index, ◌%◌, ◌/◌, ◌*◌};
-ghost use Rattle.std.specs.Int.{w8, w16, to_le_bytes};
-ghost use Rattle.rrv_model.specs.Memory.{byte_or_zero, bytes_at, page_bytes, readable, writable, all_cells, stored};
+ghost use Rattle.std.specs.Int.{w8, w16, w32, to_le_bytes};
+ghost use Rattle.rrv_model.specs.Memory.{byte_or_zero, bytes_at, page_bytes, readable, writable, all_cells};
 ghost use Rattle.page_tables.specs.Contents.{contents_of};
 ghost use Rattle.page_tables.specs.Changes.{IsOwn};
-ghost use Rattle.guest_pages.specs.Live.{added_across, live_of, Fills, Prepares};
-ghost use Rattle.guest_pages.specs.Space.{memory_of, snapshots_of, fetched_word, loaded_byte, loaded_half, loaded_word, cell_byte, page_at, page_passes, test_of, present, BecomesOrStays, CanFill, IsLoadRefusal, IsStoreRefusal};
+ghost use Rattle.guest_pages.specs.Live.{Fills, Prepares, StoresBytes};
+ghost use Rattle.guest_pages.specs.Space.{memory_of, snapshots_of, fetched_word, loaded_byte, loaded_half, loaded_word, cell_byte, page_at, page_passes, test_of, present, CanFill, IsLoadRefusal};
 
 use crate::address_space::Space;
 use crate::addressing::AddressSpace;
@@ -185,13 +185,8 @@ impl Space {
 
     /// Stores a byte. Refused with NotMapped where it isn't there, else with NotAllowed where it may not be written.
     #[inline(always)]
-    #[tactic(auto, using(crate::proofs::Cells::writes_in_page, crate::proofs::Cells::is_in_page))]
     pub fn store_byte(&mut self, address: u32, value: u8) -> Result<(), PageFault>
-        ensures allowed { OnOk result (IsTrue (writable (memory_of self.old) address 1)) }
-        ensures stored { BecomesOrStays result
-            (stored address (to_le_bytes w8 value) (memory_of self.old)) self.old self.new }
-        ensures refused { IfErr result (IsStoreRefusal (memory_of self.old) address 1) }
-        ensures live { OnOk result (live_of self.new ≡ live_of self.old + added_across self.old address 1) }
+        ensures { StoresBytes result address (to_le_bytes w8 value) self.old self.new }
     {
         self.tables
             .put_byte(address / 4096, (address % 4096) as usize, value)?;
@@ -200,13 +195,8 @@ impl Space {
 
     /// Stores a half-word, its low byte first: both bytes or none, refused as [`Space::store`] is.
     #[inline(always)]
-    #[tactic(auto, using(crate::proofs::Cells::writes_in_page, crate::proofs::Cells::is_in_page))]
     pub fn store_half(&mut self, address: u32, value: u16) -> Result<(), PageFault>
-        ensures allowed { OnOk result (IsTrue (writable (memory_of self.old) address 2)) }
-        ensures stored { BecomesOrStays result
-            (stored address (to_le_bytes w16 value) (memory_of self.old)) self.old self.new }
-        ensures refused { IfErr result (IsStoreRefusal (memory_of self.old) address 2) }
-        ensures live { OnOk result (live_of self.new ≡ live_of self.old + added_across self.old address 2) }
+        ensures { StoresBytes result address (to_le_bytes w16 value) self.old self.new }
     {
         let at = (address % 4096) as usize;
         if at > 4094 {
@@ -216,16 +206,25 @@ impl Space {
         Ok(())
     }
 
+    /// Stores a word, its low byte first: all bytes or none, refused as [`Space::store`] is.
+    #[inline(always)]
+    pub(crate) fn put_word(&mut self, address: u32, value: u32) -> Result<(), PageFault>
+        ensures { StoresBytes result address (to_le_bytes w32 value) self.old self.new }
+    {
+        let at = (address % 4096) as usize;
+        if at > 4092 {
+            return self.store(address, &value.to_le_bytes());
+        }
+        self.tables.put_word(address / 4096, at, value)?;
+        Ok(())
+    }
+
     /// Stores bytes: all or none. Refused with NotMapped where any byte isn't there, else with NotAllowed where any may not
     /// be written. To store no byte is never refused.
     #[inline(never)]
     pub fn store(&mut self, address: u32, bytes: &[u8]) -> Result<(), PageFault>
-        ensures allowed { OnOk result (IsTrue (writable (memory_of self.old) address (length bytes.now))) }
-        ensures stored { BecomesOrStays result (stored address bytes.now (memory_of self.old)) self.old self.new }
-        ensures refused { IfErr result (IsStoreRefusal (memory_of self.old) address (length bytes.now)) }
+        ensures stores { StoresBytes result address bytes.now self.old self.new }
         ensures some { OnErr result (1 ≤ length bytes.now) }
-        ensures live { OnOk result (live_of self.new
-            ≡ live_of self.old + added_across self.old address (length bytes.now)) }
     {
         self.prepare(address, bytes.len())?;
         self.fill(address, bytes);

@@ -1,6 +1,7 @@
 //! The address space.
 
 ghost use Rattle.std.specs.Prelude.{◌≡◌, ◌≢◌, ℕ, ◌+◌, ◌<◌, ◌≤◌, ◌^◌, OnOk, OnErr, IfErr, IfOk, IsTrue, IsSome, IsSomeAnd, Some, None, false, ◌↔◌, true, ◌%◌, length, ◌/◌};
+ghost use Rattle.std.specs.Option.{option_map};
 ghost use Rattle.std.specs.Result.{IsErrOf};
 ghost use Rattle.rrv_model.specs.Memory.{all_free, all_mapped, highest_free_up_to, mapped, no_memory, page_count, is_mapped, IsMemory};
 ghost use Rattle.guest_pages.specs.Live.{HasNoSnapshot, added_for, freed_for, live_of};
@@ -152,6 +153,7 @@ impl Space {
 
     /// The numbers of the pages that differ from a live snapshot's in bytes, in permissions or in being mapped, rising.
     /// Refused where a growth is, which is only where some page differs.
+    #[tactic(auto, using(crate::proofs::SnapshotPages::kept_there))]
     pub fn changed_since(&self, snapshot: &Snapshot) -> Result<Vec<u32>, Memory>
         requires { IsSome (snapshots_of self.now snapshot.now) }
         ensures changes { IfOk result (λ numbers. IsSomeAnd (snapshots_of self.now snapshot.now) (λ before.
@@ -167,6 +169,17 @@ impl Space {
         ensures { IsPageOf (memory_of self.now) number result }
     {
         view_of(self.tables.page(number))
+    }
+
+    /// The byte at an address, whatever the permissions of its page; None where it isn't mapped. It takes no memory.
+    pub fn byte(&self, address: u64) -> Option<u8>
+        requires { address < 17179869184 }
+        ensures { result ≡ option_map (λ c. c.byte) (memory_of self.now address) }
+    {
+        match self.page((address / 4096) as u32) {
+            Some(view) => Some(view.bytes[(address % 4096) as usize]),
+            None => None,
+        }
     }
 
     /// The least mapped page from a number on. It takes no memory.
@@ -186,6 +199,7 @@ impl Space {
     }
 
     /// A page as a live snapshot has it, as [`Space::page`] reads it.
+    #[tactic(auto, using(crate::proofs::SnapshotPages::kept_there))]
     pub fn snapshot_page(&self, snapshot: &Snapshot, number: u32) -> Option<PageView<'_>>
         requires { IsSome (snapshots_of self.now snapshot.now) }
         ensures { IsSomeAnd (snapshots_of self.now snapshot.now) (λ before. IsPageOf before number result) }
@@ -194,6 +208,7 @@ impl Space {
     }
 
     /// The least page from a number on that a live snapshot has mapped.
+    #[tactic(auto, using(crate::proofs::SnapshotPages::kept_there))]
     pub fn snapshot_next_page(&self, snapshot: &Snapshot, least: u32) -> Option<u32>
         requires { IsSome (snapshots_of self.now snapshot.now) }
         ensures { IsSomeAnd (snapshots_of self.now snapshot.now) (λ before. IsNextPage before least result) }

@@ -23,7 +23,8 @@
 //! - `snapshot`: its memory stays, whatever is stored, mapped, unmapped or protected later.
 //! - `try_clone`: the same memory once more, with no snapshot.
 //! - `changed_since`: exactly the pages that differ from a snapshot.
-//! - `page`, `snapshot_page`: a page's permissions and bytes. `page_from`: those of the least page from a number on.
+//! - `page`, `snapshot_page`: a page's permissions and bytes. `page_from`: those of the least page from a number on. `byte`: the
+//!   byte at an address, whatever its page's permissions.
 #![tactic(auto)]
 
 mod access;
@@ -40,5 +41,5 @@ mod words;
 pub use address_space::Space;
 pub use addressing::AddressSpace;
 pub use fault::PageFault;
-pub use page::PageView;
+pub use page::{PageView, permissions_byte};
 pub use snapshot::Snapshot;

@@ -7,7 +7,7 @@ ghost use Rattle.page_tables.specs.Contents.{contents_of};
 ghost use Rattle.page_tables.specs.Changes.{IsOwn, is_listed, shown, with_permissions};
 ghost use Rattle.guest_pages.specs.Live.{freed_in, live_of};
 ghost use Rattle.guest_pages.specs.Space.{memory_of, AreEachPage};
-ghost use Rattle.guest_pages.specs.Mapping.{missing, clear_page, union, AreOwnIn, KeepsOutside, SameAt, ListsOthers};
+ghost use Rattle.guest_pages.specs.Mapping.{missing, clear_page, union, AreOwnIn, KeepsOutside, SameAt, ListsOthers, SkipsTo};
 ghost use Rattle.guest_pages.specs.Stores.{word_pages};
 ghost use Rattle.guest_pages.specs.WholePages.{page_of};
 
@@ -190,9 +190,7 @@ pub(crate) fn view_of(page: Option<page_tables::PageView<'_>>) -> Option<PageVie
 
 /// The least number from this one on that has a page, else the end of all pages.
 fn next_or_end(tables: &PageTables, least: u32) -> u32
-    ensures low { least ≤ 0x80000 → least ≤ result }
-    ensures high { result ≤ 0x80000 }
-    ensures free { (q : ℕ) → least ≤ q → q < result → (contents_of tables.now).pages q ≡ None }
+    ensures { SkipsTo least result (λ q. (contents_of tables.now).pages q ≡ None) }
 {
     match tables.next(least) {
         Some(number) => number,
@@ -203,10 +201,7 @@ fn next_or_end(tables: &PageTables, least: u32) -> u32
 /// The least number from this one on at which a snapshot has a page, else the end of all pages.
 fn kept_or_end(tables: &PageTables, snapshot: usize, least: u32) -> u32
     requires { IsSome ((contents_of tables.now).kept snapshot) }
-    ensures low { least ≤ 0x80000 → least ≤ result }
-    ensures high { result ≤ 0x80000 }
-    ensures free { IsSomeAnd ((contents_of tables.now).kept snapshot)
-        (λ pages. (q : ℕ) → least ≤ q → q < result → pages q ≡ None) }
+    ensures { SkipsTo least result (λ q. IsSomeAnd ((contents_of tables.now).kept snapshot) (λ pages. pages q ≡ None)) }
 {
     match tables.kept_next(snapshot, least) {
         Some(number) => number,
@@ -216,10 +211,7 @@ fn kept_or_end(tables: &PageTables, snapshot: usize, least: u32) -> u32
 
 /// The least number from this one on at which one of two spaces has a page, else the end of all pages.
 fn next_of_either(tables: &PageTables, others: &PageTables, least: u32) -> u32
-    ensures low { least ≤ 0x80000 → least ≤ result }
-    ensures high { result ≤ 0x80000 }
-    ensures same { (q : ℕ) → least ≤ q → q < result →
-        SameAt (contents_of tables.now).pages (contents_of others.now).pages q }
+    ensures { SkipsTo least result (SameAt (contents_of tables.now).pages (contents_of others.now).pages) }
 {
     let here = next_or_end(tables, least);
     let there = next_or_end(others, least);
@@ -243,10 +235,8 @@ pub(crate) fn same_pages(tables: &PageTables, others: &PageTables) -> bool
 /// The least number from this one on at which the space or a snapshot has a page, else the end of all pages.
 fn next_of_both(tables: &PageTables, snapshot: usize, least: u32) -> u32
     requires { IsSome ((contents_of tables.now).kept snapshot) }
-    ensures low { least ≤ 0x80000 → least ≤ result }
-    ensures high { result ≤ 0x80000 }
-    ensures same { IsSomeAnd ((contents_of tables.now).kept snapshot)
-        (λ pages. (q : ℕ) → least ≤ q → q < result → SameAt pages (contents_of tables.now).pages q) }
+    ensures { SkipsTo least result (λ q. IsSomeAnd ((contents_of tables.now).kept snapshot)
+        (λ pages. SameAt pages (contents_of tables.now).pages q)) }
 {
     let here = next_or_end(tables, least);
     let there = kept_or_end(tables, snapshot, least);

@@ -2,6 +2,7 @@
 
 ghost use Rattle.std.specs.Prelude.{◌≡◌, ℕ, ◌+◌, ◌<◌, ◌≤◌, Some, length, slice_index};
 ghost use Rattle.std.specs.Int.{w16, w32, from_le_bytes};
+ghost use Rattle.rrv_model.specs.RecordText.{bit, permissions_byte};
 ghost use Rattle.page_tables.specs.Contents.{FillPage};
 ghost use Rattle.page_tables.specs.Changes.{shown};
 ghost use Rattle.guest_pages.specs.Pages.{run};
@@ -75,4 +76,18 @@ pub(crate) fn copy_bytes(bytes: &[u8; 4096], at: usize, into: &mut [u8])
     ensures { (k : ℕ) → k < length into.old → slice_index into.new k ≡ slice_index bytes.now (at + k) }
 {
     into.copy_from_slice(&bytes[at..at + into.len()]);
+}
+
+/// Permissions in a byte: X 1, W 2, R 4 as a sum.
+pub fn permissions_byte(permissions: Permissions) -> u8
+    ensures { result ≡ permissions_byte (Some permissions) }
+{
+    bit(permissions.execute, 1) + bit(permissions.write, 2) + bit(permissions.read, 4)
+}
+
+/// A number where a bit is set, else 0.
+fn bit(is_set: bool, value: u8) -> u8
+    ensures { result ≡ bit is_set value }
+{
+    if is_set { value } else { 0 }
 }

@@ -78,14 +78,8 @@ impl AddressSpace for Space {
     }
 
     #[inline(always)]
-    #[tactic(auto, using(crate::proofs::Cells::writes_in_page, crate::proofs::Cells::is_in_page))]
     fn store_word(&mut self, address: u32, value: u32) -> Result<(), PageFault> {
-        let at = (address % 4096) as usize;
-        if at > 4092 {
-            return self.store(address, &value.to_le_bytes());
-        }
-        self.tables.put_word(address / 4096, at, value)?;
-        Ok(())
+        self.put_word(address, value)
     }
 
     fn store_words(&mut self, places: &[u32], word: u32) -> Result<(), Memory> {
@@ -122,6 +116,7 @@ impl AddressSpace for Space {
         Ok(Snapshot::new(number))
     }
 
+    #[tactic(auto, using(crate::proofs::SnapshotPages::kept_there))]
     fn drop_snapshot(&mut self, snapshot: Snapshot) {
         self.tables.release(snapshot.number());
         self.tables.all_own();

@@ -14,30 +14,8 @@ mod snapshots;
 mod texts;
 mod threads;
 
-use rrv_model::machine::Permissions;
 use std::fmt::Debug;
 use std::process::Abort;
-
-/// What may be read and written.
-const DATA: Permissions = Permissions {
-    read: true,
-    write: true,
-    execute: false,
-};
-
-/// What may be read alone.
-const CONSTANTS: Permissions = Permissions {
-    read: true,
-    write: false,
-    execute: false,
-};
-
-/// What may be executed alone.
-const CODE: Permissions = Permissions {
-    read: false,
-    write: false,
-    execute: true,
-};
 
 /// Ends the test where something else is found than wanted. An assertion costs its proof wherever it stands; this one stands once.
 fn same<T: PartialEq + Debug + Drop>(rt: &impl Abort, what: &impl Debug, found: T, want: T) {

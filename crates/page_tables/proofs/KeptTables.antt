@@ -13,9 +13,6 @@ use Rattle.page_tables.specs.Changes.{IsKept, IsReleased}
 use Rattle.page_tables.specs.Sharing.{has, slot_entry, slot_at, sharers, IsTableOf, AreShared, pages_in, counts_in, contents_in, raised, raised_by, lowered_by, IsSlotSet}
 use Rattle.page_tables.proofs.Sharing.{one_if, Settles, settled, pages_stay, shared_after, count_is, raised_settles, lowered_settles, current_shares, slot_shares, kept_pages_stay, has_own, found, below_end}
 
-pub transport : (R : Contents → Contents → Type 0) (a b c d : Contents) → c ≡ a → d ≡ b → R a b → R c d
-transport R a b c d e f r = subst (λ x. R c x) (sym f) (subst (λ x. R x b) (sym e) r)
-
 -- a count is of one table more than there are snapshots, at most
 pub small : (pool : ℕ → Option Page) (t : ℕ → Entry) (kept : List (Option Table)) → AreShared pool t kept → length kept < 2 ^ 32 - 3 →
     (k : ℕ) → IfSome (pool k) (λ p. p.count < 2 ^ 32 - 1)

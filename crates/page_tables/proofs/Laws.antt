@@ -11,7 +11,7 @@ use Rattle.page_tables.specs.Table.{entry_at}
 use Rattle.page_tables.specs.Contents.{Contents, FillPage, ArePages, TablesValue, contents_of, page_total, value_of}
 use Rattle.page_tables.specs.Sharing.{has, slot_entry, sharers, AreShared, page_in, value_in, pages_in, contents_in}
 use Rattle.page_tables.proofs.Sharing.{one_if, count_is, has_own, found}
-use Rattle.page_tables.proofs.Values.{seen}
+use Rattle.page_tables.proofs.Values.{StandFor, seen}
 use Rattle.page_tables.proofs.PlacedPages.{no_shares, live_mapped, count_at}
 use Rattle.page_tables.proofs.Counting.{least_live, alone_live}
 
@@ -36,53 +36,50 @@ filled_pages pool t full n = by_page (page_in pool (t n)) (by_test (t n).mapped)
   by_page None i = tt
   by_page (Some p) i = i
 
-module _ (pool : Slab Page) (table : Table) (kept : List (Option Table)) (v : TablesValue) (h : AreShared (get pool) (entry_at table) kept)
-    (view : value_of (contents_in pool table kept) ≡ v) where
-  is_seen : contents_of v ≡ contents_in pool table kept
-  is_seen = seen pool table kept v h view
-
+module _ {pool : Slab Page} {table : Table} {kept : List (Option Table)} {v : TablesValue} (s : StandFor pool table kept v) where
   no_slot : ((i : ℕ) → (contents_of v).kept i ≡ None) → (i : ℕ) → get_or kept i None ≡ None
   no_slot none i = by_slot (get_or kept i None) refl where
     by_slot : (o : Option Table) → get_or kept i None ≡ o → get_or kept i None ≡ None
     by_slot None e = e
     by_slot (Some t) e =
         let there : None ≡ Some (pages_in (get pool) (entry_at t)) =
-        sym (none i) ∙ ap (λ (c : Contents). c.kept i) is_seen ∙ ap (option_map (λ (t : Table). pages_in (get pool) (entry_at t))) e in
+        sym (none i) ∙ ap (λ (c : Contents). c.kept i) (seen s) ∙ ap (option_map (λ (t : Table). pages_in (get pool) (entry_at t))) e in
         absurd (false≢true (ap is_some there))
 
   pub no_sharers : ((i : ℕ) → (contents_of v).kept i ≡ None) → (n : ℕ) → IsSome ((contents_of v).pages n) →
       (contents_of v).counts n ≡ Some 1
   no_sharers none n there =
-      let m = live_mapped pool table kept v h view n there in
-      let f = found (get pool) (entry_at table) n h.current m in
+      let m = live_mapped s n there in
+      let f = found (get pool) (entry_at table) n s.shared.current m in
       let k : ℕ = (entry_at table n).key in
       let none_else = no_shares kept n k (λ i. ap (λ (s : Option Table). has (slot_entry s) n k) (no_slot none i)) in
       let mine : one_if (has (entry_at table) n k) ≡ 1 = ap one_if (has_own (entry_at table) n m) in
       let count : f.0.count ≡ sharers (entry_at table) kept n k =
-      (count_is (get pool) (entry_at table) kept h k f.0 f.1).0 ∙ ap (λ (q : ℕ). sharers (entry_at table) kept q k) f.2 in
+      (count_is (get pool) (entry_at table) kept s.shared k f.0 f.1).0 ∙ ap (λ (q : ℕ). sharers (entry_at table) kept q k) f.2 in
       let one : f.0.count ≡ 1 = omega (arith, count, mine, none_else) in
-      count_at pool table kept v h view n f.0 m f.1 ∙ ap Some one
+      count_at s n f.0 m f.1 ∙ ap Some one
 
   pub is_counted : (n : ℕ) → (IsSome ((contents_of v).pages n) → IsSome ((contents_of v).counts n)) ×
       (IsSome ((contents_of v).counts n) → IsSome ((contents_of v).pages n))
   is_counted n =
       let page : Option Page = page_in (get pool) (entry_at table n) in
-      subst (λ (c : Contents). (IsSome (c.pages n) → IsSome (c.counts n)) × (IsSome (c.counts n) → IsSome (c.pages n))) (sym is_seen) (
+      subst (λ (c : Contents). (IsSome (c.pages n) → IsSome (c.counts n)) × (IsSome (c.counts n) → IsSome (c.pages n))) (sym (seen s)) (
         maps_some (value_in (entry_at table n)) (λ (p : Page). p.count) page,
         maps_some (λ (p : Page). p.count) (value_in (entry_at table n)) page,
       )
 
   pub has_least : page_total (contents_of v).pages ≤ (contents_of v).live
-  has_least = subst (λ (c : Contents). page_total c.pages ≤ c.live) (sym is_seen) (least_live pool table kept h)
+  has_least = subst (λ (c : Contents). page_total c.pages ≤ c.live) (sym (seen s)) (least_live pool table kept s.shared)
 
   pub has_no_others : ((i : ℕ) → (contents_of v).kept i ≡ None) → (contents_of v).live ≡ page_total (contents_of v).pages
-  has_no_others none = subst (λ (c : Contents). c.live ≡ page_total c.pages) (sym is_seen) (alone_live pool table kept h (no_slot none))
+  has_no_others none =
+      subst (λ (c : Contents). c.live ≡ page_total c.pages) (sym (seen s)) (alone_live pool table kept s.shared (no_slot none))
 
   pub has_pages : ArePages (contents_of v).pages
-  has_pages = subst (λ (c : Contents). ArePages c.pages) (sym is_seen) (filled_pages (get pool) (entry_at table) h.filled)
+  has_pages = subst (λ (c : Contents). ArePages c.pages) (sym (seen s)) (filled_pages (get pool) (entry_at table) s.shared.filled)
 
   pub has_kept_pages : (i : ℕ) → IfSome ((contents_of v).kept i) ArePages
-  has_kept_pages i = subst (λ (c : Contents). IfSome (c.kept i) ArePages) (sym is_seen) (by_slot (get_or kept i None)) where
+  has_kept_pages i = subst (λ (c : Contents). IfSome (c.kept i) ArePages) (sym (seen s)) (by_slot (get_or kept i None)) where
     by_slot : (o : Option Table) → IfSome (option_map (λ (t : Table). pages_in (get pool) (entry_at t)) o) ArePages
     by_slot None = tt
-    by_slot (Some t) = filled_pages (get pool) (entry_at t) h.filled
+    by_slot (Some t) = filled_pages (get pool) (entry_at t) s.shared.filled

@@ -1,7 +1,8 @@
 -- Pages that come into a table one after another, until each of some numbers has one of its own.
-use Rattle.std.proofs.Common.{◌≡◌, ◌≢◌, ℕ, ◌+◌, Bool, true, false, if◌then◌else◌, Option, Some, None, IsSome, is_some, List, [], ◌∷◌, ◌++◌, ◌<◌, length, refl, ap, ◌∙◌, sym, subst, arith, inl, inr}
+use Rattle.std.proofs.Common.{◌≡◌, ◌≢◌, ℕ, ◌+◌, Bool, true, false, if◌then◌else◌, Option, Some, None, IsSome, is_some, List, [], ◌∷◌, ◌++◌, ◌<◌, length, take, get_or, refl, ap, ◌∙◌, sym, subst, arith, inl, inr}
 use Rattle.std.specs.List.{All}
 use Rattle.std.proofs.lemmas.Bool.{false≢true, cases_eq}
+use Rattle.std.proofs.lemmas.Grind.{take_at_read}
 use Rattle.std.proofs.lemmas.List.Elements.{All-nil, All-pop, All-push, All-weaker}
 use Rattle.page_tables.specs.declared.new_pages.NewPage.{NewPage}
 use Rattle.page_tables.specs.Contents.{PageValue, Contents}
@@ -131,6 +132,34 @@ module _ (numbers : List ℕ) (m : ℕ) (pages : ℕ → Option PageValue) (coun
       listed = ap (is_listed (numbers ++ m ∷ [])) at ∙ last_listed numbers m;
       value = value ∙ sym (ap (λ (n : ℕ). page_or_zeros (pages n)) at);
     }
+
+-- ---- the numbers of a list, from the first on
+
+module _ (numbers : List ℕ) (i : ℕ) (below : i < length numbers) (counts : ℕ → Option ℕ) where
+  more : take (i + 1) numbers ≡ take i numbers ++ get_or numbers i 0 ∷ []
+  more = (take_at_read numbers i 0 below).1
+
+  pub next_is_own : (pages : ℕ → Option PageValue) (xs : List NewPage) → AreCopies (take i numbers) pages counts xs →
+      counts (get_or numbers i 0) ≡ Some 1 → AreCopies (take (i + 1) numbers) pages counts xs
+  next_is_own pages xs c one =
+      subst (λ (ns : List ℕ). AreCopies ns pages counts xs) (sym more)
+      (one_is_own (take i numbers) (get_or numbers i 0) pages counts xs c one)
+
+  pub next_copied : (pages : ℕ → Option PageValue) (xs : List NewPage) → AreCopies (take i numbers) pages counts xs →
+      (ys : List NewPage) (x : NewPage) → ys ≡ xs ++ x ∷ [] → x.number ≡ get_or numbers i 0 →
+      new_value x ≡ page_or_zeros (pages (get_or numbers i 0)) → AreCopies (take (i + 1) numbers) pages counts ys
+  next_copied pages xs c ys x is at value =
+      subst (λ (ns : List ℕ). AreCopies ns pages counts ys) (sym more)
+      (one_copied (take i numbers) (get_or numbers i 0) pages counts xs c ys x is at value)
+
+  pub less_unshared : AreUnshared (take (i + 1) numbers) counts → AreUnshared (take i numbers) counts
+  less_unshared own n a =
+      own n (ap (λ (ns : List ℕ). is_listed ns n) more ∙ still_listed (take i numbers) (get_or numbers i 0) n a)
+
+  pub last_unshared : AreUnshared (take (i + 1) numbers) counts → counts (get_or numbers i 0) ≡ Some 1
+  last_unshared own =
+      own (get_or numbers i 0)
+      (ap (λ (ns : List ℕ). is_listed ns (get_or numbers i 0)) more ∙ last_listed (take i numbers) (get_or numbers i 0))
 
 pub no_copies : (pages : ℕ → Option PageValue) (counts : ℕ → Option ℕ) → AreCopies [] pages counts []
 no_copies pages counts = record { each = All-nil (IsCopy [] pages); whole = λ n a apart. absurd (false≢true a) }

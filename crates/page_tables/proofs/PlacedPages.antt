@@ -4,6 +4,7 @@ use Rattle.std.proofs.lemmas.Bool.{false≢true, cases_eq, eq-eqb}
 use Rattle.std.proofs.lemmas.Bool.Decides.{nat_tests, eqb_tells}
 use Rattle.std.proofs.lemmas.List.Sums.{sum_by-cons}
 use Rattle.std.proofs.lemmas.List.{append-nil}
+use Rattle.std.proofs.lemmas.Option.{none-some, same_Some}
 use Rattle.std.proofs.Math.ListN.{drop_of_length-le}
 use Rattle.page_tables.proofs.Bytes.{written_is}
 use Rattle.std.specs.Option.{option_map}
@@ -13,13 +14,14 @@ use Rattle.page_tables.specs.declared.table.TheConstants.{NO_PAGE}
 use Rattle.page_tables.specs.declared.table.Entry.{Entry}
 use Rattle.page_tables.specs.declared.table.Table.{Table}
 use Rattle.page_tables.specs.declared.pool.Page.{Page}
-use Rattle.page_tables.specs.Table.{entry_at, AreAlike}
+use Rattle.page_tables.specs.declared.page_tables.PutFault.{PutFault}
+use Rattle.page_tables.specs.declared.page_tables.PutFault.TheVariants as errors
+use Rattle.page_tables.specs.Table.{entry_at, AreAlike, SetsEntry}
 use Rattle.page_tables.specs.Contents.{PageValue, Contents, FillPage, TablesValue, contents_of, value_of}
-use Rattle.page_tables.specs.Changes.{IsRemoved, IsPlaced, IsAttached, IsProtected, with_permissions, IsUnshared, IsWritten, IsRewritten, written, with_bytes, freed, added, allows_write}
-use Rattle.page_tables.specs.Sharing.{entry_has, has, slot_entry, slot_at, sharers, IsTableOf, AreShared, page_in, value_in, pages_in, counts_in, kept_in, contents_in, lowered, at_count}
+use Rattle.page_tables.specs.Changes.{KeepsPages, IsRemoved, IsPlaced, IsAttached, IsProtected, with_permissions, IsUnshared, IsWritten, IsRewritten, written, with_bytes, freed, added, allows_write, Adds, Rewrites, Puts, put_refusal, IsPutRefusal}
+use Rattle.page_tables.specs.Sharing.{entry_has, has, slot_entry, slot_at, sharers, IsTableOf, AreShared, page_in, value_in, pages_in, counts_in, kept_in, contents_in, lowered, at_count, IsOwnKey}
 use Rattle.page_tables.proofs.Sharing.{one_if, Settles, settled, pages_stay, shared_after, count_is, counted_page, current_shares, slot_shares, kept_pages_stay, has_own, has_key, found, alone}
-use Rattle.page_tables.proofs.Values.{page_of, seen, allowed_mapped, page_mapped, present}
-use Rattle.page_tables.proofs.KeptTables.{transport}
+use Rattle.page_tables.proofs.Values.{page_of, StandFor, stand, carried, seen, pages_seen, allows_mapped, page_mapped}
 
 module _ (pool new : Slab Page) (table later : Table) (kept : List (Option Table)) (n : ℕ) (h : AreShared (get pool) (entry_at table) kept)
     (gone : (entry_at later n).mapped ≡ false) (none : (entry_at later n).permissions ≡ NO_PAGE.permissions)
@@ -129,15 +131,20 @@ no_shares (s ∷ kept) n k h =
     let first : f s ≡ 0 = ap one_if (h 0) in
     omega (arith, sum_by-cons f s kept, first, no_shares kept n k (λ i. h (suc i)))
 
-module _ (pool new : Slab Page) (table later : Table) (kept : List (Option Table)) (n key : ℕ)
-    (h : AreShared (get pool) (entry_at table) kept)
-    (low : n < 0x80000) (gone : (entry_at table n).mapped ≡ false) (free : get pool key ≡ None) (e : Entry) (p : Page)
-    (here : entry_at later n ≡ e) (keyed : e.key ≡ key) (mapped : e.mapped ≡ true) (numbered : p.number ≡ n) (counted-one : p.count ≡ 1)
-    (fits : FillPage p.bytes.value)
-    (others : (q : ℕ) → q ≢ n → entry_at later q ≡ entry_at table q)
-    (page : get new key ≡ Some p) (rest : (k : ℕ) → k ≢ key → get new k ≡ get pool k) where
+-- what is so of each page of the pool, where one page changes
+changed_page : (P : ℕ → Option Page → Type 0) (pool new : Slab Page) (key : ℕ) (q : Page) → get new key ≡ Some q →
+    ((k : ℕ) → k ≢ key → get new k ≡ get pool k) → P key (Some q) → ((k : ℕ) → k ≢ key → P k (get pool k)) → (k : ℕ) → P k (get new k)
+changed_page P pool new key q here rest one others k = elim (cases_eq k key) [
+  | inl w ↦ subst (λ (i : ℕ). P i (get new i)) (sym w) (subst (P key) (sym here) one)
+  | inr w ↦ subst (P k) (sym (rest k w)) (others k w)
+]
+
+module _ {pool new : Slab Page} {table later : Table} {kept : List (Option Table)} {n key : ℕ} {e : Entry} {p : Page}
+    (h : AreShared (get pool) (entry_at table) kept) (gone : (entry_at table n).mapped ≡ false) (low : n < 0x80000)
+    (put : SetsEntry n e table later) (add : Adds key p pool new) (keyed : e.key ≡ key) (mapped : e.mapped ≡ true) (numbered : p.number ≡ n)
+    (counted-one : p.count ≡ 1) (fits : FillPage p.bytes.value) where
   no_key : (t : ℕ → Entry) → IsTableOf (get pool) t → (q : ℕ) → (t q).mapped ≡ true → (t q).key ≢ key
-  no_key t i q m same = let f = found (get pool) t q i m in false≢true (ap is_some (sym free ∙ ap (get pool) (sym same) ∙ f.1))
+  no_key t i q m same = let f = found (get pool) t q i m in false≢true (ap is_some (sym add.free ∙ ap (get pool) (sym same) ∙ f.1))
 
   has_no : (t : ℕ → Entry) → IsTableOf (get pool) t → (q : ℕ) → has t q key ≡ false
   has_no t i q = by_test (has t q key) refl where
@@ -148,7 +155,7 @@ module _ (pool new : Slab Page) (table later : Table) (kept : List (Option Table
   stays : (t : ℕ → Entry) → IsTableOf (get pool) t → IsTableOf (get new) t
   stays t i = record {
     low = i.low;
-    own = λ q m. subst (λ (o : Option Page). IsSomeAnd o (λ p. p.number ≡ q)) (sym (rest (t q).key (no_key t i q m))) (i.own q m);
+    own = λ q m. subst (λ (o : Option Page). IsSomeAnd o (λ p. p.number ≡ q)) (sym (add.others (t q).key (no_key t i q m))) (i.own q m);
     none = i.none;
   }
 
@@ -156,10 +163,10 @@ module _ (pool new : Slab Page) (table later : Table) (kept : List (Option Table
   page_stays t i q = by_test (t q).mapped refl where
     by_test : (b : Bool) → (t q).mapped ≡ b → (if b then get new (t q).key else None) ≡ (if b then get pool (t q).key else None)
     by_test false w = refl
-    by_test true w = rest (t q).key (no_key t i q w)
+    by_test true w = add.others (t q).key (no_key t i q w)
 
   has_here : (k : ℕ) → has (entry_at later) n k ≡ (key == k)
-  has_here k = ap (λ (d : Entry). entry_has d k) here ∙ ap (λ (b : Bool). b && (e.key == k)) mapped ∙ ap (λ (i : ℕ). i == k) keyed
+  has_here k = ap (λ (d : Entry). entry_has d k) put.here ∙ ap (λ (b : Bool). b && (e.key == k)) mapped ∙ ap (λ (i : ℕ). i == k) keyed
 
   own_shares : sharers (entry_at later) kept n key ≡ 1
   own_shares =
@@ -175,22 +182,23 @@ module _ (pool new : Slab Page) (table later : Table) (kept : List (Option Table
     by_number (inl w) =
         ap (λ (i : ℕ). has (entry_at later) i k) w ∙ has_here k ∙ no
         ∙ sym (ap (λ (i : ℕ). has (entry_at table) i k) w ∙ ap (λ (b : Bool). b && ((entry_at table n).key == k)) gone)
-    by_number (inr w) = ap (λ (d : Entry). entry_has d k) (others q w)
+    by_number (inr w) = ap (λ (d : Entry). entry_has d k) (put.others q w)
 
   placed_current : IsTableOf (get new) (entry_at later)
   placed_current = record {
     low = λ q m. elim (cases_eq q n)
-        [ inl w ↦ omega (arith, w, low) | inr w ↦ h.current.low q (ap (λ (d : Entry). d.mapped) (sym (others q w)) ∙ m) ];
+        [ inl w ↦ omega (arith, w, low) | inr w ↦ h.current.low q (ap (λ (d : Entry). d.mapped) (sym (put.others q w)) ∙ m) ];
     own = λ q m. elim (cases_eq q n) [
       | inl w ↦ subst (λ (i : ℕ). IsSomeAnd (get new (entry_at later i).key) (λ p. p.number ≡ i)) (sym w)
           (subst (λ (o : Option Page). IsSomeAnd o (λ p. p.number ≡ n))
-          (sym (ap (λ (d : Entry). get new d.key) here ∙ ap (get new) keyed ∙ page)) numbered)
-      | inr w ↦ subst (λ (d : Entry). IsSomeAnd (get new d.key) (λ p. p.number ≡ q)) (sym (others q w))
-          ((stays (entry_at table) h.current).own q (ap (λ (d : Entry). d.mapped) (sym (others q w)) ∙ m))
+          (sym (ap (λ (d : Entry). get new d.key) put.here ∙ ap (get new) keyed ∙ add.here)) numbered)
+      | inr w ↦ subst (λ (d : Entry). IsSomeAnd (get new d.key) (λ p. p.number ≡ q)) (sym (put.others q w))
+          ((stays (entry_at table) h.current).own q (ap (λ (d : Entry). d.mapped) (sym (put.others q w)) ∙ m))
     ];
     none = λ q m. elim (cases_eq q n) [
-      | inl w ↦ absurd (false≢true (sym m ∙ ap (λ (i : ℕ). (entry_at later i).mapped) w ∙ ap (λ (d : Entry). d.mapped) here ∙ mapped))
-      | inr w ↦ ap (λ (d : Entry). d.permissions) (others q w) ∙ h.current.none q (ap (λ (d : Entry). d.mapped) (sym (others q w)) ∙ m)
+      | inl w ↦ absurd (false≢true (sym m ∙ ap (λ (i : ℕ). (entry_at later i).mapped) w ∙ ap (λ (d : Entry). d.mapped) put.here ∙ mapped))
+      | inr w ↦ ap (λ (d : Entry). d.permissions) (put.others q w)
+          ∙ h.current.none q (ap (λ (d : Entry). d.mapped) (sym (put.others q w)) ∙ m)
     ];
   }
 
@@ -204,45 +212,37 @@ module _ (pool new : Slab Page) (table later : Table) (kept : List (Option Table
         filled = filled;
       } where
         filled : (k : ℕ) → IfSome (get new k) (λ p. FillPage p.bytes.value)
-        filled k = elim (cases_eq k key) [
-          | inl w ↦ subst (λ (o : Option Page). IfSome o (λ p. FillPage p.bytes.value)) (sym (ap (get new) w ∙ page)) fits
-          | inr w ↦ subst (λ (o : Option Page). IfSome o (λ p. FillPage p.bytes.value)) (sym (rest k w)) (h.filled k)
-        ]
+        filled = changed_page (λ k o. IfSome o (λ p. FillPage p.bytes.value)) pool new key p add.here add.others fits (λ k w. h.filled k)
 
         old : (k : ℕ) → k ≢ key → (o : Option Page) → get pool k ≡ o →
             IfSome o (λ p. (p.count ≡ sharers (entry_at later) kept p.number k) × (1 ≤ p.count))
         old k apart None w = tt
         old k apart (Some q) w = let c = count_is (get pool) (entry_at table) kept h k q w in (c.0 ∙ sym (same_share q.number k apart), c.1)
 
+        one : p.count ≡ sharers (entry_at later) kept p.number key
+        one = counted-one ∙ sym own_shares ∙ sym (ap (λ (i : ℕ). sharers (entry_at later) kept i key) numbered)
+
         counted : (k : ℕ) → IfSome (get new k) (λ p. (p.count ≡ sharers (entry_at later) kept p.number k) × (1 ≤ p.count))
-        counted k = elim (cases_eq k key) [
-          | inl w ↦
-              let one : p.count ≡ sharers (entry_at later) kept p.number k =
-              counted-one ∙ sym own_shares
-              ∙ sym (ap (λ (i : ℕ). sharers (entry_at later) kept i k) numbered ∙ ap (λ (i : ℕ). sharers (entry_at later) kept n i) w) in
-              subst (λ (o : Option Page). IfSome o (λ p. (p.count ≡ sharers (entry_at later) kept p.number k) × (1 ≤ p.count)))
-              (sym (ap (get new) w ∙ page)) (one, omega (arith, counted-one))
-          | inr w ↦ subst (λ (o : Option Page). IfSome o (λ p. (p.count ≡ sharers (entry_at later) kept p.number k) × (1 ≤ p.count)))
-              (sym (rest k w)) (old k w (get pool k) refl)
-        ]
+        counted = changed_page (λ k o. IfSome o (λ p. (p.count ≡ sharers (entry_at later) kept p.number k) × (1 ≤ p.count))) pool new key p
+            add.here add.others (one, omega (arith, counted-one)) (λ k w. old k w (get pool k) refl)
 
   placed_page : page_in (get new) (entry_at later n) ≡ Some p
-  placed_page = ap (page_in (get new)) here ∙ ap (λ (b : Bool). if b then get new e.key else None) mapped ∙ ap (get new) keyed ∙ page
+  placed_page =
+      ap (page_in (get new)) put.here ∙ ap (λ (b : Bool). if b then get new e.key else None) mapped ∙ ap (get new) keyed ∙ add.here
 
-  pub attached_contents : slab_len new ≡ slab_len pool + 1 →
-      IsAttached n (value_in e p) (contents_in pool table kept) (contents_in new later kept)
-  attached_contents len = record {
-    here = ap (option_map (value_in (entry_at later n))) placed_page ∙ ap (λ (d : Entry). Some (value_in d p)) here;
+  pub attached_contents : IsAttached n (value_in e p) (contents_in pool table kept) (contents_in new later kept)
+  attached_contents = record {
+    here = ap (option_map (value_in (entry_at later n))) placed_page ∙ ap (λ (d : Entry). Some (value_in d p)) put.here;
     own = ap (option_map (λ (q : Page). q.count)) placed_page ∙ ap Some counted-one;
     rest = record {
-      pages = λ q w. ap (λ (d : Entry). option_map (value_in d) (page_in (get new) d)) (others q w)
+      pages = λ q w. ap (λ (d : Entry). option_map (value_in d) (page_in (get new) d)) (put.others q w)
           ∙ ap (option_map (value_in (entry_at table q))) (page_stays (entry_at table) h.current q);
-      counts = λ q w. ap (λ (d : Entry). option_map (λ (p : Page). p.count) (page_in (get new) d)) (others q w)
+      counts = λ q w. ap (λ (d : Entry). option_map (λ (p : Page). p.count) (page_in (get new) d)) (put.others q w)
           ∙ ap (option_map (λ (p : Page). p.count)) (page_stays (entry_at table) h.current q);
       kept = λ i j. kept_pages_stay (get pool) (get new) kept kept j refl
           (λ q. ap (option_map (value_in (slot_at kept j q))) (page_stays (slot_at kept j) (h.slots j) q)) i;
     };
-    live = len;
+    live = add.len;
   }
 
 both_one : (c : Option ℕ) → freed c + added c ≡ 1
@@ -267,27 +267,31 @@ placed n page old mid new r a = record {
 
 -- ---- room that is made changes nothing
 
-module _ (pool new : Slab Page) (table later : Table) (kept : List (Option Table)) (alike : AreAlike table later)
-    (same : (k : ℕ) → get new k ≡ get pool k) where
-  tables : entry_at later ≡ entry_at table
-  tables = λ i n. alike.at n i
+module _ {pool new : Slab Page} {table later : Table} (kept : List (Option Table)) (alike : AreAlike table later)
+    (keeps : KeepsPages pool new)
+  where
+    tables : entry_at later ≡ entry_at table
+    tables = λ i n. alike.at n i
 
-  pools : get new ≡ get pool
-  pools = λ i k. same k i
+    pools : get new ≡ get pool
+    pools = λ i k. keeps.same k i
 
-  pub roomy_shared : AreShared (get pool) (entry_at table) kept → AreShared (get new) (entry_at later) kept
-  roomy_shared h =
-      subst (λ (t : ℕ → Entry). AreShared (get new) t kept) (sym tables)
-      (subst (λ (f : ℕ → Option Page). AreShared f (entry_at table) kept) (sym pools) h)
+    pub roomy_shared : AreShared (get pool) (entry_at table) kept → AreShared (get new) (entry_at later) kept
+    roomy_shared h =
+        subst (λ (t : ℕ → Entry). AreShared (get new) t kept) (sym tables)
+        (subst (λ (f : ℕ → Option Page). AreShared f (entry_at table) kept) (sym pools) h)
 
-  pub roomy_contents : slab_len new ≡ slab_len pool → contents_in new later kept ≡ contents_in pool table kept
-  roomy_contents len =
-      λ i. record {
-        pages = pages_in (pools i) (tables i);
-        counts = counts_in (pools i) (tables i);
-        kept = kept_in (pools i) kept;
-        live = len i;
-      }
+    pub roomy_contents : contents_in new later kept ≡ contents_in pool table kept
+    roomy_contents =
+        λ i. record {
+          pages = pages_in (pools i) (tables i);
+          counts = counts_in (pools i) (tables i);
+          kept = kept_in (pools i) kept;
+          live = keeps.len i;
+        }
+
+    pub roomy_value : (v : TablesValue) → value_of (contents_in pool table kept) ≡ v → value_of (contents_in new later kept) ≡ v
+    roomy_value v view = ap value_of roomy_contents ∙ view
 
 -- ---- bytes that are written into a page that no snapshot shares
 
@@ -327,24 +331,17 @@ module _ (pool new : Slab Page) (table : Table) (kept : List (Option Table)) (n 
         filled = filled;
       } where
         filled : (k : ℕ) → IfSome (get new k) (λ p. FillPage p.bytes.value)
-        filled k = elim (cases_eq k key) [
-          | inl e ↦ subst (λ (o : Option Page). IfSome o (λ p. FillPage p.bytes.value)) (sym (ap (get new) e ∙ page)) is.filled
-          | inr e ↦ subst (λ (o : Option Page). IfSome o (λ p. FillPage p.bytes.value)) (sym (rest k e)) (h.filled k)
-        ]
+        filled = changed_page (λ k o. IfSome o (λ p. FillPage p.bytes.value)) pool new key q page rest is.filled (λ k w. h.filled k)
+
+        c : (p.count ≡ sharers (entry_at table) kept p.number key) × (1 ≤ p.count)
+        c = count_is (get pool) (entry_at table) kept h key p there
+
+        same : q.count ≡ sharers (entry_at table) kept q.number key
+        same = is.count ∙ c.0 ∙ sym (ap (λ (i : ℕ). sharers (entry_at table) kept i key) is.number)
 
         counted : (k : ℕ) → IfSome (get new k) (λ p. (p.count ≡ sharers (entry_at table) kept p.number k) × (1 ≤ p.count))
-        counted k = elim (cases_eq k key) [
-          | inl e ↦
-              let c = count_is (get pool) (entry_at table) kept h key p there in
-              let same : q.count ≡ sharers (entry_at table) kept q.number k =
-              is.count ∙ c.0
-              ∙ sym (ap (λ (i : ℕ). sharers (entry_at table) kept i k) is.number
-              ∙ ap (λ (i : ℕ). sharers (entry_at table) kept p.number i) e) in
-              subst (λ (o : Option Page). IfSome o (λ p. (p.count ≡ sharers (entry_at table) kept p.number k) × (1 ≤ p.count)))
-              (sym (ap (get new) e ∙ page)) (same, omega (arith, is.count, c.1))
-          | inr e ↦ subst (λ (o : Option Page). IfSome o (λ p. (p.count ≡ sharers (entry_at table) kept p.number k) × (1 ≤ p.count)))
-              (sym (rest k e)) (h.counted k)
-        ]
+        counted = changed_page (λ k o. IfSome o (λ p. (p.count ≡ sharers (entry_at table) kept p.number k) × (1 ≤ p.count))) pool new key q
+            page rest (same, omega (arith, is.count, c.1)) (λ k w. h.counted k)
 
   unmoved : (t : ℕ → Entry) (i : ℕ) → ((t i).mapped ≡ true → (t i).key ≢ key) → page_in (get new) (t i) ≡ page_in (get pool) (t i)
   unmoved t i apart = by_test (t i).mapped refl where
@@ -410,18 +407,17 @@ pub placed_again : (n : ℕ) (page : PageValue) (old new : Contents) → Some pa
     IsUnshared n old new
 placed_again n page old new e i = record { here = i.here ∙ e; own = i.own; rest = i.rest; live = i.live }
 
-module _ (pool : Slab Page) (table : Table) (kept : List (Option Table)) (v : TablesValue) (h : AreShared (get pool) (entry_at table) kept)
-    (view : value_of (contents_in pool table kept) ≡ v) (n : ℕ) where
+module _ {pool : Slab Page} {table : Table} {kept : List (Option Table)} {v : TablesValue} (s : StandFor pool table kept v) (n : ℕ) where
   pub live_mapped : IsSome ((contents_of v).pages n) → (entry_at table n).mapped ≡ true
   live_mapped live =
-      by_test (entry_at table n).mapped (subst (λ (c : Contents). IsSome (c.pages n)) (seen pool table kept v h view) live) where
+      by_test (entry_at table n).mapped (subst (λ (c : Contents). IsSome (c.pages n)) (seen s) live) where
         by_test : (b : Bool) → IsSome (option_map (value_in (entry_at table n)) (if b then get pool (entry_at table n).key else None)) →
             b ≡ true
         by_test true i = refl
         by_test false i = i
 
   pub own_mapped : (contents_of v).counts n ≡ Some 1 → (entry_at table n).mapped ≡ true
-  own_mapped one = by_test (entry_at table n).mapped (sym (ap (λ (c : Contents). c.counts n) (seen pool table kept v h view)) ∙ one) where
+  own_mapped one = by_test (entry_at table n).mapped (sym (ap (λ (c : Contents). c.counts n) (seen s)) ∙ one) where
     by_test : (b : Bool) → option_map (λ (p : Page). p.count) (if b then get pool (entry_at table n).key else None) ≡ Some 1 → b ≡ true
     by_test true i = refl
     by_test false i = ap is_some i
@@ -429,47 +425,83 @@ module _ (pool : Slab Page) (table : Table) (kept : List (Option Table)) (v : Ta
   pub count_at : (p : Page) → (entry_at table n).mapped ≡ true → get pool (entry_at table n).key ≡ Some p →
       (contents_of v).counts n ≡ Some p.count
   count_at p m e =
-      ap (λ (c : Contents). c.counts n) (seen pool table kept v h view)
+      ap (λ (c : Contents). c.counts n) (seen s)
       ∙ ap (λ (b : Bool). option_map (λ (p : Page). p.count) (if b then get pool (entry_at table n).key else None)) m
       ∙ ap (option_map (λ (p : Page). p.count)) e
 
-  module _ (new : Slab Page) (at : ℕ) (bs : List ℕ) (e : Entry) (is : e ≡ entry_at table n) (own : (contents_of v).counts n ≡ Some 1)
-      (here : IfSome (get pool e.key) (λ p. IsSomeAnd (get new e.key) (IsRewritten (written p.bytes.value at bs) p)))
-      (rest : (k : ℕ) → k ≢ e.key → get new k ≡ get pool k) where
-    rewritten : (p : Page) → get pool e.key ≡ Some p → (q : Page) × (get new e.key ≡ Some q) × IsRewritten (written p.bytes.value at bs) p q
-    rewritten p there =
-        by_page (get new e.key) refl
-        (subst (λ (o : Option Page). IfSome o (λ p. IsSomeAnd (get new e.key) (IsRewritten (written p.bytes.value at bs) p))) there
-        here) where
-          by_page : (o : Option Page) → get new e.key ≡ o → IsSomeAnd o (IsRewritten (written p.bytes.value at bs) p) → (q : Page) ×
-              (get new e.key ≡ Some q) × IsRewritten (written p.bytes.value at bs) p q
-          by_page None w i = absurd i
-          by_page (Some q) w i = (q, w, i)
+  -- where there is a page, it is counted
+  pub live_count : IsSome ((contents_of v).pages n) → (e : Entry) → e ≡ entry_at table n → (p : Page) → get pool e.key ≡ Some p →
+      (contents_of v).counts n ≡ Some p.count
+  live_count live e is p there = count_at p (live_mapped live) (ap (λ (d : Entry). get pool d.key) (sym is) ∙ there)
 
-    keyed : (entry_at table n).key ≡ e.key
-    keyed = ap (λ (d : Entry). d.key) (sym is)
+  pub counts_seen : (contents_of v).counts n ≡ counts_in (get pool) (entry_at table) n
+  counts_seen = ap (λ (c : Contents). c.counts n) (seen s)
 
-    old-page : (p : Page) × (get pool (entry_at table n).key ≡ Some p) × (p.number ≡ n)
-    old-page = found (get pool) (entry_at table) n h.current (own_mapped own)
+-- bytes are written into the page of a key, which the current table alone has
+module _ {pool new : Slab Page} (table : Table) {kept : List (Option Table)} (n : ℕ) {key at : ℕ} {bs : List ℕ}
+    (h : AreShared (get pool) (entry_at table) kept)
+    (is : key ≡ (entry_at table n).key) (own : counts_in (get pool) (entry_at table) n ≡ Some 1) (w : Rewrites key at bs pool new) where
+  mapped : (entry_at table n).mapped ≡ true
+  mapped = by_test (entry_at table n).mapped own where
+    by_test : (b : Bool) → option_map (λ (p : Page). p.count) (if b then get pool (entry_at table n).key else None) ≡ Some 1 → b ≡ true
+    by_test true i = refl
+    by_test false i = ap is_some i
 
-    there : get pool e.key ≡ Some old-page.0
-    there = ap (get pool) (sym keyed) ∙ old-page.1
+  rewritten : (p : Page) → get pool key ≡ Some p → (q : Page) × (get new key ≡ Some q) × IsRewritten (written p.bytes.value at bs) p q
+  rewritten p there =
+      by_page (get new key) refl
+      (subst (λ (o : Option Page). IfSome o (λ p. IsSomeAnd (get new key) (IsRewritten (written p.bytes.value at bs) p))) there
+      w.here) where
+        by_page : (o : Option Page) → get new key ≡ o → IsSomeAnd o (IsRewritten (written p.bytes.value at bs) p) → (q : Page) ×
+            (get new key ≡ Some q) × IsRewritten (written p.bytes.value at bs) p q
+        by_page None e i = absurd i
+        by_page (Some q) e i = (q, e, i)
 
-    alone-page : old-page.0.count ≡ 1
-    alone-page = let same : Some old-page.0.count ≡ Some 1 = sym (count_at old-page.0 (own_mapped own) old-page.1) ∙ own in cc (same)
+  old-page : (p : Page) × (get pool (entry_at table n).key ≡ Some p) × (p.number ≡ n)
+  old-page = found (get pool) (entry_at table) n h.current mapped
 
-    pub write_shared : AreShared (get new) (entry_at table) kept
-    write_shared = let r =
-        rewritten old-page.0 there in
-        written_shared pool new table kept n at e.key bs h (own_mapped own) keyed old-page.0 r.0 there alone-page r.1 r.2 rest
+  there : get pool key ≡ Some old-page.0
+  there = ap (get pool) is ∙ old-page.1
 
-    pub write_contents : slab_len new ≡ slab_len pool → (w : TablesValue) → value_of (contents_in new table kept) ≡ w →
-        IsWritten n at bs (contents_of v) (contents_of w)
-    write_contents len w view-new =
-        let r = rewritten old-page.0 there in
-        transport (IsWritten n at bs) (contents_in pool table kept) (contents_in new table kept) (contents_of v) (contents_of w)
-        (seen pool table kept v h view) (seen new table kept w write_shared view-new)
-        (written_contents pool new table kept n at e.key bs h (own_mapped own) keyed old-page.0 r.0 there alone-page r.1 r.2 rest len)
+  alone-page : old-page.0.count ≡ 1
+  alone-page = same_Some _ _ (sym (counted old-page.0 mapped old-page.1) ∙ own) where
+    counted : (p : Page) → (entry_at table n).mapped ≡ true → get pool (entry_at table n).key ≡ Some p →
+        counts_in (get pool) (entry_at table) n ≡ Some p.count
+    counted p m e =
+        ap (λ (b : Bool). option_map (λ (p : Page). p.count) (if b then get pool (entry_at table n).key else None)) m
+        ∙ ap (option_map (λ (p : Page). p.count)) e
+
+  pub write_shared : AreShared (get new) (entry_at table) kept
+  write_shared = let r = rewritten old-page.0 there in
+      written_shared pool new table kept n at key bs h mapped (sym is) old-page.0 r.0 there alone-page r.1 r.2 w.others
+
+  pub write_contents : {v u : TablesValue} → value_of (contents_in pool table kept) ≡ v → value_of (contents_in new table kept) ≡ u →
+      IsWritten n at bs (contents_of v) (contents_of u)
+  write_contents view after = let r = rewritten old-page.0 there in
+      carried (stand pool table kept _ h view) (stand new table kept _ write_shared after) (IsWritten n at bs)
+      (written_contents pool new table kept n at key bs h mapped (sym is) old-page.0 r.0 there alone-page r.1 r.2 w.others w.len)
+
+-- bytes are put into a page that may be written where it stands
+module _ {pool new : Slab Page} (table : Table) {n key at : ℕ} {bs : List ℕ} {kept : List (Option Table)}
+    (h : AreShared (get pool) (entry_at table) kept) (o : IsOwnKey (get pool) (entry_at table) n key)
+    (w : Rewrites key at bs pool new) where
+  pub put_shared : AreShared (get new) (entry_at table) kept
+  put_shared = write_shared table n h o.is o.own w
+
+  pub put_done : {v : TablesValue} → value_of (contents_in pool table kept) ≡ v → {T : Type 0} (x : T) →
+      Puts (Ok x) n at bs v (value_of (contents_in new table kept))
+  put_done {v = v} view x = record {
+    allowed = allowed;
+    written = write_contents table n h o.is o.own w view refl;
+    refused = tt;
+    err = tt;
+  } where
+    allowed : allows_write ((contents_of v).pages n) ≡ true
+    allowed =
+        let s = stand pool table kept v h view in
+        let mapped = allows_mapped s (λ p. p.write) refl n (entry_at table n) refl o.allowed in
+        let f = found (get pool) (entry_at table) n h.current mapped in
+        ap allows_write (pages_seen s n ∙ page_mapped (get pool) (entry_at table) n f.0 mapped f.1) ∙ o.allowed
 
 -- a page is unshared, and then written
 pub written_after : (n at : ℕ) (bs : List ℕ) (old mid new : Contents) → IsUnshared n old mid → IsWritten n at bs mid new →
@@ -485,53 +517,42 @@ written_after n at bs old mid new u w = record {
   live = let none : added (mid.counts n) ≡ 0 = ap added u.own in omega (arith, w.live, u.live, none);
 }
 
+-- what isn't refused may be written
+pub unrefused : (o : Option PageValue) → put_refusal o ≡ None → allows_write o ≡ true
+unrefused None e = absurd (none-some _ (sym e))
+unrefused (Some p) e = by_test p.permissions.write e where
+  by_test : (b : Bool) → (if b then None else Some errors.NotAllowed) ≡ None → b ≡ true
+  by_test true i = refl
+  by_test false i = absurd (none-some _ (sym i))
+
+pub is_refusal : (o : Option PageValue) (fault : PutFault) → put_refusal o ≡ Some fault → IsPutRefusal o fault
+is_refusal None fault e = subst (IsPutRefusal None) (same_Some _ _ e) refl
+is_refusal (Some p) fault e = by_test p.permissions.write refl e where
+  by_test : (b : Bool) → p.permissions.write ≡ b → (if b then None else Some errors.NotAllowed) ≡ Some fault → IsPutRefusal (Some p) fault
+  by_test true i e = absurd (none-some _ e)
+  by_test false i e = subst (IsPutRefusal (Some p)) (same_Some _ _ e) (refl, i)
+
 pub writable_there : (o : Option PageValue) → allows_write o ≡ true → IsSome o
 writable_there None e = e
 writable_there (Some p) e = refl
 
-module _ (pool : Slab Page) (table : Table) (kept : List (Option Table)) (v : TablesValue) (h : AreShared (get pool) (entry_at table) kept)
-    (view : value_of (contents_in pool table kept) ≡ v) (n : ℕ)
-    (e : Entry) (is : e ≡ entry_at table n) (allowed : e.permissions.write ≡ true) where
-  writes_mapped : (entry_at table n).mapped ≡ true
-  writes_mapped =
-      allowed_mapped (get pool) (entry_at table) n (λ p. p.write) h.current refl
-      (ap (λ (d : Entry). d.permissions.write) (sym is) ∙ allowed)
-
-  pub writable_page : allows_write ((contents_of v).pages n) ≡ true
-  writable_page =
-      let f = found (get pool) (entry_at table) n h.current writes_mapped in
-      ap (λ (c : Contents). allows_write (c.pages n)) (seen pool table kept v h view)
-      ∙ ap allows_write (page_mapped (get pool) (entry_at table) n f.0 writes_mapped f.1)
-      ∙ ap (λ (d : Entry). d.permissions.write) (sym is) ∙ allowed
-
-  pub writable_present : IsSome (get pool e.key)
-  writable_present = subst (λ (d : Entry). IsSome (get pool d.key)) (sym is) (present (get pool) (entry_at table) n h.current writes_mapped)
-
-  pub own_if : (p : Page) → get pool e.key ≡ Some p → p.count ≤ 1 → (contents_of v).counts n ≡ Some 1
-  own_if p there few =
-      let at : get pool (entry_at table n).key ≡ Some p = ap (λ (d : Entry). get pool d.key) (sym is) ∙ there in
-      let one : p.count ≡ 1 = omega (arith, few, (count_is (get pool) (entry_at table) kept h (entry_at table n).key p at).1) in
-      count_at pool table kept v h view n p writes_mapped at ∙ ap Some one
-
 -- ---- permissions that are set
 
-module _ (pool : Slab Page) (table later : Table) (kept : List (Option Table)) (n : ℕ) (permissions : Permissions)
-    (h : AreShared (get pool) (entry_at table) kept)
-    (m : (entry_at table n).mapped ≡ true) (key : ℕ) (keyed : (entry_at table n).key ≡ key)
-    (here : entry_at later n ≡ record { key = key; mapped = true; permissions = permissions })
-    (others : (q : ℕ) → q ≢ n → entry_at later q ≡ entry_at table q) where
+module _ (pool : Slab Page) {table later : Table} {kept : List (Option Table)} {n key : ℕ} {permissions : Permissions}
+    (h : AreShared (get pool) (entry_at table) kept) (m : (entry_at table n).mapped ≡ true) (keyed : (entry_at table n).key ≡ key)
+    (put : SetsEntry n (record { key = key; mapped = true; permissions = permissions }) table later) where
   same-mapped : (q : ℕ) → (entry_at later q).mapped ≡ (entry_at table q).mapped
   same-mapped q = elim (cases_eq q n) [
-    | inl w ↦ ap (λ (i : ℕ). (entry_at later i).mapped) w ∙ ap (λ (d : Entry). d.mapped) here
+    | inl w ↦ ap (λ (i : ℕ). (entry_at later i).mapped) w ∙ ap (λ (d : Entry). d.mapped) put.here
         ∙ sym (ap (λ (i : ℕ). (entry_at table i).mapped) w ∙ m)
-    | inr w ↦ ap (λ (d : Entry). d.mapped) (others q w)
+    | inr w ↦ ap (λ (d : Entry). d.mapped) (put.others q w)
   ]
 
   same-key : (q : ℕ) → (entry_at later q).key ≡ (entry_at table q).key
   same-key q = elim (cases_eq q n) [
-    | inl w ↦ ap (λ (i : ℕ). (entry_at later i).key) w ∙ ap (λ (d : Entry). d.key) here
+    | inl w ↦ ap (λ (i : ℕ). (entry_at later i).key) w ∙ ap (λ (d : Entry). d.key) put.here
         ∙ sym (ap (λ (i : ℕ). (entry_at table i).key) w ∙ keyed)
-    | inr w ↦ ap (λ (d : Entry). d.key) (others q w)
+    | inr w ↦ ap (λ (d : Entry). d.key) (put.others q w)
   ]
 
   same-page : (q : ℕ) → page_in (get pool) (entry_at later q) ≡ page_in (get pool) (entry_at table q)
@@ -546,7 +567,7 @@ module _ (pool : Slab Page) (table later : Table) (kept : List (Option Table)) (
           (h.current.own q (sym (same-mapped q) ∙ w));
       none = λ q w. elim (cases_eq q n) [
         | inl e ↦ absurd (false≢true (sym (sym (same-mapped q) ∙ w) ∙ ap (λ (i : ℕ). (entry_at table i).mapped) e ∙ m))
-        | inr e ↦ ap (λ (d : Entry). d.permissions) (others q e) ∙ h.current.none q (sym (same-mapped q) ∙ w)
+        | inr e ↦ ap (λ (d : Entry). d.permissions) (put.others q e) ∙ h.current.none q (sym (same-mapped q) ∙ w)
       ];
     }
 
@@ -564,12 +585,12 @@ module _ (pool : Slab Page) (table later : Table) (kept : List (Option Table)) (
   pub protected_contents : IsProtected n permissions (contents_in pool table kept) (contents_in pool later kept)
   protected_contents = record {
     page =
-        ap (λ (d : Entry). option_map (value_in d) (page_in (get pool) (entry_at later n))) here
+        ap (λ (d : Entry). option_map (value_in d) (page_in (get pool) (entry_at later n))) put.here
         ∙ ap (option_map (value_in (record { key = key; mapped = true; permissions = permissions }))) (same-page n)
         ∙ by_page (page_in (get pool) (entry_at table n));
     count = ap (option_map (λ (p : Page). p.count)) (same-page n);
     rest = record {
-      pages = λ q w. ap (λ (d : Entry). option_map (value_in d) (page_in (get pool) d)) (others q w);
+      pages = λ q w. ap (λ (d : Entry). option_map (value_in d) (page_in (get pool) d)) (put.others q w);
       counts = λ q w. ap (option_map (λ (p : Page). p.count)) (same-page q);
       kept = refl;
     };

@@ -8,7 +8,7 @@ use Rattle.page_tables.specs.declared.table.TheConstants.{NO_PAGE}
 use Rattle.page_tables.specs.declared.table.Entry.{Entry}
 use Rattle.page_tables.specs.declared.table.Leaf.{Leaf}
 use Rattle.page_tables.specs.declared.table.Table.{Table}
-use Rattle.page_tables.specs.Table.{entry_in, leaf_in, is_leaf, entry_at, has_leaf, IsSlotCopy}
+use Rattle.page_tables.specs.Table.{entry_in, leaf_in, is_leaf, entry_at, has_leaf, IsSlotCopy, Extends}
 
 -- where there is room, the directory reaches
 pub within : (t : Table) (n : ℕ) → has_leaf t n ≡ true → n / 1024 < length t.directory.items
@@ -174,3 +174,6 @@ mapped_leaf t n m = by_leaf (leaf_in t.directory.items n) m where
   by_leaf : (o : Option Leaf) → (entry_in o (n % 1024)).mapped ≡ true → is_leaf o ≡ true
   by_leaf None e = e
   by_leaf (Some leaf) e = refl
+
+pub extends_more : {t u w : Table} → Extends t u → Extends u w → Extends t w
+extends_more a b = record { same = record { at = λ n. b.same.at n ∙ a.same.at n }; kept = λ n was. b.kept n (a.kept n was) }

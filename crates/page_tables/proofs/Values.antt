@@ -1,5 +1,5 @@
 -- What page tables contain, and the value that stands for it.
-use Rattle.std.proofs.Common.{◌≡◌, ℕ, zero, suc, ◌<◌, ◌≤◌, ◌^◌, Bool, true, false, not, cond, List, get_or, Option, Some, None, IfSome, IsSome, is_some, refl, ap, ◌∙◌, sym, subst, arith, inl, inr, if◌then◌else◌}
+use Rattle.std.proofs.Common.{◌≡◌, ℕ, zero, suc, ◌<◌, ◌≤◌, ◌^◌, Bool, true, false, not, cond, List, get_or, Option, Some, None, IfSome, IsSome, IsSomeAnd, is_some, refl, ap, ◌∙◌, sym, subst, arith, inl, inr, if◌then◌else◌}
 use Rattle.std.proofs.lemmas.Bool.{false≢true, cases_lt}
 use Rattle.std.proofs.lemmas.Bool.Decides.{eqb_tells}
 use Rattle.std.proofs.lemmas.List.{get_or_past}
@@ -15,7 +15,7 @@ use Rattle.page_tables.specs.declared.pool.Page.{Page}
 use Rattle.page_tables.specs.Table.{entry_at}
 use Rattle.page_tables.specs.Contents.{PageValue, Contents, TablesValue, contents_of, value_of, at_number, with_entry, gathered}
 use Rattle.page_tables.specs.Sharing.{slot_at, slot_entry, IsTableOf, AreShared, page_in, value_in, pages_in, kept_in, contents_in}
-use Rattle.page_tables.specs.Changes.{IsNext}
+use Rattle.page_tables.specs.Changes.{IsNext, allows, bytes_if}
 use Rattle.page_tables.proofs.Sharing.{found}
 
 -- ---- functions as data
@@ -92,16 +92,6 @@ kept_high pool kept h i = by_slot (get_or kept i None) refl where
       λ n l. ap (option_map (value_in (entry_at t n)))
       (high pool (entry_at t) (subst (λ (s : Option Table). IsTableOf pool (slot_entry s)) e (h i)) n l)
 
--- what the value of page tables stands for
-pub seen : (pool : Slab Page) (table : Table) (kept : List (Option Table)) (v : TablesValue) →
-    AreShared (slab_get pool) (entry_at table) kept → value_of (contents_in pool table kept) ≡ v →
-    contents_of v ≡ contents_in pool table kept
-seen pool table kept v h view = ap contents_of (sym view) ∙ contents_is (contents_in pool table kept)
-    (λ n l. ap (option_map (value_in (entry_at table n))) (high (slab_get pool) (entry_at table) h.current n l))
-    (λ n l. ap (option_map (λ (p : Page). p.count)) (high (slab_get pool) (entry_at table) h.current n l))
-    (λ i l. ap (option_map (λ t. pages_in (slab_get pool) (entry_at t))) (get_or_past kept i None (omega (arith, h.few))))
-    (kept_high (slab_get pool) kept h.slots)
-
 -- ---- entries that allow something
 
 abbrev pub page_of : Entry → List ℕ → PageValue
@@ -127,35 +117,6 @@ page_mapped pool t n p m e =
 pub page_unmapped : (pool : ℕ → Option Page) (t : ℕ → Entry) (n : ℕ) → (t n).mapped ≡ false → pages_in pool t n ≡ None
 page_unmapped pool t n m = ap (λ (b : Bool). option_map (value_in (t n)) (if b then pool (t n).key else None)) m
 
-pub shown_page : (pool : Slab Page) (table : Table) (kept : List (Option Table)) (v : TablesValue) →
-    AreShared (slab_get pool) (entry_at table) kept → value_of (contents_in pool table kept) ≡ v →
-    (n : ℕ) (e : Entry) (p : Page) (bytes : List ℕ) → e ≡ entry_at table n → e.mapped ≡ true → slab_get pool e.key ≡ Some p →
-    bytes ≡ p.bytes.value → Some (page_of e bytes) ≡ (contents_of v).pages n
-shown_page pool table kept v h view n e p bytes is mapped there same =
-    ap (λ (bs : List ℕ). Some (page_of e bs)) same ∙ ap (λ (d : Entry). Some (value_in d p)) is
-    ∙ sym (ap (λ (c : Contents). c.pages n) (seen pool table kept v h view)
-    ∙ page_mapped (slab_get pool) (entry_at table) n p (ap (λ (d : Entry). d.mapped) (sym is) ∙ mapped)
-    (ap (λ (d : Entry). slab_get pool d.key) (sym is) ∙ there))
-
-pub shown_none : (pool : Slab Page) (table : Table) (kept : List (Option Table)) (v : TablesValue) →
-    AreShared (slab_get pool) (entry_at table) kept → value_of (contents_in pool table kept) ≡ v →
-    (n : ℕ) (e : Entry) → e ≡ entry_at table n → e.mapped ≡ false → (contents_of v).pages n ≡ None
-shown_none pool table kept v h view n e is mapped =
-    ap (λ (c : Contents). c.pages n) (seen pool table kept v h view)
-    ∙ page_unmapped (slab_get pool) (entry_at table) n (ap (λ (d : Entry). d.mapped) (sym is) ∙ mapped)
-
--- what the entry doesn't allow the page doesn't
-pub shown_not : (pool : Slab Page) (table : Table) (kept : List (Option Table)) (v : TablesValue) →
-    AreShared (slab_get pool) (entry_at table) kept → value_of (contents_in pool table kept) ≡ v →
-    (allows : Permissions → Bool) (test : Option PageValue → Bool) → test None ≡ false →
-    ((p : PageValue) → test (Some p) ≡ allows p.permissions) → (n : ℕ) (e : Entry) → e ≡ entry_at table n →
-    allows e.permissions ≡ false → test ((contents_of v).pages n) ≡ false
-shown_not pool table kept v h view allows test nothing some n e is not =
-    ap (λ (c : Contents). test (c.pages n)) (seen pool table kept v h view) ∙ by_page (page_in (slab_get pool) (entry_at table n)) where
-      by_page : (o : Option Page) → test (option_map (value_in (entry_at table n)) o) ≡ false
-      by_page None = nothing
-      by_page (Some p) = some (value_in (entry_at table n) p) ∙ ap (λ (d : Entry). allows d.permissions) (sym is) ∙ not
-
 pub not_true : (b : Bool) → not b ≡ true → b ≡ false
 not_true true e = absurd (false≢true e)
 not_true false e = refl
@@ -167,15 +128,96 @@ not_false false e = absurd (false≢true (sym e))
 pub gathered_none : {X : Type 0} (n : ℕ) (f : ℕ → Option X) → ((q : ℕ) → f q ≡ None) → (q : ℕ) → at_number (gathered n f) q ≡ None
 gathered_none n f all q = elim (cases_lt q n) [ inl w ↦ gathered_below n f q w ∙ all q | inr w ↦ gathered_above n f q w ]
 
+-- ---- page tables and the value that stands for what they contain
+
+pub record StandFor (pool : Slab Page) (table : Table) (kept : List (Option Table)) (v : TablesValue) : Type 0 where
+  pub shared : AreShared (slab_get pool) (entry_at table) kept
+  pub view : value_of (contents_in pool table kept) ≡ v
+
+pub stand : (pool : Slab Page) (table : Table) (kept : List (Option Table)) (v : TablesValue) →
+    AreShared (slab_get pool) (entry_at table) kept → value_of (contents_in pool table kept) ≡ v → StandFor pool table kept v
+stand pool table kept v shared view = record { shared = shared; view = view }
+
+module _ {pool : Slab Page} {table : Table} {kept : List (Option Table)} {v : TablesValue} (s : StandFor pool table kept v) where
+  pub seen : contents_of v ≡ contents_in pool table kept
+  seen = ap contents_of (sym s.view) ∙ contents_is (contents_in pool table kept)
+      (λ n l. ap (option_map (value_in (entry_at table n))) (high (slab_get pool) (entry_at table) s.shared.current n l))
+      (λ n l. ap (option_map (λ (p : Page). p.count)) (high (slab_get pool) (entry_at table) s.shared.current n l))
+      (λ i l. ap (option_map (λ t. pages_in (slab_get pool) (entry_at t))) (get_or_past kept i None (omega (arith, s.shared.few))))
+      (kept_high (slab_get pool) kept s.shared.slots)
+
+  pub pages_seen : (n : ℕ) → (contents_of v).pages n ≡ pages_in (slab_get pool) (entry_at table) n
+  pages_seen n = ap (λ (c : Contents). c.pages n) seen
+
+  -- an entry that allows something is of a page
+  pub allows_mapped : (test : Permissions → Bool) → test NO_PAGE.permissions ≡ false → (n : ℕ) (e : Entry) → e ≡ entry_at table n →
+      test e.permissions ≡ true → (entry_at table n).mapped ≡ true
+  allows_mapped test nothing n e is allowed =
+      allowed_mapped (slab_get pool) (entry_at table) n test s.shared.current nothing
+      (ap (λ (d : Entry). test d.permissions) (sym is) ∙ allowed)
+
+  pub shown_page : (n : ℕ) (e : Entry) (p : Page) (bytes : List ℕ) → e ≡ entry_at table n → e.mapped ≡ true →
+      slab_get pool e.key ≡ Some p → bytes ≡ p.bytes.value → Some (page_of e bytes) ≡ (contents_of v).pages n
+  shown_page n e p bytes is mapped there same =
+      ap (λ (bs : List ℕ). Some (page_of e bs)) same ∙ ap (λ (d : Entry). Some (value_in d p)) is
+      ∙ sym (pages_seen n ∙ page_mapped (slab_get pool) (entry_at table) n p (ap (λ (d : Entry). d.mapped) (sym is) ∙ mapped)
+      (ap (λ (d : Entry). slab_get pool d.key) (sym is) ∙ there))
+
+  pub shown_none : (n : ℕ) (e : Entry) → e ≡ entry_at table n → e.mapped ≡ false → (contents_of v).pages n ≡ None
+  shown_none n e is mapped =
+      pages_seen n ∙ page_unmapped (slab_get pool) (entry_at table) n (ap (λ (d : Entry). d.mapped) (sym is) ∙ mapped)
+
+  -- what the entry doesn't allow the page doesn't
+  pub shown_not : (test : Permissions → Bool) (n : ℕ) {e : Entry} → e ≡ entry_at table n → test e.permissions ≡ false →
+      allows test ((contents_of v).pages n) ≡ false
+  shown_not test n is not = ap (allows test) (pages_seen n) ∙ by_page (page_in (slab_get pool) (entry_at table n)) where
+    by_page : (o : Option Page) → allows test (option_map (value_in (entry_at table n)) o) ≡ false
+    by_page None = refl
+    by_page (Some p) = ap (λ (d : Entry). test d.permissions) (sym is) ∙ not
+
+  -- the bytes of a page, where its entry allows what is asked
+  pub no_bytes : (test : Permissions → Bool) (n : ℕ) {e : Entry} → e ≡ entry_at table n → test e.permissions ≡ false →
+      None ≡ bytes_if (allows test ((contents_of v).pages n)) ((contents_of v).pages n)
+  no_bytes test n is not = sym (ap (λ (b : Bool). bytes_if b ((contents_of v).pages n)) (shown_not test n is not))
+
+  pub shown_bytes : (test : Permissions → Bool) → test NO_PAGE.permissions ≡ false → (n : ℕ) {e : Entry} {p : Page} {bytes : List ℕ} →
+      e ≡ entry_at table n → test e.permissions ≡ true → slab_get pool e.key ≡ Some p → bytes ≡ p.bytes.value →
+      Some bytes ≡ bytes_if (allows test ((contents_of v).pages n)) ((contents_of v).pages n)
+  shown_bytes test nothing n {e = e} {p = p} {bytes = bytes} is allowed there same =
+      let mapped = ap (λ (d : Entry). d.mapped) is ∙ allows_mapped test nothing n e is allowed in
+      sym (ap (λ (b : Bool). bytes_if b (Some (page_of e bytes))) allowed)
+      ∙ ap (λ (o : Option PageValue). bytes_if (allows test o) o) (shown_page n e p bytes is mapped there same)
+
+  -- what a live snapshot has
+  pub slot_seen : (P : (ℕ → Option PageValue) → Type 0) (i : ℕ) {t : Table} → get_or kept i None ≡ Some t →
+      P (pages_in (slab_get pool) (entry_at t)) → IsSomeAnd ((contents_of v).kept i) P
+  slot_seen P i e holds =
+      let same = ap (λ (c : Contents). c.kept i) seen ∙ ap (option_map (λ (u : Table). pages_in (slab_get pool) (entry_at u))) e in
+      subst (λ (o : Option (ℕ → Option PageValue)). IsSomeAnd o P) (sym same) holds
+
 -- a live snapshot has a slot
-pub slot_there : (pool : Slab Page) (table : Table) (kept : List (Option Table)) (v : TablesValue) →
-    AreShared (slab_get pool) (entry_at table) kept → value_of (contents_in pool table kept) ≡ v →
-    (i : ℕ) → IsSome ((contents_of v).kept i) → IsSome (get_or kept i None)
-slot_there pool table kept v h view i live =
-    by_slot (get_or kept i None) (subst (λ (c : Contents). IsSome (c.kept i)) (seen pool table kept v h view) live) where
+pub slot_there : (pool : Slab Page) (table : Table) (kept : List (Option Table)) (v : TablesValue) (i : ℕ) →
+    AreShared (slab_get pool) (entry_at table) kept → value_of (contents_in pool table kept) ≡ v → IsSome ((contents_of v).kept i) →
+    IsSome (get_or kept i None)
+slot_there pool table kept v i h view live =
+    by_slot (get_or kept i None) (subst (λ (c : Contents). IsSome (c.kept i)) (seen (stand pool table kept v h view)) live) where
       by_slot : (o : Option Table) → IsSome (option_map (λ t. pages_in (slab_get pool) (entry_at t)) o) → IsSome o
       by_slot None e = e
       by_slot (Some t) e = refl
+
+-- and in it a table
+pub slot_table : (pool : Slab Page) (t : ℕ → Entry) (kept : List (Option Table)) (i : ℕ) (u : Table) → AreShared (slab_get pool) t kept →
+    get_or kept i None ≡ Some u → IsTableOf (slab_get pool) (entry_at u)
+slot_table pool t kept i u h e = subst (λ (o : Option Table). IsTableOf (slab_get pool) (slot_entry o)) e (h.slots i)
+
+-- a change of what page tables contain, as one of the values that they stand for
+pub carried : {pool new : Slab Page} {table later : Table} {kept left : List (Option Table)} {v w : TablesValue} →
+    StandFor pool table kept v →
+    StandFor new later left w → (R : Contents → Contents → Type 0) → R (contents_in pool table kept) (contents_in new later left) →
+    R (contents_of v) (contents_of w)
+carried {pool = pool} {table = table} {kept = kept} {w = w} s t R r =
+    subst (λ (c : Contents). R c (contents_of w)) (sym (seen s))
+    (subst (λ (d : Contents). R (contents_in pool table kept) d) (sym (seen t)) r)
 
 -- what comes next
 pub next_some : (pool : ℕ → Option Page) (t : ℕ → Entry) (least n : ℕ) → IsTableOf pool t → least ≤ n → n < 0x80000 → (t n).mapped ≡ true →

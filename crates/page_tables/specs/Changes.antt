@@ -1,5 +1,5 @@
 -- How calls change what page tables contain.
-use Rattle.std.specs.Prelude.{◌≡◌, ◌≢◌, ℕ, ◌+◌, ◌<◌, ◌≤◌, ◌==◌, Bool, true, false, if◌then◌else◌, List, [], ◌∷◌, Option, Some, None, IsSome, IfSome, IsSomeAnd, Result, OnOk, OnErr, IfErr, slice_set, replicate}
+use Rattle.std.specs.Prelude.{◌≡◌, ◌≢◌, ℕ, ◌+◌, ◌<◌, ◌≤◌, ◌^◌, ◌==◌, Bool, true, false, if◌then◌else◌, List, [], ◌∷◌, Option, Some, None, IsSome, IfSome, IsSomeAnd, Result, OnOk, OnErr, IfErr, slice_set, replicate}
 use Rattle.std.specs.List.{list_any}
 use Rattle.std.specs.Option.{option_map}
 use Rattle.rrv_model.specs.declared.machine.Permissions.{Permissions}
@@ -8,7 +8,7 @@ use Rattle.page_tables.specs.declared.page_tables.PageView.{PageView}
 use Rattle.page_tables.specs.declared.page_tables.PutFault.{PutFault}
 use Rattle.page_tables.specs.declared.page_tables.PutFault.TheVariants as errors
 use Rattle.page_tables.specs.Contents.{PageValue, TablesValue, Contents, FillPage, contents_of, sum_below}
-use Rattle.slab.specs.Slab.{Slab, get, slab_len}
+use Rattle.slab.specs.Slab.{Slab, get, slab_len, ContainsKey, HasRoomFor}
 
 -- the current table alone has page n: to write it takes no memory
 abbrev pub IsOwn : Contents → ℕ → Type 0
@@ -40,6 +40,34 @@ pub record ChangesPage (key : ℕ) (change : Option Page → Option Page) (old n
   pub others : (k : ℕ) → k ≢ key → get new k ≡ get old k
   pub room : new.capacity ≡ old.capacity
 
+-- and there are as many
+pub record Recounts (key : ℕ) (change : Option Page → Option Page) (old new : Slab Page) : Type 0 where
+  pub count : ChangesPage key change old new
+  pub len : slab_len new ≡ slab_len old
+
+-- a page comes into the pool under this key, which was free
+pub record Adds (key : ℕ) (page : Page) (old new : Slab Page) : Type 0 where
+  pub free : get old key ≡ None
+  pub here : get new key ≡ Some page
+  pub others : (k : ℕ) → k ≢ key → get new k ≡ get old k
+  pub len : slab_len new ≡ slab_len old + 1
+  pub room : new.capacity ≡ old.capacity
+
+-- each page of the pool stays
+pub record KeepsPages (old new : Slab Page) : Type 0 where
+  pub same : (k : ℕ) → get new k ≡ get old k
+  pub len : slab_len new ≡ slab_len old
+
+-- the pool has room for so many more pages, and each key fits an entry
+pub record IsRoomyFor (pool : Slab Page) (count : ℕ) : Type 0 where
+  pub room : HasRoomFor pool count
+  pub small : pool.capacity ≤ 2 ^ 32
+
+-- the pool has a page of this key, and so many bytes fit it from a place on
+pub record HasPlace (pool : Slab Page) (key at count : ℕ) : Type 0 where
+  pub there : ContainsKey pool key
+  pub fits : at + count ≤ 4096
+
 -- bytes are written into the pool's page of this key from a place on, and nothing else changes
 pub record Rewrites (key at : ℕ) (bs : List ℕ) (old new : Slab Page) : Type 0 where
   pub here : IfSome (get old key) (λ p. IsSomeAnd (get new key) (IsRewritten (written p.bytes.value at bs) p))
@@ -54,17 +82,18 @@ pub record KeepsOthers (n : ℕ) (old new : Contents) : Type 0 where
 
 -- ---- permissions that are asked for
 
+abbrev pub allows : (Permissions → Bool) → Option PageValue → Bool
+allows test None = false
+allows test (Some p) = test p.permissions
+
 abbrev pub allows_read : Option PageValue → Bool
-allows_read None = false
-allows_read (Some p) = p.permissions.read
+allows_read = allows (λ p. p.read)
 
 abbrev pub allows_write : Option PageValue → Bool
-allows_write None = false
-allows_write (Some p) = p.permissions.write
+allows_write = allows (λ p. p.write)
 
 abbrev pub allows_execute : Option PageValue → Bool
-allows_execute None = false
-allows_execute (Some p) = p.permissions.execute
+allows_execute = allows (λ p. p.execute)
 
 abbrev pub bytes_if : Bool → Option PageValue → Option (List ℕ)
 bytes_if allowed page = if allowed then option_map (λ p. p.bytes) page else None
@@ -165,6 +194,11 @@ abbrev pub IsPutRefusal : Option PageValue → PutFault → Type 0
 IsPutRefusal page errors.NotMapped = page ≡ None
 IsPutRefusal page errors.NotAllowed = IsSome page × (allows_write page ≡ false)
 IsPutRefusal page errors.Memory = allows_write page ≡ true
+
+-- why a write into this page is refused before it takes memory
+abbrev pub put_refusal : Option PageValue → Option PutFault
+put_refusal None = Some errors.NotMapped
+put_refusal (Some p) = if p.permissions.write then None else Some errors.NotAllowed
 
 -- bytes are written into page n from a place on, which may be written; where the write is refused, nothing changes
 pub record Puts {T : Type 0} (result : Result T PutFault) (n at : ℕ) (bs : List ℕ) (old new : TablesValue) : Type 0 where

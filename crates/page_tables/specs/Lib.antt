@@ -3,3 +3,4 @@ pub mod Contents
 pub mod Sharing
 pub mod Changes
 pub mod NewPages
+pub mod Access

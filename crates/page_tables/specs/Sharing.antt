@@ -1,6 +1,6 @@
 -- Tables that share the pages of a pool: a key stands in a table only at its page's own number, a page's count is the
 -- number of tables that have it there, no count is 0, and each page has 4,096 bytes.
-use Rattle.std.specs.Prelude.{◌≡◌, ◌≢◌, ℕ, zero, suc, ◌+◌, ◌-◌, ◌<◌, ◌≤◌, ◌^◌, ◌==◌, Bool, true, false, ◌&&◌, nat_lt, if◌then◌else◌, List, length, Option, Some, None, IfSome, IsSomeAnd, slice_index_or, count_by}
+use Rattle.std.specs.Prelude.{◌≡◌, ◌≢◌, ℕ, zero, suc, ◌+◌, ◌-◌, ◌<◌, ◌≤◌, ◌^◌, ◌==◌, Bool, true, false, ◌&&◌, nat_lt, if◌then◌else◌, List, length, Option, Some, None, IfSome, IsSome, IsSomeAnd, slice_index_or, count_by}
 use Rattle.std.specs.Option.{option_map}
 use Rattle.slab.specs.Slab.{Slab, get, slab_len}
 use Rattle.page_tables.specs.declared.table.TheConstants.{NO_PAGE}
@@ -68,6 +68,13 @@ contents_in pool t kept = record {
   kept = kept_in (get pool) kept;
   live = slab_len pool;
 }
+
+-- the key of the page that a table has at number n, which may be written, and which no other table has
+pub record IsOwnKey (pool : ℕ → Option Page) (t : ℕ → Entry) (n key : ℕ) : Type 0 where
+  pub is : key ≡ (t n).key
+  pub there : IsSome (pool key)
+  pub allowed : (t n).permissions.write ≡ true
+  pub own : counts_in pool t n ≡ Some 1
 
 -- ---- counts that change
 

@@ -1,5 +1,5 @@
 -- What a table of two levels has at each page number.
-use Rattle.std.specs.Prelude.{◌≡◌, ℕ, ◌/◌, ◌%◌, Bool, true, false, List, Option, Some, None, slice_index_or}
+use Rattle.std.specs.Prelude.{◌≡◌, ◌≢◌, ℕ, ◌/◌, ◌%◌, Bool, true, false, List, Option, Some, None, slice_index_or}
 use Rattle.page_tables.specs.declared.table.TheConstants.{NO_PAGE}
 use Rattle.page_tables.specs.declared.table.Entry.{Entry}
 use Rattle.page_tables.specs.declared.table.Leaf.{Leaf}
@@ -28,6 +28,17 @@ has_leaf t n = is_leaf (leaf_in t.directory.items n)
 -- two tables have the same at each number
 pub record AreAlike (t u : Table) : Type 0 where
   pub at : (n : ℕ) → entry_at u n ≡ entry_at t n
+
+-- what a table has at each number another has too, and room where that one has
+pub record Extends (t u : Table) : Type 0 where
+  pub same : AreAlike t u
+  pub kept : (n : ℕ) → has_leaf t n ≡ true → has_leaf u n ≡ true
+
+-- a table has this entry at number n; nothing else changes
+pub record SetsEntry (n : ℕ) (entry : Entry) (t u : Table) : Type 0 where
+  pub here : entry_at u n ≡ entry
+  pub others : (q : ℕ) → q ≢ n → entry_at u q ≡ entry_at t q
+  pub leaves : (q : ℕ) → has_leaf u q ≡ has_leaf t q
 
 -- two slots of a directory have the same at each place
 abbrev pub IsSlotCopy : Option Leaf → Option Leaf → Type 0

@@ -1,11 +1,11 @@
 //! One entry of a table, and what it does to the counts of the pool.
 
 ghost use Rattle.std.specs.Prelude.{◌≡◌, ◌≢◌, ℕ, ◌+◌, ◌≤◌, ◌^◌, if◌then◌else◌, IfSome, Some, None, true, false};
-ghost use Rattle.slab.specs.Slab.{get, slab_len, HasRoomFor};
-ghost use Rattle.page_tables.specs.Changes.{freed};
+ghost use Rattle.slab.specs.Slab.{get, slab_len};
+ghost use Rattle.page_tables.specs.Changes.{freed, Adds, IsRoomyFor};
 ghost use Rattle.page_tables.specs.Contents.{FillPage};
 ghost use Rattle.page_tables.specs.Sharing.{IsTableOf, has, lowered, counts_in};
-ghost use Rattle.page_tables.specs.Table.{entry_at, has_leaf};
+ghost use Rattle.page_tables.specs.Table.{entry_at, has_leaf, SetsEntry};
 
 use crate::pool::{Page, add, fill_page, lower};
 use crate::table::{Entry, NO_PAGE, Table};
@@ -41,17 +41,11 @@ pub(crate) fn attach(
     permissions: Permissions,
     bytes: Box<[u8; 4096]>,
 ) -> u32
-    requires room { HasRoomFor pool.old 1 }
-    requires small { pool.old.capacity ≤ 2 ^ 32 }
+    requires roomy { IsRoomyFor pool.old 1 }
     requires leaf { has_leaf table.old number ≡ true }
-    ensures free { get pool.old result ≡ None }
-    ensures here { entry_at table.new number ≡ record { key = result; mapped = true; permissions = permissions } }
-    ensures others { (n : ℕ) → n ≢ number → entry_at table.new n ≡ entry_at table.old n }
-    ensures page { get pool.new result ≡ Some (record { number = number; count = 1; bytes = bytes }) }
-    ensures rest { (k : ℕ) → k ≢ result → get pool.new k ≡ get pool.old k }
-    ensures len { slab_len pool.new ≡ slab_len pool.old + 1 }
-    ensures room { pool.new.capacity ≡ pool.old.capacity }
-    ensures leaves { (n : ℕ) → has_leaf table.new n ≡ has_leaf table.old n }
+    ensures added { Adds result (record { number = number; count = 1; bytes = bytes }) pool.old pool.new }
+    ensures put { SetsEntry number (record { key = result; mapped = true; permissions = permissions })
+        table.old table.new }
     ensures filled { FillPage bytes.value }
 {
     fill_page(&bytes);

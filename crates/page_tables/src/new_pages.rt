@@ -2,14 +2,14 @@
 
 ghost use Rattle.std.specs.Prelude.{◌≡◌, ◌≢◌, ℕ, ◌+◌, ◌<◌, ◌≤◌, ◌^◌, IfOk, OnOk, OnErr, Some, true, false, List, [], length};
 ghost use Rattle.std.specs.List.{All};
-ghost use Rattle.slab.specs.Slab.{get, slab_len, HasRoomFor};
-ghost use Rattle.page_tables.specs.Changes.{IsPlaced, AreOwned, page_or_zeros};
+ghost use Rattle.slab.specs.Slab.{get, slab_len};
+ghost use Rattle.page_tables.specs.Changes.{IsPlaced, IsRoomyFor, KeepsPages, AreOwned, page_or_zeros};
 ghost use Rattle.page_tables.specs.NewPages.{new_value, AreUnshared, AreCopies};
 ghost use Rattle.page_tables.specs.Sharing.{IsTableOf, AreShared, pages_in, counts_in, contents_in};
-ghost use Rattle.page_tables.specs.Table.{entry_at, has_leaf, AreAlike};
+ghost use Rattle.page_tables.specs.Table.{entry_at, has_leaf, Extends};
 
 use crate::entries::{attach, detach};
-use crate::pool::{Page, copy_bytes};
+use crate::pool::{Page, copy_bytes, reserve_pages};
 use crate::table::{NO_PAGE, Table};
 use rrv_model::machine::Permissions;
 use slab::Slab;
@@ -54,7 +54,7 @@ pub(crate) fn copy_each(
 }
 
 /// Whether there is a page at a number, which one table alone has.
-fn is_own(pool: &Slab<Page>, table: &Table, number: u32) -> bool
+pub(crate) fn is_own(pool: &Slab<Page>, table: &Table, number: u32) -> bool
     requires { IsTableOf (get pool.now) (entry_at table.now) }
     ensures own { result ≡ true → counts_in (get pool.now) (entry_at table.now) number ≡ Some 1 }
     ensures shared { result ≡ false → counts_in (get pool.now) (entry_at table.now) number ≢ Some 1 }
@@ -97,19 +97,22 @@ fn copy_page(
     })
 }
 
-/// Makes room in a table for pages, which changes none. Refused where a growth is.
+/// Makes room for pages in the pool and in a table, which changes none that are there. Refused where a growth is.
 pub(crate) fn make_room_for(
     alloc: Global,
+    pool: &mut Slab<Page>,
     table: &mut Table,
     pages: &[NewPage],
 ) -> Result<(), AllocError>
-    ensures same { AreAlike table.old table.new }
-    ensures room { OnOk result (All (λ p. has_leaf table.new p.number ≡ true) pages.now) }
+    ensures extends { Extends table.old table.new }
+    ensures keeps { KeepsPages pool.old pool.new }
+    ensures leaves { OnOk result (All (λ p. has_leaf table.new p.number ≡ true) pages.now) }
+    ensures roomy { OnOk result (IsRoomyFor pool.new (length pages.now)) }
 {
     for page in pages {
         table.make_room(alloc, page.number)?;
     }
-    Ok(())
+    reserve_pages(pool, pages.len())
 }
 
 /// Puts a page into the current table, in place of what was there. There is room for it. The tables of the snapshots are for the
@@ -122,8 +125,7 @@ pub(crate) fn install(
 )
     requires low { page.number < 0x80000 }
     requires shared { AreShared (get pool.old) (entry_at table.old) kept.now.items }
-    requires room { HasRoomFor pool.old 1 }
-    requires small { pool.old.capacity ≤ 2 ^ 32 }
+    requires roomy { IsRoomyFor pool.old 1 }
     requires leaf { has_leaf table.old page.number ≡ true }
     ensures shared { AreShared (get pool.new) (entry_at table.new) kept.now.items }
     ensures placed { IsPlaced page.number (new_value page)
@@ -151,8 +153,7 @@ pub(crate) fn install_all(
     mut pages: Vec<NewPage>,
 )
     requires shared { AreShared (get pool.old) (entry_at table.old) kept.now.items }
-    requires room { HasRoomFor pool.old (length pages.items) }
-    requires small { pool.old.capacity ≤ 2 ^ 32 }
+    requires roomy { IsRoomyFor pool.old (length pages.items) }
     requires low { All (λ p. p.number < 0x80000) pages.items }
     requires leaves { All (λ p. has_leaf table.old p.number ≡ true) pages.items }
     ensures shared { AreShared (get pool.new) (entry_at table.new) kept.now.items }

@@ -3,15 +3,16 @@
 ghost use Rattle.std.specs.Prelude.{◌≡◌, ◌≢◌, ℕ, ◌+◌, ◌<◌, ◌≤◌, OnOk, OnErr, IfOk, IfSome, IsSome, IsSomeAnd, None, true, false, length, replicate, option_copied, IsTrue, Some, ◌↔◌};
 ghost use Rattle.std.specs.Int.{w8, w16, w32, to_le_bytes};
 ghost use Rattle.page_tables.specs.Contents.{contents_of, page_total, ArePages};
-ghost use Rattle.page_tables.specs.Changes.{IsOwn, AreOwn, AreOwned, allows_read, allows_write, allows_execute, IsPutRefusal, bytes_if, IsWritten, IsPlaced, IsRemoved, IsProtected, IsKept, IsReleased, IsNext, IsUnshared, Puts, is_listed, shown};
-ghost use Rattle.page_tables.specs.Sharing.{IsTableOf, pages_in};
+ghost use Rattle.page_tables.specs.Changes.{IsOwn, AreOwn, AreOwned, allows, allows_read, allows_write, allows_execute, put_refusal, bytes_if, IsWritten, IsPlaced, IsRemoved, IsProtected, IsKept, IsReleased, IsNext, IsUnshared, Puts, is_listed, shown};
+ghost use Rattle.page_tables.specs.Sharing.{IsTableOf, IsOwnKey, pages_in, counts_in};
+ghost use Rattle.page_tables.specs.Access.{has_access};
 ghost use Rattle.page_tables.specs.Table.{entry_at};
 ghost use Rattle.slab.specs.Slab.{get};
 
 use crate::entries::detach;
-use crate::new_pages::{NewPage, copy_each, install, install_all, make_room_for};
+use crate::new_pages::{NewPage, copy_each, install, install_all, is_own, make_room_for};
 use crate::pool::{
-    Page, copy_bytes, lower_all, put_byte, put_bytes, put_half, put_word, raise_all, reserve_pages,
+    Page, copy_bytes, lower_all, put_byte, put_bytes, put_half, put_word, raise_all,
 };
 use crate::snapshots::{free_number, kept_under, store, take};
 use crate::table::{Entry, Table};
@@ -19,6 +20,7 @@ use rrv_model::machine::Permissions;
 use slab::Slab;
 use std::alloc::{AllocError, Global};
 use std::marker::Model;
+use std::slice::from_ref;
 use thiserror::Error;
 
 /// A page as a reader sees it.
@@ -42,6 +44,23 @@ pub enum PutFault {
     /// A growth was refused.
     #[error("out of memory")]
     Memory,
+}
+
+/// What bytes are asked for.
+#[derive(Clone, Copy)]
+enum Access {
+    Read,
+    Execute,
+}
+
+#[inline(always)]
+fn is_allowed(access: Access, permissions: Permissions) -> bool
+    ensures { result ≡ has_access access permissions }
+{
+    match access {
+        Access::Read => permissions.read,
+        Access::Execute => permissions.execute,
+    }
 }
 
 /// The pages of a guest and of its live snapshots. Page numbers lie below 0x80000. A snapshot shares its pages with the current
@@ -141,12 +160,7 @@ impl PageTables {
         ensures { option_copied result
             ≡ bytes_if (allows_read ((contents_of self.now).pages number)) ((contents_of self.now).pages number) }
     {
-        let entry = self.table.entry(number);
-        if !entry.permissions.read {
-            return None;
-        }
-        let page = &self.pool[entry.key as usize];
-        Some(&page.bytes)
+        self.allowed(number, Access::Read)
     }
 
     /// The bytes of the page at a number, where they may be executed.
@@ -155,8 +169,17 @@ impl PageTables {
         ensures { option_copied result
             ≡ bytes_if (allows_execute ((contents_of self.now).pages number)) ((contents_of self.now).pages number) }
     {
+        self.allowed(number, Access::Execute)
+    }
+
+    /// The bytes of the page at a number, where its permissions allow this access.
+    #[inline(always)]
+    fn allowed(&self, number: u32, access: Access) -> Option<&[u8; 4096]>
+        ensures { option_copied result ≡ bytes_if (allows (has_access access) ((contents_of self.now).pages number))
+            ((contents_of self.now).pages number) }
+    {
         let entry = self.table.entry(number);
-        if !entry.permissions.execute {
+        if !is_allowed(access, entry.permissions) {
             return None;
         }
         let page = &self.pool[entry.key as usize];
@@ -175,12 +198,7 @@ impl PageTables {
         ensures yes { result ≡ true → IsOwn (contents_of self.now) number }
         ensures no { result ≡ false → IsOwn (contents_of self.now) number → ⊥ }
     {
-        let entry = self.table.entry(number);
-        if !entry.mapped {
-            return false;
-        }
-        let page = &self.pool[entry.key as usize];
-        page.count == 1
+        is_own(&self.pool, &self.table, number)
     }
 
     /// Puts a page of its own at a number, in place of what was there; snapshots keep theirs. Refused where a growth is.
@@ -218,6 +236,7 @@ impl PageTables {
     }
 
     /// Puts these bytes at a number as a page of its own.
+    #[tactic(auto, using(crate::proofs::PlacedPages::roomy_value))]
     fn install(
         &mut self,
         number: u32,
@@ -229,13 +248,12 @@ impl PageTables {
             (contents_of self.old) (contents_of self.new)) }
         ensures err { OnErr result (self.new ≡ self.old) }
     {
-        self.table.make_room(self.alloc, number)?;
-        reserve_pages(&mut self.pool, 1)?;
         let page = NewPage {
             number,
             permissions,
             bytes,
         };
+        make_room_for(self.alloc, &mut self.pool, &mut self.table, from_ref(&page))?;
         install(&mut self.pool, &mut self.table, &self.kept, page);
         Ok(())
     }
@@ -243,6 +261,7 @@ impl PageTables {
     /// Makes the pages of these numbers pages of their own, all or none: one that snapshots share is copied, and where there is none
     /// a page of zeros comes that allows nothing. To write them then takes no memory. A number may stand there twice. Refused where a
     /// growth is, which is only where some of them isn't its own.
+    #[tactic(auto, using(crate::proofs::PlacedPages::roomy_value))]
     pub fn own_each(&mut self, numbers: &[u32]) -> Result<(), AllocError>
         requires { (n : ℕ) → is_listed numbers.now n ≡ true → n < 0x80000 }
         ensures owned { OnOk result (AreOwned numbers.now (contents_of self.old) (contents_of self.new)) }
@@ -253,8 +272,7 @@ impl PageTables {
         if copies.is_empty() {
             return Ok(());
         }
-        make_room_for(self.alloc, &mut self.table, &copies)?;
-        reserve_pages(&mut self.pool, copies.len())?;
+        make_room_for(self.alloc, &mut self.pool, &mut self.table, &copies)?;
         install_all(&mut self.pool, &mut self.table, &self.kept, copies);
         Ok(())
     }
@@ -266,15 +284,10 @@ impl PageTables {
         requires { at + 1 ≤ 4096 }
         ensures { Puts result number at (to_le_bytes w8 value) self.old self.new }
     {
-        let entry = self.table.entry(number);
-        if !entry.permissions.write {
-            return Err(self.refusal(number));
-        }
-        let page = &self.pool[entry.key as usize];
-        if page.count > 1 {
-            return self.put_shared(number, at, &value.to_le_bytes());
-        }
-        put_byte(&mut self.pool, entry.key as usize, at, value);
+        let Some(key) = own_key(&self.pool, &self.table, number) else {
+            return self.put_slowly(number, at, &value.to_le_bytes());
+        };
+        put_byte(&mut self.pool, key, at, value);
         Ok(())
     }
 
@@ -285,15 +298,10 @@ impl PageTables {
         requires { at + 2 ≤ 4096 }
         ensures { Puts result number at (to_le_bytes w16 value) self.old self.new }
     {
-        let entry = self.table.entry(number);
-        if !entry.permissions.write {
-            return Err(self.refusal(number));
-        }
-        let page = &self.pool[entry.key as usize];
-        if page.count > 1 {
-            return self.put_shared(number, at, &value.to_le_bytes());
-        }
-        put_half(&mut self.pool, entry.key as usize, at, value);
+        let Some(key) = own_key(&self.pool, &self.table, number) else {
+            return self.put_slowly(number, at, &value.to_le_bytes());
+        };
+        put_half(&mut self.pool, key, at, value);
         Ok(())
     }
 
@@ -304,43 +312,39 @@ impl PageTables {
         requires { at + 4 ≤ 4096 }
         ensures { Puts result number at (to_le_bytes w32 value) self.old self.new }
     {
-        let entry = self.table.entry(number);
-        if !entry.permissions.write {
-            return Err(self.refusal(number));
-        }
-        let page = &self.pool[entry.key as usize];
-        if page.count > 1 {
-            return self.put_shared(number, at, &value.to_le_bytes());
-        }
-        put_word(&mut self.pool, entry.key as usize, at, value);
+        let Some(key) = own_key(&self.pool, &self.table, number) else {
+            return self.put_slowly(number, at, &value.to_le_bytes());
+        };
+        put_word(&mut self.pool, key, at, value);
         Ok(())
     }
 
-    /// Why a page may not be written.
-    #[cold]
-    fn refusal(&self, number: u32) -> PutFault
-        requires { allows_write ((contents_of self.now).pages number) ≡ false }
-        ensures { IsPutRefusal ((contents_of self.now).pages number) result }
-    {
-        match self.page(number) {
-            Some(_) => PutFault::NotAllowed,
-            None => PutFault::NotMapped,
-        }
-    }
-
-    /// Writes into a page that snapshots share: the copy comes first.
+    /// Writes into a page that may not be written where it stands. Where snapshots share it, the copy comes first.
     #[cold]
     #[inline(never)]
-    fn put_shared(&mut self, number: u32, at: usize, bytes: &[u8]) -> Result<(), PutFault>
-        requires allowed { allows_write ((contents_of self.old).pages number) ≡ true }
-        requires fits { at + length bytes.now ≤ 4096 }
+    fn put_slowly(&mut self, number: u32, at: usize, bytes: &[u8]) -> Result<(), PutFault>
+        requires { at + length bytes.now ≤ 4096 }
         ensures { Puts result number at bytes.now self.old self.new }
     {
+        if let Some(fault) = self.refusal(number) {
+            return Err(fault);
+        }
         let Ok(()) = self.unshare(number) else {
             return Err(PutFault::Memory);
         };
         self.write(number, at, bytes);
         Ok(())
+    }
+
+    /// Why a page may not be written, if it may not.
+    fn refusal(&self, number: u32) -> Option<PutFault>
+        ensures { result ≡ put_refusal ((contents_of self.now).pages number) }
+    {
+        match self.page(number) {
+            Some(page) if page.permissions.write => None,
+            Some(_) => Some(PutFault::NotAllowed),
+            None => Some(PutFault::NotMapped),
+        }
     }
 
     /// Writes bytes from a place in a page on that no snapshot shares, whatever its permissions. It takes no memory.
@@ -392,6 +396,7 @@ impl PageTables {
     }
 
     /// Whether a snapshot has the same page at a number, or neither has one. The bytes of a page that they share are not compared.
+    #[tactic(auto, using(crate::proofs::Values::slot_there, crate::proofs::Values::slot_table))]
     pub fn same_as_kept(&self, snapshot: usize, number: u32) -> bool
         requires { IsSome ((contents_of self.now).kept snapshot) }
         ensures same { result ≡ true → IsSomeAnd ((contents_of self.now).kept snapshot)
@@ -431,6 +436,7 @@ impl PageTables {
     }
 
     /// Lets a snapshot go. It takes no memory.
+    #[tactic(auto, using(crate::proofs::Values::slot_there, crate::proofs::Values::slot_table))]
     pub fn release(&mut self, number: usize)
         requires { IsSome ((contents_of self.old).kept number) }
         ensures { IsReleased number (contents_of self.old) (contents_of self.new) }
@@ -440,6 +446,7 @@ impl PageTables {
     }
 
     /// The page that a snapshot has at a number.
+    #[tactic(auto, using(crate::proofs::Values::slot_there, crate::proofs::Values::slot_table))]
     pub fn kept_page(&self, snapshot: usize, number: u32) -> Option<PageView<'_>>
         requires { IsSome ((contents_of self.now).kept snapshot) }
         ensures { IsSomeAnd ((contents_of self.now).kept snapshot) (λ pages. shown result ≡ pages number) }
@@ -448,12 +455,32 @@ impl PageTables {
     }
 
     /// The least number from this one on at which a snapshot has a page. It takes no memory.
+    #[tactic(auto, using(crate::proofs::Values::slot_there, crate::proofs::Values::slot_table))]
     pub fn kept_next(&self, snapshot: usize, least: u32) -> Option<u32>
         requires { IsSome ((contents_of self.now).kept snapshot) }
         ensures { IsSomeAnd ((contents_of self.now).kept snapshot) (λ pages. IsNext pages least result) }
     {
         next_in(&self.pool, kept_under(&self.kept, snapshot), least)
     }
+}
+
+/// The key of the page at a number that may be written where it stands: no other table has it.
+#[inline(always)]
+fn own_key(pool: &Slab<Page>, table: &Table, number: u32) -> Option<usize>
+    requires { IsTableOf (get pool.now) (entry_at table.now) }
+    ensures own { IfSome result (IsOwnKey (get pool.now) (entry_at table.now) number) }
+    ensures none { result ≡ None → (entry_at table.now number).permissions.write ≡ true →
+        counts_in (get pool.now) (entry_at table.now) number ≢ Some 1 }
+{
+    let entry = table.entry(number);
+    if !entry.permissions.write {
+        return None;
+    }
+    let page = &pool[entry.key as usize];
+    if page.count != 1 {
+        return None;
+    }
+    Some(entry.key as usize)
 }
 
 /// The page that a table has at a number.

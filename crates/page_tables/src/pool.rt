@@ -2,8 +2,8 @@
 
 ghost use Rattle.std.specs.Prelude.{◌≡◌, ◌≢◌, ℕ, ◌+◌, ◌-◌, ◌<◌, ◌≤◌, ◌^◌, ◌==◌, if◌then◌else◌, IfOk, OnOk, IfSome, IsSomeAnd, Some, None, length, OnErr, true, false, IsSome};
 ghost use Rattle.std.specs.Int.{w8, w16, w32, to_le_bytes};
-ghost use Rattle.slab.specs.Slab.{get, slab_len, ContainsKey, HasRoomFor, Updates};
-ghost use Rattle.page_tables.specs.Changes.{ChangesPage, Rewrites, WritesOver};
+ghost use Rattle.slab.specs.Slab.{get, slab_len, ContainsKey};
+ghost use Rattle.page_tables.specs.Changes.{ChangesPage, Recounts, Adds, IsRoomyFor, HasPlace, KeepsPages, Rewrites, WritesOver};
 ghost use Rattle.page_tables.specs.Contents.{FillPage};
 ghost use Rattle.page_tables.specs.Sharing.{with_count, lowered, lowered_by, raised, raised_by, IsTableOf};
 ghost use Rattle.page_tables.specs.Table.{entry_at};
@@ -26,8 +26,7 @@ pub struct Page {
 /// Sets how many tables have a page.
 pub(crate) fn set_count(pool: &mut Slab<Page>, key: usize, count: u32)
     requires { ContainsKey pool.old key }
-    ensures count { ChangesPage key (with_count count) pool.old pool.new }
-    ensures len { slab_len pool.new ≡ slab_len pool.old }
+    ensures { Recounts key (with_count count) pool.old pool.new }
 {
     let page = &mut pool[key];
     page.count = count;
@@ -64,8 +63,7 @@ pub(crate) fn raise_all(pool: &mut Slab<Page>, table: &Table)
 
 fn raise(pool: &mut Slab<Page>, key: usize)
     requires { IsSomeAnd (get pool.old key) (λ p. p.count < 2 ^ 32 - 1) }
-    ensures count { ChangesPage key raised pool.old pool.new }
-    ensures len { slab_len pool.new ≡ slab_len pool.old }
+    ensures { Recounts key raised pool.old pool.new }
 {
     let count = pool[key].count;
     set_count(pool, key, count + 1);
@@ -88,8 +86,7 @@ pub(crate) fn lower_all(pool: &mut Slab<Page>, table: &Table)
 /// Writes a byte into a page.
 #[inline(always)]
 pub(crate) fn put_byte(pool: &mut Slab<Page>, key: usize, at: usize, value: u8)
-    requires there { ContainsKey pool.old key }
-    requires fits { at + 1 ≤ 4096 }
+    requires { HasPlace pool.old key at 1 }
     ensures { Rewrites key at (to_le_bytes w8 value) pool.old pool.new }
 {
     let page = &mut pool[key];
@@ -99,8 +96,7 @@ pub(crate) fn put_byte(pool: &mut Slab<Page>, key: usize, at: usize, value: u8)
 /// Writes a half-word into a page, its low byte first.
 #[inline(always)]
 pub(crate) fn put_half(pool: &mut Slab<Page>, key: usize, at: usize, value: u16)
-    requires there { ContainsKey pool.old key }
-    requires fits { at + 2 ≤ 4096 }
+    requires { HasPlace pool.old key at 2 }
     ensures { Rewrites key at (to_le_bytes w16 value) pool.old pool.new }
 {
     let page = &mut pool[key];
@@ -110,8 +106,7 @@ pub(crate) fn put_half(pool: &mut Slab<Page>, key: usize, at: usize, value: u16)
 /// Writes a word into a page, its low byte first.
 #[inline(always)]
 pub(crate) fn put_word(pool: &mut Slab<Page>, key: usize, at: usize, value: u32)
-    requires there { ContainsKey pool.old key }
-    requires fits { at + 4 ≤ 4096 }
+    requires { HasPlace pool.old key at 4 }
     ensures { Rewrites key at (to_le_bytes w32 value) pool.old pool.new }
 {
     let page = &mut pool[key];
@@ -120,8 +115,7 @@ pub(crate) fn put_word(pool: &mut Slab<Page>, key: usize, at: usize, value: u32)
 
 /// Writes bytes into a page.
 pub(crate) fn put_bytes(pool: &mut Slab<Page>, key: usize, at: usize, from: &[u8])
-    requires there { ContainsKey pool.old key }
-    requires fits { at + length from.now ≤ 4096 }
+    requires { HasPlace pool.old key at (length from.now) }
     ensures { Rewrites key at from.now pool.old pool.new }
 {
     let page = &mut pool[key];
@@ -168,10 +162,8 @@ fn write_bytes(bytes: &mut [u8; 4096], at: usize, from: &[u8])
 
 /// Makes room for so many more pages, which changes none of them. Refused where a growth is, or a key would be too great for an entry.
 pub(crate) fn reserve_pages(pool: &mut Slab<Page>, count: usize) -> Result<(), AllocError>
-    ensures same { (k : ℕ) → get pool.new k ≡ get pool.old k }
-    ensures len { slab_len pool.new ≡ slab_len pool.old }
-    ensures room { OnOk result (HasRoomFor pool.new count) }
-    ensures small { OnOk result (pool.new.capacity ≤ 2 ^ 32) }
+    ensures keeps { KeepsPages pool.old pool.new }
+    ensures roomy { OnOk result (IsRoomyFor pool.new count) }
 {
     pool.reserve(count)?;
     if pool.capacity() > 0x1_0000_0000 {
@@ -182,13 +174,8 @@ pub(crate) fn reserve_pages(pool: &mut Slab<Page>, count: usize) -> Result<(), A
 
 /// Adds a page that one table has, where there is room.
 pub(crate) fn add(pool: &mut Slab<Page>, number: u32, bytes: Box<[u8; 4096]>) -> u32
-    requires room { HasRoomFor pool.old 1 }
-    requires small { pool.old.capacity ≤ 2 ^ 32 }
-    ensures free { get pool.old result ≡ None }
-    ensures here { get pool.new result ≡ Some (record { number = number; count = 1; bytes = bytes }) }
-    ensures others { (k : ℕ) → k ≢ result → get pool.new k ≡ get pool.old k }
-    ensures len { slab_len pool.new ≡ slab_len pool.old + 1 }
-    ensures room { pool.new.capacity ≡ pool.old.capacity }
+    requires { IsRoomyFor pool.old 1 }
+    ensures { Adds result (record { number = number; count = 1; bytes = bytes }) pool.old pool.new }
 {
     pool.insert_reserved(Page {
         number,

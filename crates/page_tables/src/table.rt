@@ -1,7 +1,7 @@
 //! A table of two levels: what stands at each page number.
 
-ghost use Rattle.std.specs.Prelude.{◌≡◌, ◌≢◌, ℕ, ◌+◌, ◌<◌, ◌≤◌, IfOk, OnOk, true, false, length, slice_set, slice_index_or, None};
-ghost use Rattle.page_tables.specs.Table.{entry_at, has_leaf, AreAlike, IsSlotCopy};
+ghost use Rattle.std.specs.Prelude.{◌≡◌, ◌≢◌, ℕ, ◌+◌, ◌<◌, ◌≤◌, IfOk, OnOk, true, false, length, slice_set, slice_index_or, option_copied, None};
+ghost use Rattle.page_tables.specs.Table.{entry_at, leaf_in, has_leaf, AreAlike, Extends, SetsEntry, IsSlotCopy};
 
 use rrv_model::machine::Permissions;
 use std::alloc::{AllocError, Global};
@@ -52,21 +52,20 @@ impl Table {
 
     /// What stands at a number.
     #[inline(always)]
+    #[tactic(auto, unfolding(crate::specs::Table::entry_at))]
     pub(crate) fn entry(&self, number: u32) -> Entry
         ensures { result ≡ entry_at self.now number }
     {
-        match self.directory.get((number / 1024) as usize) {
-            Some(Some(leaf)) => leaf.entries[(number % 1024) as usize],
-            _ => NO_PAGE,
+        match self.leaf(number) {
+            Some(leaf) => leaf.entries[(number % 1024) as usize],
+            None => NO_PAGE,
         }
     }
 
     /// Puts an entry at a number that there is room for.
     pub(crate) fn set(&mut self, number: u32, entry: Entry)
         requires { has_leaf self.old number ≡ true }
-        ensures here { entry_at self.new number ≡ entry }
-        ensures others { (n : ℕ) → n ≢ number → entry_at self.new n ≡ entry_at self.old n }
-        ensures room { (n : ℕ) → has_leaf self.new n ≡ has_leaf self.old n }
+        ensures { SetsEntry number entry self.old self.new }
     {
         if let Some(leaf) = &mut self.directory[(number / 1024) as usize] {
             put_entry(&mut leaf.entries, (number % 1024) as usize, entry);
@@ -75,9 +74,8 @@ impl Table {
 
     /// Makes room for an entry at a number, which changes none. Refused where a growth is.
     pub(crate) fn make_room(&mut self, alloc: Global, number: u32) -> Result<(), AllocError>
-        ensures same { AreAlike self.old self.new }
+        ensures extends { Extends self.old self.new }
         ensures room { OnOk result (has_leaf self.new number ≡ true) }
-        ensures kept { (n : ℕ) → has_leaf self.old n ≡ true → has_leaf self.new n ≡ true }
     {
         let first = (number / 1024) as usize;
         extend(&mut self.directory, first + 1)?;
@@ -124,10 +122,22 @@ impl Table {
     }
 
     /// Whether there is room for an entry at a number.
+    #[tactic(auto, unfolding(crate::specs::Table::has_leaf))]
     fn has_leaf(&self, number: u32) -> bool
         ensures { result ≡ has_leaf self.now number }
     {
-        matches!(self.directory.get((number / 1024) as usize), Some(Some(_)))
+        self.leaf(number).is_some()
+    }
+
+    /// The leaf of a number, where there is one.
+    #[inline(always)]
+    fn leaf(&self, number: u32) -> Option<&Leaf>
+        ensures { option_copied result ≡ leaf_in self.now.directory.items number }
+    {
+        match self.directory.get((number / 1024) as usize) {
+            Some(Some(leaf)) => Some(leaf),
+            _ => None,
+        }
     }
 }
 

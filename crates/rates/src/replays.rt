@@ -1,6 +1,6 @@
 //! Records a program with checkpoints, verifies it, and goes to places of it.
 
-use crate::countdown::LONG;
+use crate::countdown::{LONG, count_down};
 use crate::cursors::{Moves, make_moves, moves_of};
 use crate::recording::record_with_checkpoints;
 use crate::words::file_or;
@@ -83,7 +83,7 @@ fn run_program(alloc: Global, elf: &[u8], plan: Plan) -> Option<Outcome> {
 /// Does what the words say with the program that they name, and prints what came of it; None where something is refused.
 pub fn measure<R: AllocGlobal + Files + Print>(rt: &R, words: &[String]) -> Option<()> {
     let plan = plan_of(words)?;
-    let elf = file_or(rt, words.first(), &LONG)?;
+    let elf = file_or(rt, words.first(), &count_down(LONG))?;
     let Outcome {
         records,
         instructions,

@@ -1,6 +1,6 @@
 //! Runs a program's instructions without recording them, up to its first call or fault: the bare step.
 
-use crate::countdown::SHORT;
+use crate::countdown::{SHORT, count_down};
 use crate::limits::{QUANTUM, SLICES};
 use crate::words::file_or;
 use elf_load::parse;
@@ -49,7 +49,7 @@ pub fn measure<R: AllocGlobal + Files + Print>(rt: &R, words: &[String]) -> Opti
     if 1 < words.len() {
         return None;
     }
-    let elf = file_or(rt, words.first(), &SHORT)?;
+    let elf = file_or(rt, words.first(), &count_down(SHORT))?;
     let Outcome { steps, end } = run_program(rt.alloc(), &elf)?;
     let end = match end {
         RunEnd::Limit => "limit",

@@ -1,6 +1,6 @@
 //! The words of a line, and what they name.
 
-use crate::countdown::LONG;
+use crate::countdown::{LONG, count_down};
 use std::env::{self, Env};
 use std::rt::Files;
 use std::{fs, io};
@@ -30,9 +30,13 @@ pub fn number_and_file<R: AllocGlobal + Files>(
     words: &[String],
     own: u32,
 ) -> Option<(u32, Vec<u8>)> {
+    let program = count_down(LONG);
     match words {
-        [] => Some((own, file_or(rt, None, &LONG)?)),
-        [number, path] => Some((number.parse::<u32>().ok()?, file_or(rt, Some(path), &LONG)?)),
+        [] => Some((own, file_or(rt, None, &program)?)),
+        [number, path] => Some((
+            number.parse::<u32>().ok()?,
+            file_or(rt, Some(path), &program)?,
+        )),
         _ => None,
     }
 }

@@ -23,6 +23,7 @@ use Rattle.commit_group.specs.Numbers.{numbered, renumbered}
 use Rattle.commit_group.specs.Seats.{RecorderValue}
 use Rattle.commit_group.specs.Steps.{StandsForRecorder}
 use Rattle.commit_group.specs.Submits.{after_look}
+use Rattle.commit_group.proofs.WorldSteps.{stands_by}
 use Rattle.recorder.specs.Recorded.{IsRecorded}
 use Rattle.recorder.specs.declared.checkpoints.Parts.{Parts}
 use Rattle.recorder.specs.RecorderCalls.{HasStepped, part_records}
@@ -86,17 +87,6 @@ output_of_items out out' rs rs' same its h =
 made_in_world : (r : GuestRecorder) (out : List (ℕ × ℕ)) (w : World) → StandsForGuest r out w →
     made_there (w.recorders r.seat.guest) ≡ renumbered w.first_guest (made r)
 made_in_world r out w h = (λ i. h.seat.sent i ++ h.backlog i) ∙ sym (map-append (numbered w.first_guest) r.seat.sent r.backlog)
-
-stands_by : (w : World) (r : RecorderValue) (one : Recorder) → r.guest < w.guests → w.recorders r.guest ≡ one →
-    one.sent ≡ renumbered w.first_guest r.sent
-    → one.seen ≡ r.seen → one.knows_halt ≡ r.knows_halt → one.left ≡ r.has_left → StandsForRecorder r w
-stands_by w r one there at sent seen knows_halt left = record {
-  there = there;
-  sent = ap (λ (x : Recorder). x.sent) at ∙ sent;
-  seen = ap (λ (x : Recorder). x.seen) at ∙ seen;
-  knows_halt = ap (λ (x : Recorder). x.knows_halt) at ∙ knows_halt;
-  left = ap (λ (x : Recorder). x.left) at ∙ left;
-}
 
 -- ---- slices
 

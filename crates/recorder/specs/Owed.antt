@@ -49,23 +49,24 @@ pub record Leaves (seen : ℕ) (old new : Owed) (put : List (ℕ × ℕ)) : Type
 abbrev pub count_of : List (ℕ × ℕ) → ℕ
 count_of put = min (length put) (2 ^ 64 - 1)
 
--- a sink that tells its bytes took these and no others, of the first record's output, and they are so many; it tells on
-pub record ReleasesFirst {S : Type 0} (tells : S → Type 0) (taken : S → List (ℕ × ℕ)) (all : Bool)
-    (old new : Owed) (sink sink' : S) (count : ℕ) : Type 0 where
+-- A sink that tells its bytes took these and no others, which left so, and they are so many, by this count. It tells on.
+pub record ReleasesSome {S : Type 0} (tells : S → Type 0) (taken : S → List (ℕ × ℕ)) (HaveLeft : List (ℕ × ℕ) → Type 0)
+    (counted_as : List (ℕ × ℕ) → ℕ) (sink sink' : S) (count : ℕ) : Type 0 where
   pub put : List (ℕ × ℕ)
   pub takes : tells sink → taken sink' ≡ taken sink ++ put
   pub still : tells sink' ↔ tells sink
-  pub leaves : LeavesFirst old new put all
-  pub counted : count ≡ length put
+  pub leaves : HaveLeft put
+  pub counted : count ≡ counted_as put
 
--- so of the output of the first records
-pub record Releases {S : Type 0} (tells : S → Type 0) (taken : S → List (ℕ × ℕ)) (seen : ℕ)
-    (old new : Owed) (sink sink' : S) (count : ℕ) : Type 0 where
-  pub put : List (ℕ × ℕ)
-  pub takes : tells sink → taken sink' ≡ taken sink ++ put
-  pub still : tells sink' ↔ tells sink
-  pub leaves : Leaves seen old new put
-  pub counted : count ≡ count_of put
+-- of the first record's output
+abbrev pub ReleasesFirst : {S : Type 0} → (S → Type 0) → (S → List (ℕ × ℕ)) → Bool → (old new : Owed) → (sink sink' : S) → ℕ → Type 0
+ReleasesFirst tells taken all old new sink sink' count =
+    ReleasesSome tells taken (λ put. LeavesFirst old new put all) length sink sink' count
+
+-- of the output of the first records
+abbrev pub Releases : {S : Type 0} → (S → Type 0) → (S → List (ℕ × ℕ)) → ℕ → (old new : Owed) → (sink sink' : S) → ℕ → Type 0
+Releases tells taken seen old new sink sink' count =
+    ReleasesSome tells taken (λ put. Leaves seen old new put) count_of sink sink' count
 
 -- a sink that took all has failed as often as before, and one that refused once more
 abbrev pub Counts : Bool → ℕ → ℕ → Type 0

@@ -16,7 +16,8 @@ use Rattle.recorder.specs.declared.checkpoints.Parts.TheVariants as outcomes
 use Rattle.recorder.specs.Checkpoints.{IsDue}
 use Rattle.rrv_model.specs.declared.record.Opening.{Opening}
 use Rattle.outcomes.specs.Failures.{HasFailed}
-use Rattle.rrv_model.specs.Output.{Chunk, FramePuts, call_in, spread}
+use Rattle.rrv_model.specs.Ends.{call_in}
+use Rattle.rrv_model.specs.Output.{Chunk, FramePuts, spread}
 use Rattle.rrv_model.specs.Standing.{StandsBehind}
 use Rattle.rrv_model.specs.Recording.{frame_record, items_of}
 use Rattle.rrv_model.specs.RecordText.{HasText}

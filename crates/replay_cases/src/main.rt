@@ -34,41 +34,10 @@ mod session;
 mod told;
 
 use session::Session;
-use std::alloc::AllocError;
 use std::io;
 use std::process::ExitCode;
-
-/// Takes a line, and answers what was found in place of what it wants.
-fn take(rt: &HostRuntime, session: &mut Session, line: &str) -> Result<Option<String>, AllocError> {
-    let Some((asked, want)) = line.split_once(" = ") else {
-        return Ok(Some("no question".to_string(rt.alloc())?));
-    };
-    match session.answer(rt, asked) {
-        Some(found) if found.as_str() == want => Ok(None),
-        Some(found) => Ok(Some(found)),
-        None => Ok(Some("no answer".to_string(rt.alloc())?)),
-    }
-}
+use test_guests::cases::go_through;
 
 fn main(rt: HostRuntime) -> io::Result<ExitCode> {
-    let mut session = Session::new(rt.alloc());
-    let mut lines = 0u32;
-    let mut wrong = 0u32;
-    for line in rt.lines(rt.alloc()) {
-        let line = line?;
-        if line.is_empty() || line.starts_with('#') {
-            continue;
-        }
-        lines = lines.saturating_add(1);
-        if let Some(found) = take(&rt, &mut session, line.as_str())? {
-            wrong = wrong.saturating_add(1);
-            println!(rt; "{}\n  finds: {found}", line.as_str())?;
-        }
-    }
-    println!(rt; "{lines} lines, {wrong} wrong")?;
-    if wrong == 0 {
-        Ok(ExitCode::SUCCESS)
-    } else {
-        Ok(ExitCode::FAILURE)
-    }
+    go_through(&rt, &mut Session::new(rt.alloc()))
 }

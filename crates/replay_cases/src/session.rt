@@ -12,6 +12,7 @@ use rrv_model::record::Record;
 use std::alloc::Global;
 use std::fs;
 use std::rt::Files;
+use test_guests::cases::Answers;
 
 /// What lines ask about.
 #[derive(Drop)]
@@ -124,22 +125,6 @@ impl Session {
         }
     }
 
-    /// What is found where a line asks this; None where it asks nothing, or no memory is left.
-    pub fn answer<R: Files + AllocGlobal>(&mut self, rt: &R, asked: &str) -> Option<String> {
-        let alloc = rt.alloc();
-        let words: Vec<&str> = asked.split_whitespace().collect(alloc).ok()?;
-        let (kind, rest) = words.split_first()?;
-        match *kind {
-            "records" => self.take(alloc, &list_in(rt, rest)?),
-            "record" => self.take(alloc, &record_file(rt, rest)?),
-            "follow" => tell_followed(alloc, &list_in(rt, rest)?, rest.get(1..)?),
-            "mutate" => self.keep_outcomes(alloc, mutate_list(rt, rest)?),
-            "met" => self.has_met(alloc, rest),
-            "state" => tell_state(alloc, self.verified.as_ref()?, rest),
-            _ => tell_moves(alloc, self.verified.as_ref()?, &words),
-        }
-    }
-
     /// Verifies a list, and keeps it.
     fn take(&mut self, alloc: Global, records: &[Record]) -> Option<String> {
         self.verified = None;
@@ -173,5 +158,27 @@ impl Session {
             return "yes".to_string(alloc).ok();
         }
         format!(in alloc; "{count}").ok()
+    }
+}
+
+impl Answers for Session {
+    fn answer<R: Files + AllocGlobal>(
+        &mut self,
+        rt: &R,
+        asked: &str,
+        _want: &str,
+    ) -> Option<String> {
+        let alloc = rt.alloc();
+        let words: Vec<&str> = asked.split_whitespace().collect(alloc).ok()?;
+        let (kind, rest) = words.split_first()?;
+        match *kind {
+            "records" => self.take(alloc, &list_in(rt, rest)?),
+            "record" => self.take(alloc, &record_file(rt, rest)?),
+            "follow" => tell_followed(alloc, &list_in(rt, rest)?, rest.get(1..)?),
+            "mutate" => self.keep_outcomes(alloc, mutate_list(rt, rest)?),
+            "met" => self.has_met(alloc, rest),
+            "state" => tell_state(alloc, self.verified.as_ref()?, rest),
+            _ => tell_moves(alloc, self.verified.as_ref()?, &words),
+        }
     }
 }

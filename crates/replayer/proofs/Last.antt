@@ -217,27 +217,25 @@ any_of (items.Part q ∷ before) p after rest steps h =
     (any_of before p after rest steps h)
 
 -- where a checkpoint is at a place, the items have a last part there
-record Split (its : List Item) (steps place : ℕ) : Type 0 where
-  before : List Item
-  part : Part
-  after : List Item
-  its_are : its ≡ before ++ items.Part part ∷ after
-  rest : CheckpointRest
-  is_last : part.rest ≡ Some rest
-  place_is : place ≡ steps + total (frames_of before)
+abbrev Split : List Item → ℕ → ℕ → Type 0
+Split its steps place = (behind : ℕ) × HasCheckpointAt its behind × (place ≡ steps + behind)
 
 split_behind : (x : Item) (its : List Item) (steps more place : ℕ) →
     ((before : List Item) → more + total (frames_of before) ≡ steps + total (frames_of (x ∷ before))) →
     Split its more place → Split (x ∷ its) steps place
-split_behind x its steps more place sums h = record {
-  before = x ∷ h.before;
-  part = h.part;
-  after = h.after;
-  its_are = ap (λ (is : List Item). x ∷ is) h.its_are;
-  rest = h.rest;
-  is_last = h.is_last;
-  place_is = h.place_is ∙ sums h.before;
-}
+split_behind x its steps more place sums (behind, h, is) = (
+  total (frames_of (x ∷ h.before)),
+  record {
+    before = x ∷ h.before;
+    part = h.part;
+    after = h.after;
+    its_are = ap (λ (is : List Item). x ∷ is) h.its_are;
+    rest = h.rest;
+    is_last = h.is_last;
+    place_is = refl;
+  },
+  is ∙ ap (λ n. more + n) h.place_is ∙ sums h.before,
+)
 
 part_back : (p : Part) (its : List Item) (flag : Option CheckpointRest) (at place : ℕ) (more : List ℕ) → p.rest ≡ flag →
     (Contains more place → Split its at place) →
@@ -245,8 +243,11 @@ part_back : (p : Part) (its : List Item) (flag : Option CheckpointRest) (at plac
 part_back p its None at place more flag behind any = split_behind (items.Part p) its at at place (λ before. refl) (behind any)
 part_back p its (Some rest) at place more flag behind any = by (contains_cases at more place any) where
   by : (at ≡ place) ⊎ Contains more place → Split (items.Part p ∷ its) at place
-  by (inl same) =
-      record { before = []; part = p; after = its; its_are = refl; rest = rest; is_last = flag; place_is = sym same ∙ omega arith }
+  by (inl same) = (
+    0,
+    record { before = []; part = p; after = its; its_are = refl; rest = rest; is_last = flag; place_is = refl },
+    sym same ∙ omega arith,
+  )
   by (inr left) = split_behind (items.Part p) its at at place (λ before. refl) (behind left)
 
 any_back : (its : List Item) (steps place : ℕ) → Contains (checkpoints_of steps its) place → Split its steps place
@@ -263,17 +264,7 @@ any_back (items.Part p ∷ its) steps place any =
 pub checkpoints_are_last_parts : CheckpointsAreLastParts
 checkpoints_are_last_parts its place = (there, back) where
   there : Contains (checkpoints_of 0 its) place → HasCheckpointAt its place
-  there any =
-      let all = any_back its 0 place any in
-      record {
-        before = all.before;
-        part = all.part;
-        after = all.after;
-        its_are = all.its_are;
-        rest = all.rest;
-        is_last = all.is_last;
-        place_is = all.place_is ∙ omega arith;
-      }
+  there any = let all = any_back its 0 place any in subst (HasCheckpointAt its) (sym (all.2 ∙ omega arith)) all.1
 
   back : HasCheckpointAt its place → Contains (checkpoints_of 0 its) place
   back h =

@@ -1,5 +1,5 @@
 -- How records that are given one at a time go on.
-use Rattle.std.proofs.Common.{◌≡◌, ℕ, suc, zero, ◌+◌, ◌<◌, ◌≤◌, true, false, List, [], ◌∷◌, ◌++◌, length, map, take, drop, get_or, refl, sym, ◌∙◌, ap, subst, arith, Some}
+use Rattle.std.proofs.Common.{◌≡◌, ℕ, suc, zero, ◌+◌, ◌<◌, ◌≤◌, true, false, List, [], ◌∷◌, ◌++◌, length, map, take, drop, get_or, refl, sym, ◌∙◌, ap, subst, arith, Some, Result}
 use Rattle.std.specs.Prelude.{slice_get, IsSomeAnd}
 use Rattle.std.proofs.lemmas.List.{append-nil, length-take-le, take_all}
 use Rattle.std.proofs.Math.Seq.{take-suc}
@@ -21,7 +21,8 @@ use Rattle.replayer.specs.declared.fault.VerifyFault.TheVariants as faults
 use Rattle.replayer.specs.declared.recording.Mark.{Mark}
 use Rattle.replayer.specs.declared.verified_end.VerifiedEnd.{VerifiedEnd}
 use Rattle.replayer.specs.declared.walk.Walk.{Walk}
-use Rattle.replayer.specs.Sourced.{Followed, IsEndOf, RefusesGiven, RefusesSource, is_unreadable}
+use Rattle.replayer.specs.Sourced.{Followed, FollowsAll, IsEndOf, RefusesGiven, RefusesSource, is_unreadable}
+use Rattle.replayer.specs.Asked.{AsksSource, Sourcing}
 use Rattle.replayer.specs.LastThread.{thread_behind}
 use Rattle.replayer.specs.Kept.{IsKeptOf, KeepsAll, KeepsOn, RowIs, instructions_in}
 use Rattle.replayer.specs.Refusals.{RefusesFirst, RefusesNext, TakesMemory}
@@ -261,3 +262,10 @@ next_given (faults.Mismatch place) guest index r base row s refuses = refl
 next_given (faults.BadCheckpoint place) guest index r base row s refuses = refl
 next_given faults.Memory guest index r base row s refuses = refl
 next_given (faults.Unreadable place) guest index r base row s refuses = absurd refuses
+
+-- the records that were followed are those that an honest source stood for before the first was asked for
+pub all_given : {S X : Type 0} (source : Sourcing S) {result : Result X VerifyFault} {old new : S} {first : Record} {walk : Walk} →
+    AsksSource source result old new → (all : FollowsAll source.honest source.records new first walk) → source.honest old →
+    slice_get (source.records old) 0 ≡ Some first → all.read ≡ source.records old
+all_given source {first = first} asks all h there =
+    all.are (asks.honest.1 h) (subst (λ (rs : List Record). slice_get rs 0 ≡ Some first) (sym asks.records) there) ∙ asks.records

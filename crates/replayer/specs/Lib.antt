@@ -7,3 +7,4 @@ pub mod Places
 pub mod Puts
 pub mod LastThread
 pub mod Following
+pub mod Asked

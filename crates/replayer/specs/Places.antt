@@ -58,3 +58,9 @@ pub record StandsAt (o : Opening) (frames : List Frame) (p : Position) : Type 0 
   pub inside : p.frames ≤ length frames
   pub on : GoesOn o frames p.at (state_of p.guest) (begun p.steps (drop p.frames frames))
   pub begins : Begins (begun p.steps (drop p.frames frames))
+
+-- a guest between two frames, before a step of its own
+pub record BeginsAt (o : Opening) (frames : List Frame) (p : Position) : Type 0 where
+  pub place : IsPlace o frames p.frames p.at (state_of p.guest)
+  pub steps : p.steps ≡ 0
+  pub ran : p.guest.ran ≡ 0

@@ -41,6 +41,7 @@
 //!   that replays a guest calls `verify_source_watched` first.
 #![tactic(auto)]
 
+mod asking;
 mod fault;
 mod following;
 mod forward;

@@ -1,10 +1,10 @@
 //! The output along a track.
 
-ghost use Rattle.std.specs.Prelude.{◌≡◌, ◌↔◌, ◌++◌, ℕ, IfErr, OnErr, OnOk, take};
+ghost use Rattle.std.specs.Prelude.{◌≡◌, ◌↔◌, ◌++◌, ℕ, OnErr, OnOk, take};
 ghost use Rattle.outcomes.specs.Failures.{IsCounted};
 ghost use Rattle.rrv_model.specs.Output.{spread, to_descriptor};
 ghost use Rattle.guest_calls.specs.Guest.{chunks_of};
-ghost use Rattle.replayer.specs.Puts.{PutsAll, PutsBeginning, RefusesOutput, chunks_by};
+ghost use Rattle.replayer.specs.Puts.{PutsOut, chunks_by};
 ghost use Rattle.replayer.specs.Kept.{AreKept};
 
 use crate::fault::OutputFault;
@@ -69,13 +69,7 @@ impl Track {
         sink: &mut S,
     ) -> Result<(), OutputFault>
         requires { AreKept self.now.opening self.now.frames self.now.marks }
-        ensures all { OnOk result (S.tells sink.old
-            → PutsAll self.now.opening self.now.frames (S.taken sink.old) (S.taken sink.new)) }
-        ensures part { OnErr result (S.tells sink.old
-            → PutsBeginning self.now.opening self.now.frames (S.taken sink.old) (S.taken sink.new)) }
-        ensures steady { OnOk result (S.faults sink.new ≡ S.faults sink.old) }
-        ensures refused { IfErr result (λ e. RefusesOutput e (S.faults sink.old) (S.faults sink.new)) }
-        ensures tells { S.tells sink.new ↔ S.tells sink.old }
+        ensures { PutsOut S.Sink result self.now.opening self.now.frames sink.old sink.new }
     {
         let mut guest = self.start(alloc)?.into_guest();
         let mut left = self.frames.as_slice();

@@ -1,11 +1,9 @@
 //! Where the records of a guest come from, one at a time.
 
-ghost use Rattle.std.specs.Prelude.{◌≡◌, ◌⊎◌, ◌<◌, ◌↔◌, ◌||◌, ℕ, Bool, IfErr, IfOk, List, Some, ⊤, length, slice_get, true};
+ghost use Rattle.std.specs.Prelude.{◌≡◌, ◌<◌, ◌↔◌, ◌||◌, ℕ, Bool, IfOk, List, Some, ⊤, length, slice_get, true};
 ghost use Rattle.rrv_model.specs.declared.record.Record.{Record};
-ghost use Rattle.replayer.specs.declared.fault.VerifyFault.TheVariants as verify_faults;
-ghost use Rattle.replayer.specs.Sourced.{NamesWithheld, ends_withheld, withholds};
+ghost use Rattle.replayer.specs.Sourced.{withholds};
 
-use crate::fault::VerifyFault;
 use recover::ReadFault;
 use rrv_model::record::Record;
 use std::alloc::Global;
@@ -36,25 +34,4 @@ pub trait Source {
         ensures honest { honest self.new ↔ honest self.old }
         ensures withheld { withheld self.new ≡ (withholds result || withheld self.old) }
         ensures place { withholds result ≡ true → withheld_at self.new index };
-}
-
-/// The record at a place of a source.
-pub(crate) fn given<S: Source>(
-    alloc: Global,
-    source: &mut S,
-    index: usize,
-) -> Result<Record, VerifyFault>
-    requires { index < length (S.records source.old) }
-    ensures record { S.honest source.old → IfOk result (λ r. slice_get (S.records source.old) index ≡ Some r) }
-    ensures refused { IfErr result (λ e. (e ≡ verify_faults.Memory) ⊎ (e ≡ verify_faults.Unreadable index)) }
-    ensures records { S.records source.new ≡ S.records source.old }
-    ensures honest { S.honest source.new ↔ S.honest source.old }
-    ensures withheld { S.withheld source.new ≡ (ends_withheld result || S.withheld source.old) }
-    ensures names { IfErr result (NamesWithheld S.withheld_at source.new) }
-{
-    match source.item(alloc, index) {
-        Ok(entry) => Ok(entry),
-        Err(ReadFault::Memory) => Err(VerifyFault::Memory),
-        Err(ReadFault::DeviceFailed | ReadFault::Damaged) => Err(VerifyFault::Unreadable { index }),
-    }
 }

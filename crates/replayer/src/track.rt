@@ -4,7 +4,7 @@ ghost use Rattle.std.specs.Prelude.{◌≡◌, ◌≤◌, ◌<◌, ◌+◌, IfOk
 ghost use Rattle.rrv_model.specs.StateAt.{total};
 ghost use Rattle.guest_calls.specs.Guest.{state_of};
 ghost use Rattle.replayer.specs.Kept.{AreKept, last_place};
-ghost use Rattle.replayer.specs.Places.{GoesOn, IsPlace, StandsAt};
+ghost use Rattle.replayer.specs.Places.{BeginsAt, GoesOn, StandsAt};
 
 use crate::forward::{count_of, follow_whole, rest_of, run_plain};
 use crate::opened::put_parts;
@@ -18,11 +18,9 @@ impl Track {
     /// The guest at its start.
     pub(crate) fn start(&self, alloc: Global) -> Result<Position, Memory>
         requires { AreKept self.now.opening self.now.frames self.now.marks }
-        ensures place { IfOk result (λ p. IsPlace self.now.opening self.now.frames p.frames p.at (state_of p.guest)) }
+        ensures begins { IfOk result (BeginsAt self.now.opening self.now.frames) }
         ensures at { IfOk result (λ p. p.at ≡ 0) }
         ensures frames { IfOk result (λ p. p.frames ≡ 0) }
-        ensures steps { IfOk result (λ p. p.steps ≡ 0) }
-        ensures ran { IfOk result (λ p. p.guest.ran ≡ 0) }
     {
         // The opening is a recording's, so only memory can be short.
         let Ok(guest) = Guest::start(alloc, &self.opening) else {
@@ -39,11 +37,9 @@ impl Track {
     /// The guest at the last complete checkpoint at or before t, else at its start.
     fn nearest(&self, alloc: Global, t: u64) -> Result<Position, Memory>
         requires { AreKept self.now.opening self.now.frames self.now.marks }
-        ensures place { IfOk result (λ p. IsPlace self.now.opening self.now.frames p.frames p.at (state_of p.guest)) }
+        ensures begins { IfOk result (BeginsAt self.now.opening self.now.frames) }
         ensures last { IfOk result (λ p. p.at ≡ last_place 0 self.now.marks t) }
         ensures low { IfOk result (λ p. p.at ≤ t) }
-        ensures steps { IfOk result (λ p. p.steps ≡ 0) }
-        ensures ran { IfOk result (λ p. p.guest.ran ≡ 0) }
     {
         let mut position = self.start(alloc)?;
         let mut left = self.marks.as_slice();

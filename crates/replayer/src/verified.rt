@@ -1,9 +1,9 @@
 //! A verified recording, its state at each count of instructions, and its output.
 
-ghost use Rattle.std.specs.Prelude.{◌≡◌, ◌↔◌, ◌≤◌, IfErr, IfOk, OnErr, OnOk};
+ghost use Rattle.std.specs.Prelude.{◌≡◌, ◌≤◌, IfOk};
 ghost use Rattle.rrv_model.specs.StateAt.{StateAt, total};
 ghost use Rattle.guest_calls.specs.Guest.{state_of};
-ghost use Rattle.replayer.specs.Puts.{PutsAll, PutsBeginning, RefusesOutput};
+ghost use Rattle.replayer.specs.Puts.{PutsOut};
 ghost use Rattle.replayer.specs.Verified.{IsLastCheckpoint, IsVerified, RanFromLast};
 
 use crate::fault::OutputFault;
@@ -106,13 +106,7 @@ impl Verified {
         rt: &R,
         sink: &mut S,
     ) -> Result<(), OutputFault>
-        ensures all { OnOk result (S.tells sink.old
-            → PutsAll self.now.opening self.now.frames (S.taken sink.old) (S.taken sink.new)) }
-        ensures part { OnErr result (S.tells sink.old
-            → PutsBeginning self.now.opening self.now.frames (S.taken sink.old) (S.taken sink.new)) }
-        ensures steady { OnOk result (S.faults sink.new ≡ S.faults sink.old) }
-        ensures refused { IfErr result (λ e. RefusesOutput e (S.faults sink.old) (S.faults sink.new)) }
-        ensures tells { S.tells sink.new ↔ S.tells sink.old }
+        ensures { PutsOut S.Sink result self.now.opening self.now.frames sink.old sink.new }
     {
         self.track.output(alloc, rt, sink)
     }

@@ -1,16 +1,18 @@
 //! Records, verified.
 
-ghost use Rattle.std.specs.Prelude.{◌≡◌, ◌<◌, ◌≤◌, ◌^◌, ◌*◌, ◌↔◌, ◌||◌, List, true, IfErr, IfOk, OnOk, Some, length, slice_get};
+ghost use Rattle.std.specs.Prelude.{◌≡◌, ◌<◌, ◌≤◌, ◌^◌, ◌*◌, List, true, IfErr, IfOk, OnOk, Some, length, slice_get};
 ghost use Rattle.rrv_model.specs.declared.record.Record.{Record};
 ghost use Rattle.guest_calls.specs.Guest.{state_of};
 ghost use Rattle.replayer.specs.declared.fault.VerifyFault.TheVariants as faults;
-ghost use Rattle.replayer.specs.Sourced.{Followed, FollowsAll, FollowsGiven, IsEndOf, NamesWithheld, RefusesGiven, RefusesSource, ends_withheld};
+ghost use Rattle.replayer.specs.Asked.{AsksSource, TellsSource};
+ghost use Rattle.replayer.specs.Sourced.{Followed, FollowsAll, FollowsGiven, IsEndOf, RefusesGiven, RefusesSource};
 ghost use Rattle.replayer.specs.Refusals.{RefusesVerify, TakesMemory};
 ghost use Rattle.replayer.specs.Verified.{Keeps};
 
+use crate::asking::given;
 use crate::fault::VerifyFault;
 use crate::recording::Track;
-use crate::source::{Source, given};
+use crate::source::Source;
 use crate::verified::Verified;
 use crate::verified_end::VerifiedEnd;
 use crate::walk::{Walk, follow_record, open_first, opening_of};
@@ -86,8 +88,7 @@ fn kept_of(first: &Record, walk: Walk, len: usize) -> Result<Verified, VerifyFau
 pub fn verify_source<S: Source>(alloc: Global, source: &mut S) -> Result<Verified, VerifyFault>
     ensures keeps { S.honest source.old → IfOk result (λ verified. Keeps verified (S.records source.old)) }
     ensures refused { S.honest source.old → IfErr result (λ e. RefusesSource e (S.records source.old)) }
-    ensures withheld { S.withheld source.new ≡ (ends_withheld result || S.withheld source.old) }
-    ensures names { IfErr result (NamesWithheld S.withheld_at source.new) }
+    ensures told { TellsSource S.Source result source.old source.new }
     ensures len { IfOk result (λ verified. verified.len ≡ length (S.records source.old)) }
 {
     verify_source_watched(alloc, source, &mut Unwatched)
@@ -101,8 +102,7 @@ pub fn verify_source_watched<S: Source, W: Watch>(
 ) -> Result<Verified, VerifyFault>
     ensures keeps { S.honest source.old → IfOk result (λ verified. Keeps verified (S.records source.old)) }
     ensures refused { S.honest source.old → IfErr result (λ e. RefusesSource e (S.records source.old)) }
-    ensures withheld { S.withheld source.new ≡ (ends_withheld result || S.withheld source.old) }
-    ensures names { IfErr result (NamesWithheld S.withheld_at source.new) }
+    ensures told { TellsSource S.Source result source.old source.new }
     ensures len { IfOk result (λ verified. verified.len ≡ length (S.records source.old)) }
 {
     let len = source.len();
@@ -123,8 +123,7 @@ pub fn verify_source_end<S: Source, W: Watch>(
 ) -> Result<VerifiedEnd, VerifyFault>
     ensures ends { S.honest source.old → IfOk result (λ end. IsEndOf end (S.records source.old)) }
     ensures refused { S.honest source.old → IfErr result (λ e. RefusesSource e (S.records source.old)) }
-    ensures withheld { S.withheld source.new ≡ (ends_withheld result || S.withheld source.old) }
-    ensures names { IfErr result (NamesWithheld S.withheld_at source.new) }
+    ensures told { TellsSource S.Source result source.old source.new }
     ensures len { IfOk result (λ end. end.len ≡ length (S.records source.old)) }
 {
     let len = source.len();
@@ -161,8 +160,7 @@ fn follow_source<S: Source, W: Watch>(
     ensures refused { S.honest source.old → slice_get (S.records source.old) 0 ≡ Some first.now
         → IfErr result (λ e. RefusesSource e (S.records source.old)) }
     ensures records { S.records source.new ≡ S.records source.old }
-    ensures withheld { S.withheld source.new ≡ (ends_withheld result || S.withheld source.old) }
-    ensures names { IfErr result (NamesWithheld S.withheld_at source.new) }
+    ensures told { TellsSource S.Source result source.old source.new }
 {
     let len = source.len();
     let mut walk = open_first(alloc, first, keeps)?;
@@ -187,10 +185,7 @@ fn follow_given<S: Source>(
         (FollowsGiven S.honest S.records source.old number index walk.old walk.new) }
     ensures refused { S.honest source.old → IfErr result (λ e. RefusesGiven e number index (S.records source.old)
         (state_of walk.old.base) walk.old.parts.items (state_of walk.old.guest)) }
-    ensures records { S.records source.new ≡ S.records source.old }
-    ensures honest { S.honest source.new ↔ S.honest source.old }
-    ensures withheld { S.withheld source.new ≡ (ends_withheld result || S.withheld source.old) }
-    ensures names { IfErr result (NamesWithheld S.withheld_at source.new) }
+    ensures asks { AsksSource S.Source result source.old source.new }
 {
     let entry = given(alloc, source, index)?;
     follow_record(alloc, walk, number, index, &entry)

@@ -79,14 +79,14 @@ unfolding parts_of
 length-parts_of [] = refl
 length-parts_of (e ∷ es) = ap (λ n. suc n) (length-parts_of es)
 
-less_than : (x y : ℕ) → is_lt (nat_cmp x y) ≡ true → x < y
+pub less_than : (x y : ℕ) → is_lt (nat_cmp x y) ≡ true → x < y
 less_than x y h = grind (arith, nat_tests)
 
-holds : (b : Bool) → T b → b ≡ true
+pub holds : (b : Bool) → T b → b ≡ true
 holds true h = refl
 holds false h = absurd h
 
-both_hold : (a b : Bool) → T (a && b) → T a × T b
+pub both_hold : (a b : Bool) → T (a && b) → T a × T b
 both_hold true b h = (tt, h)
 both_hold false b h = absurd h
 
@@ -104,7 +104,8 @@ threads_again m = same_map nat_cmp_total nat_cmp-IsAntisymmetric _ _ (λ q.
     ap (λ (es : List (ℕ × Thread)). get (from_entries {R = nat_cmp} es) q) (pairs_of (entries m))
     ∙ get-from_entries nat_cmp_total (entries m) q ∙ sym (get-entries m q))
 
-none_below : (x : ℕ) (es : List (ℕ × Thread)) → T (below_all nat_cmp x es) → find nat_cmp x es ≡ None
+-- a tid is not among those behind it
+pub none_below : (x : ℕ) (es : List (ℕ × Thread)) → T (below_all nat_cmp x es) → find nat_cmp x es ≡ None
 none_below x [] h = refl
 none_below x (e ∷ es) h =
     let parts = both_hold _ _ h in

@@ -1,8 +1,10 @@
 -- What frames do, by how they ended: the laws that have an arm for each end. Others ask an end by its words, and cite these.
-use Rattle.std.proofs.Common.{◌≡◌, ℕ, zero, suc, ◌+◌, ◌-◌, ◌<◌, true, false, List, [], Option, Some, None, IfSome, refl, sym, ◌∙◌, ap, subst, arith}
+use Rattle.std.proofs.Common.{◌≡◌, ℕ, zero, suc, ◌+◌, ◌-◌, ◌<◌, ◌≤◌, true, false, List, [], Option, Some, None, IfSome, refl, sym, ◌∙◌, ap, subst, arith}
 use Rattle.std.proofs.lemmas.Bool.{false≢true}
+use Rattle.rrv_model.specs.declared.machine.FaultKind.{FaultKind}
 use Rattle.rrv_model.specs.declared.machine.GuestEnd.{GuestEnd}
 use Rattle.rrv_model.specs.declared.machine.GuestEnd.TheVariants as guest_ends
+use Rattle.rrv_model.specs.declared.machine.FaultKind.{FaultKind}
 use Rattle.rrv_model.specs.declared.record.CallRecord.{CallRecord}
 use Rattle.rrv_model.specs.declared.record.End.{End}
 use Rattle.rrv_model.specs.declared.record.End.TheVariants as ends
@@ -10,8 +12,9 @@ use Rattle.rrv_model.specs.declared.record.Frame.{Frame}
 use Rattle.rrv_model.specs.State.{State, thread_at, IsEnd, IsRunning}
 use Rattle.rrv_model.specs.Step.{CallsFrom}
 use Rattle.rrv_model.specs.Calls.{Answer, Calls}
-use Rattle.rrv_model.specs.FrameStep.{Steps, FrameStepBy, Preempts, EndsInCall, EndsInFault, closed, closed_at_end}
-use Rattle.rrv_model.specs.Output.{Chunk, FramePuts, call_in, has_thread, is_preempt, put_out_by}
+use Rattle.rrv_model.specs.Ends.{call_in, fault_in, guest_end, has_thread, is_preempt}
+use Rattle.rrv_model.specs.FrameStep.{Steps, FrameStepBy, Preempts, EndsInCall, EndsInFault, closed_at_end, closed_by}
+use Rattle.rrv_model.specs.Output.{Chunk, FramePuts, put_out_by}
 
 -- ---- what the words of an end tell of it
 
@@ -26,6 +29,19 @@ preempt_is ends.Preempt e = refl
 preempt_is (ends.Call r) e = absurd (false≢true e)
 preempt_is (ends.Fault kind) e = absurd (false≢true e)
 preempt_is ends.Stuck e = absurd (false≢true e)
+
+-- the end of a thread's run, by its call or its fault
+abbrev pub ran_end : Option CallRecord → Option FaultKind → End
+ran_end (Some r) fault = ends.Call r
+ran_end None (Some kind) = ends.Fault kind
+ran_end None None = ends.Preempt
+
+-- an end that has a thread is what its words say
+pub ran_end_is : (end : End) → has_thread end ≡ true → ran_end (call_in end) (fault_in end) ≡ end
+ran_end_is ends.Preempt some = refl
+ran_end_is (ends.Call r) some = refl
+ran_end_is (ends.Fault kind) some = refl
+ran_end_is ends.Stuck some = absurd (false≢true some)
 
 threadless_is : (end : End) → has_thread end ≡ false → end ≡ ends.Stuck
 threadless_is ends.Preempt e = absurd (false≢true (sym e))
@@ -46,13 +62,6 @@ plain_steps (ends.Call r) count = count - 1
 plain_steps (ends.Fault kind) count = count - 1
 plain_steps ends.Stuck count = 0
 
--- the guest's end where the frame, and not its call, ends the guest
-abbrev pub guest_end : End → Option GuestEnd
-guest_end ends.Preempt = None
-guest_end (ends.Call r) = None
-guest_end (ends.Fault kind) = Some (guest_ends.Faulted kind)
-guest_end ends.Stuck = Some guest_ends.Stuck
-
 pub guest_end_is : (end : End) → IfSome (guest_end end) IsEnd
 guest_end_is ends.Preempt = tt
 guest_end_is (ends.Call r) = tt
@@ -64,11 +73,6 @@ abbrev pub AnswersCall : Option CallRecord → ℕ → State → State → Type 
 AnswersCall None tid before after = after ≡ before
 AnswersCall (Some r) tid before after =
     (called : State) × (answer : Answer) × CallsFrom before tid called × Calls called tid answer r after
-
--- what a frame leaves
-abbrev pub closed_by : Option GuestEnd → State → State
-closed_by None s = closed s
-closed_by (Some end) s = closed_at_end end s
 
 -- a frame is plain steps, what its call does, and what closes it
 pub record FrameParts (end : End) (old : State) (tid count : ℕ) (new : State) : Type 0 where
@@ -116,6 +120,15 @@ no_thread ends.Stuck old tid count new none p = record {
   new_is = p.new_is;
 }
 
+-- so where none runs, a frame of no thread ends the guest
+pub rests : (end : End) (old : State) (tid count : ℕ) (new : State) → has_thread end ≡ false → tid ≡ 0 → count ≡ 0 →
+    ((t : ℕ) → IsRunning (thread_at old t) → ⊥) → new ≡ closed_by (guest_end end) old → FrameStepBy end old tid count new
+rests ends.Preempt old tid count new none no_tid no_step none_running new_is = absurd (false≢true (sym none))
+rests (ends.Call r) old tid count new none no_tid no_step none_running new_is = absurd (false≢true (sym none))
+rests (ends.Fault kind) old tid count new none no_tid no_step none_running new_is = absurd (false≢true (sym none))
+rests ends.Stuck old tid count new none no_tid no_step none_running new_is =
+    record { no_tid = no_tid; no_step = no_step; none_running = none_running; new_is = new_is }
+
 -- ---- inside a frame
 
 pub steps_join : (n m tid : ℕ) (s mid last : State) → Steps n tid s mid → Steps m tid mid last → Steps (n + m) tid s last
@@ -136,6 +149,27 @@ steps_split (suc n) m tid s last h =
     let behind = steps_split n m tid k.0 last k.2 in
     (behind.0, (k.0, k.1, behind.1), behind.2)
 
+-- a frame that ends in a call, by other steps to the same place
+call_ends : (s s' : State) (tid count count' : ℕ) (r : CallRecord) (new : State) (h : EndsInCall s tid count r new) → 1 ≤ count' →
+    Steps (count' - 1) tid s' h.before → EndsInCall s' tid count' r new
+call_ends s s' tid count count' r new h some steps = record {
+  some = some;
+  before = h.before;
+  steps = steps;
+  called = h.called;
+  calls = h.calls;
+  answer = h.answer;
+  after = h.after;
+  answered = h.answered;
+  new_is = h.new_is;
+}
+
+-- so of one that ends in a fault
+fault_ends : (s s' : State) (tid count count' : ℕ) (kind : FaultKind) (new : State) (h : EndsInFault s tid count kind new) → 1 ≤ count' →
+    Steps (count' - 1) tid s' h.before → EndsInFault s' tid count' kind new
+fault_ends s s' tid count count' kind new h some steps =
+    record { some = some; before = h.before; steps = steps; faults = h.faults; new_is = h.new_is }
+
 -- behind some of its steps a frame is one of the others
 pub frame_split : (end : End) (s new : State) (tid count n : ℕ) → n < count → FrameStepBy end s tid count new →
     (mid : State) × Steps n tid s mid × FrameStepBy end mid tid (count - n) new
@@ -147,25 +181,11 @@ frame_split ends.Preempt s new tid count n below h =
 frame_split (ends.Call r) s new tid count n below h =
     let sum : count - 1 ≡ n + (count - n - 1) = omega arith in
     let both = steps_split n (count - n - 1) tid s h.before (subst (λ i. Steps i tid s h.before) sum h.steps) in
-    let by : EndsInCall both.0 tid (count - n) r new =
-    record {
-      some = omega arith;
-      before = h.before;
-      steps = both.2;
-      called = h.called;
-      calls = h.calls;
-      answer = h.answer;
-      after = h.after;
-      answered = h.answered;
-      new_is = h.new_is;
-    } in
-    (both.0, both.1, by)
+    (both.0, both.1, call_ends s both.0 tid count (count - n) r new h (omega arith) both.2)
 frame_split (ends.Fault kind) s new tid count n below h =
     let sum : count - 1 ≡ n + (count - n - 1) = omega arith in
     let both = steps_split n (count - n - 1) tid s h.before (subst (λ i. Steps i tid s h.before) sum h.steps) in
-    let by : EndsInFault both.0 tid (count - n) kind new =
-    record { some = omega arith; before = h.before; steps = both.2; faults = h.faults; new_is = h.new_is } in
-    (both.0, both.1, by)
+    (both.0, both.1, fault_ends s both.0 tid count (count - n) kind new h (omega arith) both.2)
 frame_split ends.Stuck s new tid count n below h = absurd (omega (arith, h.no_step))
 
 pub frame_join : (end : End) (s mid new : State) (tid count n : ℕ) → n < count → Steps n tid s mid →
@@ -183,25 +203,11 @@ frame_join ends.Preempt s mid new tid count n below some h =
 frame_join (ends.Call r) s mid new tid count n below some h =
     let sum : n + (count - n - 1) ≡ count - 1 = omega arith in
     let all = subst (λ i. Steps i tid s h.before) sum (steps_join n (count - n - 1) tid s mid h.before some h.steps) in
-    let by : EndsInCall s tid count r new =
-    record {
-      some = omega arith;
-      before = h.before;
-      steps = all;
-      called = h.called;
-      calls = h.calls;
-      answer = h.answer;
-      after = h.after;
-      answered = h.answered;
-      new_is = h.new_is;
-    } in
-    by
+    call_ends mid s tid (count - n) count r new h (omega arith) all
 frame_join (ends.Fault kind) s mid new tid count n below some h =
     let sum : n + (count - n - 1) ≡ count - 1 = omega arith in
     let all = subst (λ i. Steps i tid s h.before) sum (steps_join n (count - n - 1) tid s mid h.before some h.steps) in
-    let by : EndsInFault s tid count kind new =
-    record { some = omega arith; before = h.before; steps = all; faults = h.faults; new_is = h.new_is } in
-    by
+    fault_ends mid s tid (count - n) count kind new h (omega arith) all
 frame_join ends.Stuck s mid new tid count n below some h = absurd (omega (arith, h.no_step))
 
 -- ---- output

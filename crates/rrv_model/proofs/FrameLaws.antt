@@ -9,11 +9,11 @@ use Rattle.rrv_model.specs.Instructions.{Decodes}
 use Rattle.rrv_model.specs.State.{State}
 use Rattle.rrv_model.specs.Step.{Hart, Step, StepOfWord, HartStep, StepsTo, CallsFrom, Outcome, Next, Called, fetched, executed, hart_of, with_hart}
 use Rattle.rrv_model.specs.Calls.{Calls}
-use Rattle.rrv_model.specs.FrameStep.{Steps, FrameStepBy, OneStateAfterFrame}
-use Rattle.rrv_model.specs.Output.{call_in}
+use Rattle.rrv_model.specs.Ends.{call_in, guest_end}
+use Rattle.rrv_model.specs.FrameStep.{Steps, FrameStepBy, OneStateAfterFrame, closed_by}
 use Rattle.rrv_model.proofs.InstructionLaws.{one_row}
 use Rattle.rrv_model.proofs.CallLaws.{one_state_after_call, same_thread}
-use Rattle.rrv_model.proofs.Ends.{AnswersCall, closed_by, frame_parts, guest_end, plain_steps}
+use Rattle.rrv_model.proofs.Ends.{AnswersCall, frame_parts, plain_steps}
 
 one_decoding : (w : ℕ) (i j : Option Instr) → Decodes w i → Decodes w j → i ≡ j
 one_decoding w (Some i) (Some j) p q = ap Some (one_row w i j p q)

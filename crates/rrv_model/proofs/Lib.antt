@@ -23,6 +23,7 @@ pub mod MemoryRules
 pub mod StepRules
 pub mod ThreadRules
 pub mod StateRules
+pub mod CallKeeps
 pub mod CallRules
 pub mod StateLaws
 pub mod PageTexts

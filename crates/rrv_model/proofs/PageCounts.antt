@@ -6,6 +6,17 @@ use Rattle.rrv_model.specs.Memory.{Memory, Cell, stored, mapped, is_within, with
 use Rattle.rrv_model.specs.Elf.{Header, touches, touched_below}
 use Rattle.rrv_model.proofs.ImageParts.{image_of}
 
+-- ---- what is made page by page
+
+-- what a page that isn't mapped adds nothing to is the same below two numbers between which no page is mapped
+pub pages_skip : {X : Type 0} (made : ℕ → X) (m : Memory) → ((n : ℕ) → is_mapped m n ≡ false → made (suc n) ≡ made n) → (least d n : ℕ)
+    → n ≡ least + d → ((q : ℕ) → least ≤ q → q < n → is_mapped m q ≡ false) → made n ≡ made least
+pages_skip made m none least zero n e free = let same : n ≡ least = omega (arith, e) in ap made same
+pages_skip made m none least (suc d) zero e free = absurd (omega (arith, e))
+pages_skip made m none least (suc d) (suc n) e free =
+    none n (free n (omega (arith, e)) (omega arith))
+    ∙ pages_skip made m none least d n (omega (arith, e)) (λ q from below. free q from (omega (arith, below)))
+
 -- ---- counts of any memory
 
 at_most_one : (b : Bool) → (if b then 1 else 0) ≤ 1

@@ -5,11 +5,11 @@ use Rattle.rrv_model.specs.declared.machine.GuestEnd.{GuestEnd}
 use Rattle.rrv_model.specs.declared.record.CallRecord.{CallRecord}
 use Rattle.rrv_model.specs.declared.record.Frame.{Frame}
 use Rattle.rrv_model.specs.State.{State, IsEnd, IsState}
-use Rattle.rrv_model.specs.FrameStep.{Steps, FrameStep, FramesKeepStates, closed}
-use Rattle.rrv_model.specs.Output.{call_in}
+use Rattle.rrv_model.specs.Ends.{call_in, guest_end}
+use Rattle.rrv_model.specs.FrameStep.{Steps, FrameStep, FramesKeepStates, closed, closed_by}
 use Rattle.rrv_model.specs.StateAt.{StateAtFrom, RecordedStatesAreStates}
-use Rattle.rrv_model.proofs.CallRules.{call_keeps_state}
-use Rattle.rrv_model.proofs.Ends.{AnswersCall, closed_by, frame_parts, guest_end, guest_end_is, plain_steps}
+use Rattle.rrv_model.proofs.CallRules.{call_keeps}
+use Rattle.rrv_model.proofs.Ends.{AnswersCall, frame_parts, guest_end_is, plain_steps}
 use Rattle.rrv_model.proofs.OpeningState.{openings_are_states}
 use Rattle.rrv_model.proofs.StateRules.{keeps-reservation, keeps-ended, steps_keep_state, ecall_keeps_state}
 
@@ -23,7 +23,7 @@ closing_keeps (Some end) s is h = keeps-ended end (closed s) is (closes s h)
 answers_keep : (o : Option CallRecord) (tid : ℕ) (before after : State) → AnswersCall o tid before after → IsState before → IsState after
 answers_keep None tid before after e h = subst IsState (sym e) h
 answers_keep (Some r) tid before after (called, answer, calls, answered) h =
-    call_keeps_state called tid answer r after answered (ecall_keeps_state before tid called calls h)
+    (call_keeps called tid answer r after answered).rules (ecall_keeps_state before tid called calls h)
 
 pub frames_keep_states : FramesKeepStates
 frames_keep_states old frame new h step =

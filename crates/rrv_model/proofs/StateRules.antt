@@ -1,5 +1,5 @@
 -- What keeps the rules of a state.
-use Rattle.std.proofs.Common.{◌≡◌, ℕ, zero, suc, ◌^◌, ◌<◌, ◌≤◌, Bool, true, false, cond, not, nat_eq, List, [], ◌∷◌, ◌++◌, filter, fold, Option, Some, IfSome, refl, sym, subst, arith}
+use Rattle.std.proofs.Common.{◌≡◌, ℕ, zero, suc, ◌^◌, ◌<◌, ◌≤◌, Bool, true, false, cond, not, nat_eq, List, [], ◌∷◌, ◌++◌, filter, fold, Option, Some, IfSome, refl, sym, subst, arith, rules}
 use Rattle.std.specs.FinMap.{FinMap, get, insert, remove, len}
 use Rattle.std.specs.Ordering.{nat_cmp}
 use Rattle.rrv_model.specs.declared.machine.Thread.{Thread}
@@ -21,70 +21,20 @@ pub memory_of_state : (s : State) → IsState s → IsMemory s.memory
 memory_of_state s h = record { pages = h.rules.memory; limit = h.limit }
 
 pub keeps-memory : (m : Memory) (s : State) → IsMemory m → IsState s → IsState (with_memory m s)
-keeps-memory m s is h = record {
-  rules = record {
-    memory = is.pages;
-    threads = h.rules.threads;
-    opening = h.rules.opening;
-    breaks = h.rules.breaks;
-    reservation = h.rules.reservation;
-    ended = h.rules.ended;
-  };
-  limit = is.limit;
-}
+keeps-memory m s is h = search rules
 
 pub keeps-threads : (m : FinMap nat_cmp Thread) (order : List ℕ) (next : ℕ) (s : State) → AreThreads m order next → IsState s →
     IsState (record s { threads = m; waiting = order; next_tid = next })
-keeps-threads m order next s are h = record {
-  rules = record {
-    memory = h.rules.memory;
-    threads = are;
-    opening = h.rules.opening;
-    breaks = h.rules.breaks;
-    reservation = h.rules.reservation;
-    ended = h.rules.ended;
-  };
-  limit = h.limit;
-}
+keeps-threads m order next s are h = search rules
 
 pub keeps-reservation : (r : Option ℕ) (s : State) → IfSome r (λ a. a < 2 ^ 32) → IsState s → IsState (record s { reservation = r })
-keeps-reservation r s low h = record {
-  rules = record {
-    memory = h.rules.memory;
-    threads = h.rules.threads;
-    opening = h.rules.opening;
-    breaks = h.rules.breaks;
-    reservation = low;
-    ended = h.rules.ended;
-  };
-  limit = h.limit;
-}
+keeps-reservation r s low h = search rules
 
 pub keeps-ended : (end : GuestEnd) (s : State) → IsEnd end → IsState s → IsState (record s { ended = Some end })
-keeps-ended end s is h = record {
-  rules = record {
-    memory = h.rules.memory;
-    threads = h.rules.threads;
-    opening = h.rules.opening;
-    breaks = h.rules.breaks;
-    reservation = h.rules.reservation;
-    ended = is;
-  };
-  limit = h.limit;
-}
+keeps-ended end s is h = search rules
 
 pub keeps-break : (a : ℕ) (s : State) → s.opening_break ≤ a → a ≤ 0x70000000 → IsState s → IsState (record s { program_break = a })
-keeps-break a s low high h = record {
-  rules = record {
-    memory = h.rules.memory;
-    threads = h.rules.threads;
-    opening = h.rules.opening;
-    breaks = (low, high);
-    reservation = h.rules.reservation;
-    ended = h.rules.ended;
-  };
-  limit = h.limit;
-}
+keeps-break a s low high h = search rules
 
 -- ---- threads
 

@@ -1,7 +1,7 @@
 -- What each call does: the subset of Linux calls that a guest may make, a row a call (Linux man pages, section 2).
 use Rattle.std.specs.Prelude.{ℕ, zero, suc, ◌+◌, ◌-◌, ◌*◌, ◌/◌, ◌%◌, ◌^◌, min, Bool, true, false, not, ◌&&◌, ◌||◌}
 use Rattle.std.specs.Prelude.{◌==◌, nat_lt, nat_le, bit_and, if◌then◌else◌, List, [], ◌∷◌, ◌++◌, length, take, filter}
-use Rattle.std.specs.Prelude.{flat_map, sum_by, fold, Option, Some, None}
+use Rattle.std.specs.Prelude.{flat_map, sum_by, fold, Option, Some, None, codes}
 use Rattle.std.specs.FinMap.{FinMap, get, insert, remove, len}
 use Rattle.std.specs.Ordering.{nat_cmp}
 use Rattle.std.specs.Int.{w32, to_le_bytes}
@@ -340,6 +340,20 @@ syscall_of n =
     else if n == 215 then Munmap else if n == 220 then Clone else if n == 222 then Mmap
     else if n == 226 then Mprotect else if n == 278 then Getrandom else if n == 403 then ClockGettime
     else Other
+
+-- the name of a call's number (Linux, include/uapi/asm-generic/unistd.h), if a guest may make the call
+abbrev pub call_name : ℕ → Option (List ℕ)
+call_name n =
+    if n == 63 then Some (codes "read") else if n == 64 then Some (codes "write")
+    else if n == 66 then Some (codes "writev") else if n == 93 then Some (codes "exit")
+    else if n == 94 then Some (codes "exit_group") else if n == 96 then Some (codes "set_tid_address")
+    else if n == 98 then Some (codes "futex") else if n == 124 then Some (codes "sched_yield")
+    else if n == 172 then Some (codes "getpid") else if n == 178 then Some (codes "gettid")
+    else if n == 214 then Some (codes "brk") else if n == 215 then Some (codes "munmap")
+    else if n == 220 then Some (codes "clone") else if n == 222 then Some (codes "mmap")
+    else if n == 226 then Some (codes "mprotect") else if n == 278 then Some (codes "getrandom")
+    else if n == 403 then Some (codes "clock_gettime64") else if n == 422 then Some (codes "futex_time64")
+    else None
 
 -- sched_yield(2), getpid(2) and gettid(2) have no row of their own: they only answer
 unfoldable pub row_of : Syscall → ℕ → State → Thread → Row

@@ -1,6 +1,6 @@
 -- Frame step: a frame leads from one state to the next by a thread's steps and what ends them, as in rr's record and
 -- replay (O'Callahan and others, 2017), with switches at exact instruction counts.
-use Rattle.std.specs.Prelude.{◌≡◌, ℕ, zero, suc, ◌-◌, ◌≤◌, Some, None}
+use Rattle.std.specs.Prelude.{◌≡◌, ℕ, zero, suc, ◌-◌, ◌≤◌, Option, Some, None}
 use Rattle.rrv_model.specs.declared.limits.TheConstants.{MAX_QUANTUM}
 use Rattle.rrv_model.specs.declared.machine.GuestEnd.{GuestEnd}
 use Rattle.rrv_model.specs.declared.machine.GuestEnd.TheVariants as guest_ends
@@ -24,6 +24,11 @@ closed s = record s { reservation = None }
 
 abbrev pub closed_at_end : GuestEnd → State → State
 closed_at_end end s = record s { reservation = None; ended = Some end }
+
+-- the end of a slice, which may end the guest
+abbrev pub closed_by : Option GuestEnd → State → State
+closed_by None s = closed s
+closed_by (Some end) s = closed_at_end end s
 
 pub record Preempts (old : State) (tid count : ℕ) (new : State) : Type 0 where
   pub some : 1 ≤ count

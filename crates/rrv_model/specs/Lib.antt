@@ -7,6 +7,7 @@ pub mod State
 pub mod Step
 pub mod CallRows
 pub mod Calls
+pub mod Ends
 pub mod FrameStep
 pub mod Elf
 pub mod Opening

@@ -1,10 +1,8 @@
--- What a recorded guest puts out, and what is asked of how a frame ended.
-use Rattle.std.specs.Prelude.{◌≡◌, ℕ, ◌-◌, nat_le, Bool, true, false, ◌&&◌, if◌then◌else◌, List, [], ◌∷◌, ◌++◌, flat_map, map, Option}
+-- What a recorded guest puts out.
+use Rattle.std.specs.Prelude.{◌≡◌, ℕ, ◌-◌, nat_le, ◌&&◌, if◌then◌else◌, List, [], ◌∷◌, ◌++◌, flat_map, map, Option}
 use Rattle.std.specs.Prelude.{Some, None, MatchOption}
 use Rattle.rrv_model.specs.declared.machine.Thread.{Thread}
-use Rattle.rrv_model.specs.declared.record.CallRecord.{CallRecord}
 use Rattle.rrv_model.specs.declared.record.End.{End}
-use Rattle.rrv_model.specs.declared.record.End.TheVariants.{Preempt, Call, Fault, Stuck}
 use Rattle.rrv_model.specs.declared.record.Frame.{Frame}
 use Rattle.rrv_model.specs.declared.record.Opening.{Opening}
 use Rattle.rrv_model.specs.declared.syscall.Syscall.{Syscall}
@@ -13,6 +11,7 @@ use Rattle.rrv_model.specs.declared.limits.TheConstants.{MAX_TRANSFER}
 use Rattle.rrv_model.specs.Memory.{Memory, bytes_at}
 use Rattle.rrv_model.specs.State.{State, thread_at, register}
 use Rattle.rrv_model.specs.CallRows.{argument, buffers_at, clipped, syscall_of}
+use Rattle.rrv_model.specs.Ends.{call_in}
 use Rattle.rrv_model.specs.FrameStep.{Steps, FrameStep}
 use Rattle.rrv_model.specs.Opening.{Opens}
 
@@ -49,31 +48,6 @@ put_out m t count = puts (syscall_of (register t.regs 17)) m t count
 abbrev pub put_out_by : Option Thread → Memory → ℕ → List Chunk
 put_out_by None m count = []
 put_out_by (Some t) m count = put_out m t count
-
--- ---- ends
-
--- the call that a frame ends in, if it ends in one
-abbrev pub call_in : End → Option CallRecord
-call_in (Call r) = Some r
-call_in Preempt = None
-call_in (Fault kind) = None
-call_in Stuck = None
-
--- whether a frame that ended so has a thread
-abbrev pub has_thread : End → Bool
-has_thread Preempt = true
-has_thread (Call r) = true
-has_thread (Fault kind) = true
-has_thread Stuck = false
-
--- whether its thread was preempted
-abbrev pub is_preempt : End → Bool
-is_preempt Preempt = true
-is_preempt (Call r) = false
-is_preempt (Fault kind) = false
-is_preempt Stuck = false
-
--- ---- output
 
 -- what the call behind so many instructions puts out, with this result: the bytes before its ECALL
 abbrev pub CallPutsAt : State → ℕ → ℕ → ℕ → List Chunk → Type 0

@@ -1,71 +1,40 @@
 -- A reader of words: the instruction that the fields of a word give, found in the rows of the table. It agrees with the table
 -- (proofs/Decoding); contracts of the decoder's parts speak of it.
-use Rattle.std.specs.Prelude.{ℕ, Bool, ◌==◌, ◌&&◌, if◌then◌else◌, List, [], ◌∷◌, Option, Some, None, option_map}
+use Rattle.std.specs.Prelude.{ℕ, Bool, ◌==◌, ◌&&◌, if◌then◌else◌, Option, Some, None, option_map}
 use Rattle.std.specs.List.{find}
 use Rattle.rrv_model.specs.Words.{field}
 use Rattle.rrv_model.specs.declared.instr.BranchTest.{BranchTest}
-use Rattle.rrv_model.specs.declared.instr.BranchTest.TheVariants.{Beq, Bne, Blt, Bge, Bltu, Bgeu}
 use Rattle.rrv_model.specs.declared.instr.LoadKind.{LoadKind}
-use Rattle.rrv_model.specs.declared.instr.LoadKind.TheVariants.{Lb, Lh, Lw, Lbu, Lhu}
 use Rattle.rrv_model.specs.declared.instr.StoreKind.{StoreKind}
-use Rattle.rrv_model.specs.declared.instr.StoreKind.TheVariants.{Sb, Sh, Sw}
 use Rattle.rrv_model.specs.declared.instr.ImmediateOp.{ImmediateOp}
-use Rattle.rrv_model.specs.declared.instr.ImmediateOp.TheVariants.{Addi, Slti, Sltiu, Xori, Ori, Andi}
 use Rattle.rrv_model.specs.declared.instr.ShiftOp.{ShiftOp}
-use Rattle.rrv_model.specs.declared.instr.ShiftOp.TheVariants.{Slli, Srli, Srai}
 use Rattle.rrv_model.specs.declared.instr.RegisterOp.{RegisterOp}
-use Rattle.rrv_model.specs.declared.instr.RegisterOp.TheVariants as ops
 use Rattle.rrv_model.specs.declared.instr.AmoOp.{AmoOp}
-use Rattle.rrv_model.specs.declared.instr.AmoOp.TheVariants as amos
 use Rattle.rrv_model.specs.declared.instr.Ordering.{Ordering}
 use Rattle.rrv_model.specs.declared.instr.Ordering.TheVariants as orderings
 use Rattle.rrv_model.specs.declared.instr.Instr.{Instr}
 use Rattle.rrv_model.specs.declared.instr.Instr.TheVariants.{Lui, Auipc, Jal, Jalr, Branch, Load, Store, OpImm, Shift, Op, Fence, FenceI, Ecall, Ebreak, Lr, Sc, Amo}
-use Rattle.rrv_model.specs.Instructions.{opcode, rd_of, funct3, rs1_of, rs2_of, funct7, funct5, i_immediate, s_immediate, b_immediate, u_immediate, j_immediate, branch_row, load_row, store_row, immediate_row, shift_row, op_row, amo_row}
+use Rattle.rrv_model.specs.Instructions.{opcode, rd_of, funct3, rs1_of, rs2_of, funct7, funct5, i_immediate, s_immediate, b_immediate, u_immediate, j_immediate, branch_row, load_row, store_row, immediate_row, shift_row, op_row, amo_row, all_tests, all_loads, all_stores, all_immediates, all_shifts, all_ops, all_amos}
 
--- ---- all of each table, and the one whose row is this
-
-abbrev pub all_tests : List BranchTest
-all_tests = Beq ∷ Bne ∷ Blt ∷ Bge ∷ Bltu ∷ Bgeu ∷ []
+-- ---- the one whose row is this
 
 abbrev pub branch_of : ℕ → Option BranchTest
 branch_of f3 = find (λ t. branch_row t == f3) all_tests
 
-abbrev pub all_loads : List LoadKind
-all_loads = Lb ∷ Lh ∷ Lw ∷ Lbu ∷ Lhu ∷ []
-
 abbrev pub load_of : ℕ → Option LoadKind
 load_of f3 = find (λ k. load_row k == f3) all_loads
-
-abbrev pub all_stores : List StoreKind
-all_stores = Sb ∷ Sh ∷ Sw ∷ []
 
 abbrev pub store_of : ℕ → Option StoreKind
 store_of f3 = find (λ k. store_row k == f3) all_stores
 
-abbrev pub all_immediates : List ImmediateOp
-all_immediates = Addi ∷ Slti ∷ Sltiu ∷ Xori ∷ Ori ∷ Andi ∷ []
-
 abbrev pub immediate_of : ℕ → Option ImmediateOp
 immediate_of f3 = find (λ o. immediate_row o == f3) all_immediates
-
-abbrev pub all_shifts : List ShiftOp
-all_shifts = Slli ∷ Srli ∷ Srai ∷ []
 
 abbrev pub shift_of : ℕ → ℕ → Option ShiftOp
 shift_of f3 f7 = find (λ o. (shift_row o).1 == f7 && (shift_row o).0 == f3) all_shifts
 
-abbrev pub all_ops : List RegisterOp
-all_ops =
-    ops.Add ∷ ops.Sub ∷ ops.Sll ∷ ops.Slt ∷ ops.Sltu ∷ ops.Xor ∷ ops.Srl ∷ ops.Sra ∷ ops.Or ∷ ops.And
-    ∷ ops.Mul ∷ ops.Mulh ∷ ops.Mulhsu ∷ ops.Mulhu ∷ ops.Div ∷ ops.Divu ∷ ops.Rem ∷ ops.Remu ∷ []
-
 abbrev pub op_of : ℕ → ℕ → Option RegisterOp
 op_of f3 f7 = find (λ o. (op_row o).1 == f7 && (op_row o).0 == f3) all_ops
-
-abbrev pub all_amos : List AmoOp
-all_amos =
-    amos.Swap ∷ amos.Add ∷ amos.Xor ∷ amos.And ∷ amos.Or ∷ amos.Min ∷ amos.Max ∷ amos.Minu ∷ amos.Maxu ∷ []
 
 abbrev pub amo_of : ℕ → Option AmoOp
 amo_of f5 = find (λ o. amo_row o == f5) all_amos

@@ -24,7 +24,10 @@
 //! - `recorded_states_are_states`: at each count of its instructions a recorded guest was in a state.
 //! - `checkpoints_exist`: a state that runs and has no reservation is described, against any state with its opening break, by
 //!   parts that have a text.
-//! - `End::has_thread`: whether a frame that ended so has a thread; `End::is_preempt`: whether that was preempted.
+//! - `End::has_thread`: whether a frame that ended so has a thread; `End::is_preempt`: whether that was preempted; `End::call`,
+//!   `End::fault`: the call or the fault that it ended in; `End::guest_end`: the guest's end, if the frame ended the guest.
+//! - `End::kind`, `Item::kind`: the kind of its record. `Kind::number`, `Kind::from_number`, `Kind::name`: a kind's byte, both ways,
+//!   and its word; `GuestEnd::name`: the word of a guest's end.
 //! - `Item::into_opening`: the opening that an item is; None exactly if it is another. `Opening::into_name`: its name.
 #![tactic(auto)]
 

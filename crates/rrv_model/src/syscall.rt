@@ -1,7 +1,8 @@
 //! The Linux calls that a guest may make, by their numbers (Linux, include/uapi/asm-generic/unistd.h).
 
 ghost use Rattle.std.specs.Prelude.{◌≡◌};
-ghost use Rattle.rrv_model.specs.CallRows.{syscall_of};
+ghost use Rattle.std.specs.Option.{option_map};
+ghost use Rattle.rrv_model.specs.CallRows.{call_name, syscall_of};
 
 /// A call of a guest. What each does is its row, in specs/CallRows.antt.
 #[derive(Clone, Copy, Debug, PartialEq, Eq)]
@@ -50,5 +51,32 @@ pub fn syscall_of(number: u32) -> Syscall
         278 => Syscall::Getrandom,
         403 => Syscall::ClockGettime,
         _ => Syscall::Other,
+    }
+}
+
+/// Linux's name of a call's number, as in `futex`; None if no guest may make the call.
+pub fn call_name(number: u32) -> Option<&'static str>
+    ensures { option_map (λ name. name.now) result ≡ call_name number }
+{
+    match number {
+        63 => Some("read"),
+        64 => Some("write"),
+        66 => Some("writev"),
+        93 => Some("exit"),
+        94 => Some("exit_group"),
+        96 => Some("set_tid_address"),
+        98 => Some("futex"),
+        124 => Some("sched_yield"),
+        172 => Some("getpid"),
+        178 => Some("gettid"),
+        214 => Some("brk"),
+        215 => Some("munmap"),
+        220 => Some("clone"),
+        222 => Some("mmap"),
+        226 => Some("mprotect"),
+        278 => Some("getrandom"),
+        403 => Some("clock_gettime64"),
+        422 => Some("futex_time64"),
+        _ => None,
     }
 }

@@ -2,14 +2,16 @@
 
 ghost use Rattle.std.specs.Prelude.{◌≡◌, ◌≢◌, ◌<◌, ◌^◌, ◌%◌, ℕ};
 ghost use Rattle.rrv_model.specs.Words.{sign_extend, flag};
-ghost use Rattle.rrv_model.specs.Instructions.{IsU, IsJ, IsI, IsS, IsB, IsR, IsA, Stands, branch_row, load_row, store_row, immediate_row, shift_row, op_row, amo_row};
+ghost use Rattle.rrv_model.specs.Instructions.{IsU, IsJ, IsI, IsS, IsB, IsR, IsA, Stands, shift_row, op_row};
 
+use crate::rows::{
+    funct3_of_branch, funct3_of_immediate, funct3_of_load, funct3_of_store, funct5_of_amo,
+    row_of_op, row_of_shift,
+};
 use rrv_model::fields::{
     BranchOffset, Immediate, JumpOffset, Register, ShiftAmount, UpperImmediate,
 };
-use rrv_model::instr::{
-    AmoOp, BranchTest, ImmediateOp, Instr, LoadKind, Ordering, RegisterOp, ShiftOp, StoreKind,
-};
+use rrv_model::instr::{Instr, Ordering, RegisterOp, ShiftOp};
 
 fn register_number(register: Register) -> u32
     ensures value { result ≡ register }
@@ -155,112 +157,6 @@ fn atomic_word(funct5: u32, ordering: Ordering, rd: Register, rs1: Register, rs2
         + (release << 25)
         + (acquire << 26)
         + (funct5 << 27)
-}
-
-fn funct3_of_branch(test: BranchTest) -> u32
-    ensures value { result ≡ branch_row test }
-    ensures range { result < 8 }
-{
-    match test {
-        BranchTest::Beq => 0b000,
-        BranchTest::Bne => 0b001,
-        BranchTest::Blt => 0b100,
-        BranchTest::Bge => 0b101,
-        BranchTest::Bltu => 0b110,
-        BranchTest::Bgeu => 0b111,
-    }
-}
-
-fn funct3_of_load(kind: LoadKind) -> u32
-    ensures value { result ≡ load_row kind }
-    ensures range { result < 8 }
-{
-    match kind {
-        LoadKind::Lb => 0b000,
-        LoadKind::Lh => 0b001,
-        LoadKind::Lw => 0b010,
-        LoadKind::Lbu => 0b100,
-        LoadKind::Lhu => 0b101,
-    }
-}
-
-fn funct3_of_store(kind: StoreKind) -> u32
-    ensures value { result ≡ store_row kind }
-    ensures range { result < 8 }
-{
-    match kind {
-        StoreKind::Sb => 0b000,
-        StoreKind::Sh => 0b001,
-        StoreKind::Sw => 0b010,
-    }
-}
-
-fn funct3_of_immediate(op: ImmediateOp) -> u32
-    ensures value { result ≡ immediate_row op }
-    ensures range { result < 8 }
-{
-    match op {
-        ImmediateOp::Addi => 0b000,
-        ImmediateOp::Slti => 0b010,
-        ImmediateOp::Sltiu => 0b011,
-        ImmediateOp::Xori => 0b100,
-        ImmediateOp::Ori => 0b110,
-        ImmediateOp::Andi => 0b111,
-    }
-}
-
-fn funct5_of_amo(op: AmoOp) -> u32
-    ensures value { result ≡ amo_row op }
-    ensures range { result < 32 }
-{
-    match op {
-        AmoOp::Swap => 0b00001,
-        AmoOp::Add => 0b00000,
-        AmoOp::Xor => 0b00100,
-        AmoOp::And => 0b01100,
-        AmoOp::Or => 0b01000,
-        AmoOp::Min => 0b10000,
-        AmoOp::Max => 0b10100,
-        AmoOp::Minu => 0b11000,
-        AmoOp::Maxu => 0b11100,
-    }
-}
-
-fn row_of_shift(op: ShiftOp) -> (u32, u32)
-    ensures row { result ≡ shift_row op }
-    ensures range { (result.0 < 8) × (result.1 < 128) }
-{
-    match op {
-        ShiftOp::Slli => (0b001, 0b0000000),
-        ShiftOp::Srli => (0b101, 0b0000000),
-        ShiftOp::Srai => (0b101, 0b0100000),
-    }
-}
-
-fn row_of_op(op: RegisterOp) -> (u32, u32)
-    ensures row { result ≡ op_row op }
-    ensures range { (result.0 < 8) × (result.1 < 128) }
-{
-    match op {
-        RegisterOp::Add => (0b000, 0b0000000),
-        RegisterOp::Sub => (0b000, 0b0100000),
-        RegisterOp::Sll => (0b001, 0b0000000),
-        RegisterOp::Slt => (0b010, 0b0000000),
-        RegisterOp::Sltu => (0b011, 0b0000000),
-        RegisterOp::Xor => (0b100, 0b0000000),
-        RegisterOp::Srl => (0b101, 0b0000000),
-        RegisterOp::Sra => (0b101, 0b0100000),
-        RegisterOp::Or => (0b110, 0b0000000),
-        RegisterOp::And => (0b111, 0b0000000),
-        RegisterOp::Mul => (0b000, 0b0000001),
-        RegisterOp::Mulh => (0b001, 0b0000001),
-        RegisterOp::Mulhsu => (0b010, 0b0000001),
-        RegisterOp::Mulhu => (0b011, 0b0000001),
-        RegisterOp::Div => (0b100, 0b0000001),
-        RegisterOp::Divu => (0b101, 0b0000001),
-        RegisterOp::Rem => (0b110, 0b0000001),
-        RegisterOp::Remu => (0b111, 0b0000001),
-    }
 }
 
 /// The word of a shift by an immediate amount.

@@ -14,6 +14,7 @@
 mod decoder;
 mod encoder;
 pub mod laws;
+mod rows;
 mod word;
 
 pub use decoder::decode;

@@ -5,11 +5,13 @@ use Rattle.std.proofs.lemmas.List.{get_or_append_left}
 use Rattle.std.proofs.Math.Seq.{get_or-append_seam}
 use Rattle.std.proofs.Common.{inl, inr, ◌++◌, [], slice_set, ◌⊎◌}
 use Rattle.std.proofs.lemmas.Bool.Decides.{nat_tests}
+use Rattle.std.proofs.lemmas.Result.{IfOk-weaker, on_err_weaker}
 use Rattle.std.specs.Int.{w8, w16, w32, to_le_bytes}
 use Rattle.rrv_model.specs.Memory.{Memory, Cell, can_write, can_execute, AlikeCells, IsMemory, executable, readable, writable, all_cells, bytes_at, stored, is_within, with_byte}
 use Rattle.rrv_model.specs.Step.{Hart, Outcome, Next, Called, Faulted, HartStep, executed, word_at, jumps, branches, is_reserved, stores, store_len, load_len, amo_value, sets, MayStore, StepOfWord, fetched, atomic}
 use Rattle.rrv_model.specs.Words.{plus}
 use Rattle.rrv_model.specs.declared.machine.Regs.{Regs}
+use Rattle.rrv_model.specs.declared.refusal.Memory.{Memory as Refusal}
 use Rattle.rrv_model.specs.State.{register, with_register}
 use Rattle.rrv_model.specs.Instructions.{Decodes}
 use Rattle.rrv_model.specs.declared.machine.FaultKind.{FaultKind}
@@ -27,7 +29,8 @@ use Rattle.rv_machine.specs.Outcome.{outcome_of, KeepsAtFault}
 use Rattle.rv_machine.specs.declared.run.RunEnd.{RunEnd}
 use Rattle.rv_machine.specs.declared.run.RunEnd.TheVariants as ends
 use Rattle.rv_machine.specs.HartRuns.{HartSteps, HartRunsAtMost}
-use Rattle.rv_machine.specs.Performs.{Performs, StoresWithoutFault}
+use Rattle.rv_machine.specs.Performs.{Does, Performs, StoresWithoutFault}
+use Rattle.rv_machine.proofs.HartSteps.{StepsOnce}
 use Rattle.rv_machine.specs.DecodedPages.{KeepsReadOnly, IsDecodedAt, AreDecoded, IsDecodedPage, AreDecodedPages}
 use Rattle.guest_pages.proofs.Cells.{one_of_all}
 use Rattle.guest_pages.proofs.WordStores.{allowed_after}
@@ -231,7 +234,17 @@ pub stores_may : (h : Hart) (decoded : Decoded) → h.regs.pc % 4 ≡ 0 → IsDe
 stores_may h decoded aligned are takes = word_stores h (instr_of decoded) aligned are.fetches are.decodes takes
 
 -- the instruction where a hart stands, which has come there by steps, in a page that was decoded before
-pub decoded_there : (n : ℕ) (first old : Hart) (page : DecodedPage) (decoded : Decoded) → IsDecodedPage first.memory page →
+-- so an instruction of a decoded page is one step
+page_step : (old new : Hart) (decoded : Decoded) (result : Result Stepped Refusal) (space later : SpaceValue) → old.regs.pc % 4 ≡ 0 →
+    IsDecodedAt old.memory old.regs.pc decoded → Does (instr_of decoded) result old new space later → StepsOnce result old new
+page_step old new decoded result space later aligned are does = record {
+  step = IfOk-weaker result _ _ (λ answer performs. performs_step old new decoded answer aligned are performs) does.performs;
+  fault = IfOk-weaker result _ _ (λ answer performs. performs_fault (instr_of decoded) answer old new performs) does.performs;
+  refused = does.refused;
+  takes = on_err_weaker result (λ stores. stores_may old decoded aligned are stores) does.takes;
+}
+
+decoded_there : (n : ℕ) (first old : Hart) (page : DecodedPage) (decoded : Decoded) → IsDecodedPage first.memory page →
     HartSteps n first old →
     old.regs.pc / 4096 ≡ page.number → old.regs.pc % 4 ≡ 0 → decoded ≡ slice_index_or page.instrs.items (old.regs.pc % 4096 / 4) decoded →
     IsDecodedAt old.memory old.regs.pc decoded
@@ -240,6 +253,14 @@ decoded_there n first old page decoded are steps place aligned is =
     let low : old.regs.pc % 4096 / 4 < 1024 = omega arith in
     subst (λ (a : ℕ). IsDecodedAt old.memory a decoded) here
     (page_kept first.memory old.memory page (steps_keep n first old steps) are (old.regs.pc % 4096 / 4) decoded low is)
+
+-- an instruction of a decoded page is done after some steps
+pub page_once : (n : ℕ) (first old new : Hart) (page : DecodedPage) (decoded : Decoded) {result : Result Stepped Refusal}
+    {space later : SpaceValue} → IsDecodedPage first.memory page → HartSteps n first old → old.regs.pc / 4096 ≡ page.number →
+    old.regs.pc % 4 ≡ 0 → decoded ≡ slice_index_or page.instrs.items (old.regs.pc % 4096 / 4) decoded →
+    Does (instr_of decoded) result old new space later → StepsOnce result old new
+page_once n first old new page decoded {result = result} {space = space} {later = later} are steps place aligned is does =
+    page_step old new decoded result space later aligned (decoded_there n first old page decoded are steps place aligned is) does
 
 -- whatever ran, it left what no store may change
 pub run_keeps : (end : RunEnd) (limit count : ℕ) (old new : Hart) → HartRunsAtMost end limit count old new →

@@ -13,7 +13,7 @@
 //!   executed and that no store may change. What maps, protects, unmaps or puts in pages lets their decoded pages go; a `fill`
 //!   of bytes that no store may change lets all go.
 //!
-//! An instruction is taken from a decoded page (`run_page`) or is fetched and decoded where it stands (`step`). Both go on in
+//! An instruction is taken from a decoded page (`run_decoded`) or is fetched and decoded where it stands (`step`). Both go on in
 //! `perform`, and it in `compute`, `memory` and `atomic`.
 #![tactic(auto)]
 
@@ -28,7 +28,6 @@ mod hart;
 mod memory;
 mod page_decoding;
 mod page_slots;
-mod perform;
 mod registers;
 mod run;
 mod values;

@@ -1,17 +1,17 @@
 //! Several instructions of a hart.
 
-ghost use Rattle.std.specs.Prelude.{◌≡◌, ◌≤◌, ◌/◌, ◌%◌};
+ghost use Rattle.std.specs.Prelude.{◌≡◌, ◌+◌, ◌<◌, ◌≤◌, ◌/◌, ◌%◌, ◌^◌};
 ghost use Rattle.rrv_model.specs.State.{AreRegs};
 ghost use Rattle.guest_pages.specs.Space.{memory_of};
 ghost use Rattle.rv_machine.specs.Outcome.{hart};
-ghost use Rattle.rv_machine.specs.HartRuns.{Runs, RunsAtMost};
+ghost use Rattle.rv_machine.specs.HartRuns.{Runs, RunsAtMost, stop};
 ghost use Rattle.rv_machine.specs.DecodedPages.{IsDecodedPage};
 
 use crate::Stepped;
 use crate::code_space::CodeSpace;
+use crate::decoded::{FROM_PAGE, perform};
 use crate::decoded_pages::DecodedPage;
 use crate::hart::step;
-use crate::perform::{FROM_PAGE, perform};
 use guest_pages::Space;
 use rrv_model::machine::{FaultKind, Regs, Reservation};
 use rrv_model::refusal::Memory;
@@ -39,59 +39,26 @@ pub struct Run {
     pub end: RunEnd,
 }
 
-/// Up to limit instructions, as long as they stand in a decoded page.
+/// What a run comes to that has done so many instructions and then this one; None where it goes on.
 #[inline(always)]
-fn run_page(
-    regs: &mut Regs,
-    space: &mut Space,
-    reservation: &mut Reservation,
-    page: &DecodedPage,
-    limit: u32,
-) -> Run
-    requires regs { AreRegs regs.old }
-    requires decoded { IsDecodedPage (memory_of space.old) page.now }
-    requires limit { 1 ≤ limit }
-    requires place { regs.old.pc / 4096 ≡ page.now.number }
-    requires aligned { regs.old.pc % 4 ≡ 0 }
-    ensures { RunsAtMost limit result (hart regs.old (memory_of space.old) reservation.old)
-        (hart regs.new (memory_of space.new) reservation.new) space.old space.new }
+fn stopped(count: u32, stepped: Result<Stepped, Memory>) -> Option<Run>
+    requires { count + 1 < 2 ^ 32 }
+    ensures { result ≡ stop count stepped }
 {
-    let number = page.number;
-    let instrs = page.instrs.as_slice();
-    for count in 0..limit {
-        let pc = regs.pc;
-        if pc / 4096 != number {
-            return Run {
-                count,
-                end: RunEnd::Limit,
-            };
-        }
-        let decoded = &instrs[(pc % 4096 / 4) as usize];
-        match perform::<FROM_PAGE>(regs, space, reservation, decoded) {
-            Ok(Stepped::Next) => {}
-            Ok(Stepped::Call) => {
-                return Run {
-                    count: count + 1,
-                    end: RunEnd::Call,
-                };
-            }
-            Ok(Stepped::Fault(kind)) => {
-                return Run {
-                    count: count + 1,
-                    end: RunEnd::Fault(kind),
-                };
-            }
-            Err(Memory) => {
-                return Run {
-                    count,
-                    end: RunEnd::Memory,
-                };
-            }
-        }
-    }
-    Run {
-        count: limit,
-        end: RunEnd::Limit,
+    match stepped {
+        Ok(Stepped::Next) => None,
+        Ok(Stepped::Call) => Some(Run {
+            count: count + 1,
+            end: RunEnd::Call,
+        }),
+        Ok(Stepped::Fault(kind)) => Some(Run {
+            count: count + 1,
+            end: RunEnd::Fault(kind),
+        }),
+        Err(Memory) => Some(Run {
+            count,
+            end: RunEnd::Memory,
+        }),
     }
 }
 
@@ -103,26 +70,9 @@ fn run_steps(regs: &mut Regs, space: &mut Space, reservation: &mut Reservation, 
         (hart regs.new (memory_of space.new) reservation.new) space.old space.new }
 {
     for count in 0..limit {
-        match step(regs, space, reservation) {
-            Ok(Stepped::Next) => {}
-            Ok(Stepped::Call) => {
-                return Run {
-                    count: count + 1,
-                    end: RunEnd::Call,
-                };
-            }
-            Ok(Stepped::Fault(kind)) => {
-                return Run {
-                    count: count + 1,
-                    end: RunEnd::Fault(kind),
-                };
-            }
-            Err(Memory) => {
-                return Run {
-                    count,
-                    end: RunEnd::Memory,
-                };
-            }
+        match stopped(count, step(regs, space, reservation)) {
+            None => {}
+            Some(run) => return run,
         }
     }
     Run {
@@ -146,7 +96,7 @@ fn run_undecoded(
     run_steps(regs, space, reservation, limit.min(UNDECODED_STEPS))
 }
 
-/// Some instructions, at least one, where a page is decoded.
+/// Some instructions, at least one, where a page is decoded: as long as they stand in it, or undecoded if the first does not.
 #[inline(always)]
 fn run_decoded(
     regs: &mut Regs,
@@ -161,10 +111,32 @@ fn run_decoded(
     ensures { RunsAtMost limit result (hart regs.old (memory_of space.old) reservation.old)
         (hart regs.new (memory_of space.new) reservation.new) space.old space.new }
 {
-    if regs.pc / 4096 != page.number || regs.pc % 4 != 0 {
+    let number = page.number;
+    if regs.pc / 4096 != number || regs.pc % 4 != 0 {
         return run_undecoded(regs, space, reservation, limit);
     }
-    run_page(regs, space, reservation, page, limit)
+    let instrs = page.instrs.as_slice();
+    for count in 0..limit {
+        let pc = regs.pc;
+        if pc / 4096 != number {
+            return Run {
+                count,
+                end: RunEnd::Limit,
+            };
+        }
+        let decoded = &instrs[(pc % 4096 / 4) as usize];
+        match stopped(
+            count,
+            perform::<FROM_PAGE>(regs, space, reservation, decoded),
+        ) {
+            None => {}
+            Some(ended) => return ended,
+        }
+    }
+    Run {
+        count: limit,
+        end: RunEnd::Limit,
+    }
 }
 
 impl CodeSpace {

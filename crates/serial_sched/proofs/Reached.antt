@@ -1,14 +1,14 @@
 -- How far the thread of a frame runs, by how the frame ended.
-use Rattle.std.proofs.Common.{◌≡◌, ℕ, ◌≤◌, Bool, true, false, [], Option, Some, None, refl, sym, ◌∙◌, ap}
-use Rattle.std.specs.Prelude.{MatchOption}
-use Rattle.std.proofs.lemmas.Bool.{false≢true}
+use Rattle.std.proofs.Common.{◌≡◌, ℕ, ◌≤◌, Bool, true, false, cond, Option, Some, None, refl, sym, ◌∙◌, ap, subst}
+use Rattle.std.specs.Prelude.{MatchOption, if◌then◌else◌}
+use Rattle.rrv_model.specs.declared.machine.FaultKind.{FaultKind}
 use Rattle.rrv_model.specs.declared.record.CallRecord.{CallRecord}
 use Rattle.rrv_model.specs.declared.record.End.{End}
 use Rattle.rrv_model.specs.declared.record.End.TheVariants as ends
 use Rattle.rrv_model.specs.State.{State, thread_at, IsRunning}
+use Rattle.rrv_model.specs.Ends.{call_in, fault_in, has_thread, is_preempt}
 use Rattle.rrv_model.specs.FrameStep.{FrameStepBy}
-use Rattle.rrv_model.specs.Output.{call_in, has_thread, is_preempt}
-use Rattle.rrv_model.proofs.Ends.{call_is, no_thread}
+use Rattle.rrv_model.proofs.Ends.{call_is, no_thread, ran_end, ran_end_is}
 use Rattle.rv_machine.specs.declared.run.RunEnd.{RunEnd}
 use Rattle.rv_machine.specs.declared.run.RunEnd.TheVariants as run_ends
 use Rattle.serial_sched.specs.Follows.{Reaches}
@@ -16,26 +16,38 @@ use Rattle.serial_sched.proofs.OneStep.{running_at}
 
 -- ---- the end of a frame's run
 
--- how its thread's run ends; a frame of no thread has the end that none reaches
+-- how a thread's run ends, by what its frame's end says
+abbrev run_of : Option CallRecord → Option FaultKind → RunEnd
+run_of (Some r) fault = run_ends.Call
+run_of None (Some kind) = run_ends.Fault kind
+run_of None None = run_ends.Limit
+
+-- so of an end that has a thread; a frame of no thread has the end that none reaches
 abbrev pub run_end : End → RunEnd
-run_end ends.Preempt = run_ends.Limit
-run_end (ends.Call r) = run_ends.Call
-run_end (ends.Fault kind) = run_ends.Fault kind
-run_end ends.Stuck = run_ends.Memory
+run_end end = if has_thread end then run_of (call_in end) (fault_in end) else run_ends.Memory
+
+runs : (end : End) → has_thread end ≡ true → run_end end ≡ run_of (call_in end) (fault_in end)
+runs end some = rw some refl
 
 pub reaches : (end : End) (old : State) (tid count : ℕ) (new : State) → has_thread end ≡ true → FrameStepBy end old tid count new →
     (1 ≤ count) × (last : State) × Reaches (run_end end) count tid old last
-reaches ends.Preempt old tid count new some p = (p.some, p.last, p.steps)
-reaches (ends.Call r) old tid count new some p =
-    (p.some, p.called, record { some = p.some; before = p.before; steps = p.steps; calls = p.calls })
-reaches (ends.Fault kind) old tid count new some p = (p.some, p.before, record { some = p.some; steps = p.steps; faults = p.faults })
-reaches ends.Stuck old tid count new some p = absurd (false≢true some)
+reaches end old tid count new some p =
+    subst (λ (x : RunEnd). (1 ≤ count) × (last : State) × Reaches x count tid old last) (sym (runs end some))
+    (by (call_in end) (fault_in end) (subst (λ (x : End). FrameStepBy x old tid count new) (sym (ran_end_is end some)) p)) where
+      by : (call : Option CallRecord) (fault : Option FaultKind) → FrameStepBy (ran_end call fault) old tid count new →
+          (1 ≤ count) × (last : State) × Reaches (run_of call fault) count tid old last
+      by (Some r) fault p = (p.some, p.called, record { some = p.some; before = p.before; steps = p.steps; calls = p.calls })
+      by None (Some kind) p = (p.some, p.before, record { some = p.some; steps = p.steps; faults = p.faults })
+      by None None p = (p.some, p.last, p.steps)
 
 pub limit_is_preempt : (end : End) → run_end end ≡ run_ends.Limit → is_preempt end ≡ true
-limit_is_preempt ends.Preempt e = refl
-limit_is_preempt (ends.Call r) e = absurd cc
-limit_is_preempt (ends.Fault kind) e = absurd cc
-limit_is_preempt ends.Stuck e = absurd cc
+limit_is_preempt end limit = by (has_thread end) (call_in end) (fault_in end) (ran_end_is end) limit where
+  by : (thread : Bool) (call : Option CallRecord) (fault : Option FaultKind) → (thread ≡ true → ran_end call fault ≡ end) →
+      cond thread (run_of call fault) run_ends.Memory ≡ run_ends.Limit → is_preempt end ≡ true
+  by false call fault is e = absurd cc
+  by true (Some r) fault is e = absurd cc
+  by true None (Some kind) is e = absurd cc
+  by true None None is e = sym (ap is_preempt (is refl))
 
 -- ---- whether a frame has a thread
 
@@ -63,37 +75,34 @@ has_none end old tid count new rests p = by (has_thread end) refl where
 
 -- ---- what the end of a run tells of a frame's
 
--- the end of a frame whose run ended so, and whose call has this record if it ends in one
-abbrev told : RunEnd → CallRecord → End
-told run_ends.Limit r = ends.Preempt
-told run_ends.Call r = ends.Call r
-told (run_ends.Fault kind) r = ends.Fault kind
-told run_ends.Memory r = ends.Stuck
+-- the same end, but for what a call was answered
+abbrev IsAlike : Option CallRecord → End → End → Type 0
+IsAlike call end other = MatchOption call (other ≡ end) (λ _. (r : CallRecord) × (other ≡ ends.Call r))
 
-told_again : (end : End) → (r : CallRecord) × (told (run_end end) r ≡ end)
-told_again ends.Preempt = (record { result = 0; written = [] }, refl)
-told_again (ends.Call r) = (r, refl)
-told_again (ends.Fault kind) = (record { result = 0; written = [] }, refl)
-told_again ends.Stuck = (record { result = 0; written = [] }, refl)
+alike : (call call' : Option CallRecord) (fault fault' : Option FaultKind) → run_of call fault ≡ run_of call' fault' →
+    IsAlike call (ran_end call fault) (ran_end call' fault')
+alike (Some q) (Some r) fault fault' e = (r, refl)
+alike (Some q) None fault (Some kind) e = absurd cc
+alike (Some q) None fault None e = absurd cc
+alike None (Some r) (Some kind) fault' e = absurd cc
+alike None (Some r) None fault' e = absurd cc
+alike None None (Some kind) (Some kind') e = let same : kind' ≡ kind = cc in ap ends.Fault same
+alike None None (Some kind) None e = absurd cc
+alike None None None (Some kind) e = absurd cc
+alike None None None None e = refl
 
--- if it ends in none, it is that with any record
-told_any : (x : RunEnd) (q r : CallRecord) → call_in (told x q) ≡ None → told x r ≡ told x q
-told_any run_ends.Limit q r none = refl
-told_any run_ends.Call q r none = absurd cc
-told_any (run_ends.Fault kind) q r none = refl
-told_any run_ends.Memory q r none = refl
+-- frames of a thread whose runs end alike end alike
+pub same_run_end : (end other : End) → has_thread end ≡ true → has_thread other ≡ true → run_end end ≡ run_end other →
+    IsAlike (call_in end) end other
+same_run_end end other some some' same =
+    let e : run_of (call_in end) (fault_in end) ≡ run_of (call_in other) (fault_in other) = sym (runs end some) ∙ same ∙ runs other some' in
+    subst (λ (x : End). IsAlike (call_in end) x other) (ran_end_is end some)
+    (subst (λ (x : End). IsAlike (call_in end) (ran_end (call_in end) (fault_in end)) x) (ran_end_is other some')
+    (alike (call_in end) (call_in other) (fault_in end) (fault_in other) e))
 
--- frames whose runs end alike end alike, but for what their calls were answered
-pub same_run_end : (end other : End) → run_end end ≡ run_end other →
-    MatchOption (call_in end) (other ≡ end) (λ _. (r : CallRecord) × (other ≡ ends.Call r))
-same_run_end end other same = by (call_in end) refl where
-  by : (o : Option CallRecord) → call_in end ≡ o → MatchOption o (other ≡ end) (λ _. (r : CallRecord) × (other ≡ ends.Call r))
-  by None none =
-      let own = told_again end in
-      let its = told_again other in
-      let quiet : call_in (told (run_end end) own.0) ≡ None = ap call_in own.1 ∙ none in
-      sym its.1 ∙ ap (λ (x : RunEnd). told x its.0) (sym same) ∙ told_any (run_end end) own.0 its.0 quiet ∙ own.1
-  by (Some q) called =
-      let its = told_again other in
-      let call : run_end end ≡ run_ends.Call = ap run_end (call_is end q called) in
-      (its.0, sym its.1 ∙ ap (λ (x : RunEnd). told x its.0) (sym same ∙ call))
+-- and so do frames of one end
+pub same_end : (end other : End) → other ≡ end → IsAlike (call_in end) end other
+same_end end other same = by (call_in end) refl where
+  by : (call : Option CallRecord) → call_in end ≡ call → IsAlike call end other
+  by None none = same
+  by (Some r) called = (r, same ∙ call_is end r called)

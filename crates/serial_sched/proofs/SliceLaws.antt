@@ -16,7 +16,8 @@ use Rattle.rrv_model.specs.Step.{ThreadMayTakeMemory}
 use Rattle.rrv_model.specs.CallRows.{change_thread, syscall_of}
 use Rattle.rrv_model.specs.Calls.{Answer, Calls}
 use Rattle.rrv_model.specs.FrameStep.{EndsInCall, FrameStep, Steps, closed, closed_at_end}
-use Rattle.rrv_model.specs.Output.{CallPutsAt, Chunk, call_in, put_out_by, puts}
+use Rattle.rrv_model.specs.Ends.{call_in}
+use Rattle.rrv_model.specs.Output.{CallPutsAt, Chunk, put_out_by, puts}
 use Rattle.rrv_model.specs.RecordText.{HasCallText, HasFrameText, HasTidAndCount}
 use Rattle.guest_calls.specs.Guest.{GuestValue, chunks_of, counted, state_of}
 use Rattle.guest_calls.specs.Snapshots.{guest_snapshots}
@@ -154,7 +155,7 @@ module _ {O : Type 0} (gives : Gives O) (old new : GuestValue) (choice : Choice)
       let most = can.quantum.1 in
       quiet_slice gives old new choice before after (preempt choice count) refl
       (record { runs = can.runs; limit = omega arith; goes = record { some = some; last = last; steps = steps; new_is = closes } })
-      (counted_text count some within) (refl, whole) counts
+      (counted_text count some within, tt) (refl, whole) counts
 
   -- the whole quantum
   pub limit_slice : (f : Frame) (count : ℕ) (last : State) → f ≡ preempt choice count → count ≡ choice.quantum →
@@ -225,7 +226,7 @@ module _ {O : Type 0} (gives : Gives O) (old new : GuestValue) (choice : Choice)
         limit = omega arith;
         goes = record { some = p.some; before = last; steps = p.steps; faults = p.faults; new_is = closes };
       })
-      (counted_text count p.some p.within) (refl, p.within) counts
+      (counted_text count p.some p.within, tt) (refl, p.within) counts
 
   pub call_slice : (f : Frame) (count : ℕ) (called after_call : State) (answer : Answer) (r : CallRecord) →
       f ≡ record { tid = choice.tid; count = count; end = ends.Call r } → RunsToCall choice.quantum choice.tid count (state_of old) called →

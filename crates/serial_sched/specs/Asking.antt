@@ -4,7 +4,7 @@ use Rattle.rrv_model.specs.declared.record.CallRecord.{CallRecord}
 use Rattle.rrv_model.specs.declared.record.End.{End}
 use Rattle.rrv_model.specs.State.{State, thread_at}
 use Rattle.rrv_model.specs.Calls.{Answer}
-use Rattle.rrv_model.specs.Output.{call_in}
+use Rattle.rrv_model.specs.Ends.{call_in}
 use Rattle.guest_calls.specs.Asking.{Question, CallAsks, CallIsAnswered}
 use Rattle.serial_sched.specs.Follows.{ReachesCall}
 

@@ -7,7 +7,7 @@ use Rattle.rrv_model.specs.declared.record.Frame.{Frame}
 use Rattle.rrv_model.specs.State.{State, thread_at}
 use Rattle.rrv_model.specs.Step.{CallsFrom, FaultsFrom, ThreadMayStore}
 use Rattle.rrv_model.specs.FrameStep.{FrameStepBy, Steps}
-use Rattle.rrv_model.specs.Output.{call_in, has_thread}
+use Rattle.rrv_model.specs.Ends.{call_in, has_thread}
 use Rattle.rv_machine.specs.declared.run.RunEnd.{RunEnd}
 use Rattle.rv_machine.specs.declared.run.RunEnd.TheVariants.{Limit, Call, Fault, Memory}
 use Rattle.guest_calls.specs.Growth.{CallMayGrow}

@@ -2,7 +2,7 @@
 use Rattle.std.specs.Prelude.{ℕ, if◌then◌else◌, List, [], ◌∷◌}
 use Rattle.rrv_model.specs.declared.record.End.{End}
 use Rattle.rrv_model.specs.declared.record.Frame.{Frame}
-use Rattle.rrv_model.specs.Output.{has_thread}
+use Rattle.rrv_model.specs.Ends.{has_thread}
 
 -- the thread of a slice that ended so; where none ran, the last is the one before
 abbrev pub thread_by : End → ℕ → ℕ → ℕ

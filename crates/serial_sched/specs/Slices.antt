@@ -8,7 +8,8 @@ use Rattle.rrv_model.specs.declared.record.Frame.{Frame}
 use Rattle.rrv_model.specs.State.{State, thread_at, IsRunning}
 use Rattle.rrv_model.specs.Step.{CallsFrom, ThreadMayStore, ThreadMayTakeMemory}
 use Rattle.rrv_model.specs.FrameStep.{Steps, FrameStep}
-use Rattle.rrv_model.specs.Output.{Chunk, FramePuts, call_in, has_thread, is_preempt}
+use Rattle.rrv_model.specs.Ends.{call_in, has_thread, is_preempt}
+use Rattle.rrv_model.specs.Output.{Chunk, FramePuts}
 use Rattle.rrv_model.specs.RecordText.{HasFrameText}
 use Rattle.guest_calls.specs.declared.put.Put.{Put}
 use Rattle.guest_calls.specs.Growth.{CallMayGrow}

@@ -174,7 +174,8 @@ impl Chooser for Listed {
     }
 }
 
-fn can_choose(choice: Choice, runnable: &[u32]) -> bool
+/// Tests whether a choice fits these runnable threads: its thread is one of them, and its quantum within the limits.
+pub fn can_choose(choice: Choice, runnable: &[u32]) -> bool
     ensures { IsTrue result ↔ CanChoose runnable.now choice }
 {
     runnable.contains(&choice.tid) && MIN_QUANTUM <= choice.quantum && choice.quantum <= MAX_QUANTUM

@@ -1,7 +1,8 @@
 //! Frames that are followed from a state on.
 
-ghost use Rattle.std.specs.Prelude.{◌≡◌, ◌≤◌, ◌⊎◌, None, IfOk, OnOk, IsErrOf};
+ghost use Rattle.std.specs.Prelude.{◌≡◌, ◌≤◌, ◌⊎◌, false, None, IfOk, OnOk, IsErrOf};
 ghost use Rattle.rrv_model.specs.State.{State};
+ghost use Rattle.rrv_model.specs.Ends.{has_thread};
 ghost use Rattle.rrv_model.specs.FrameStep.{FrameStep, Steps};
 ghost use Rattle.rrv_model.specs.Output.{CallPutsAt};
 ghost use Rattle.rv_machine.specs.declared.run.RunEnd.{RunEnd};
@@ -54,7 +55,7 @@ fn follow_to_end(alloc: Global, guest: &mut Guest, frame: &Frame) -> Result<(), 
         End::Preempt => follow_preempt(guest, frame.tid, frame.count),
         End::Call(told) => follow_call(alloc, guest, frame.tid, frame.count, told),
         End::Fault(kind) => follow_fault(guest, frame.tid, frame.count, *kind),
-        End::Stuck => follow_stuck(guest, frame.tid, frame.count),
+        end => follow_threadless(guest, end, frame.tid, frame.count),
     }
 }
 
@@ -88,8 +89,10 @@ fn follow_preempt(guest: &mut Guest, tid: u32, count: u32) -> Result<(), FollowF
     Ok(())
 }
 
-fn follow_stuck(guest: &mut Guest, tid: u32, count: u32) -> Result<(), FollowFault>
-    ensures follows { Follows End.Stuck (state_of guest.old) tid count result (state_of guest.new) }
+/// Follows a frame of no thread, which ends a guest of which no thread runs.
+fn follow_threadless(guest: &mut Guest, end: &End, tid: u32, count: u32) -> Result<(), FollowFault>
+    requires { has_thread end.now ≡ false }
+    ensures follows { Follows end.now (state_of guest.old) tid count result (state_of guest.new) }
     ensures ran { OnOk result (guest.new.ran ≡ counted guest.old.ran count) }
     ensures snapshots { guest_snapshots guest.new ≡ guest_snapshots guest.old }
     ensures put { OnOk result (guest.new.put ≡ guest.old.put) }
@@ -99,7 +102,7 @@ fn follow_stuck(guest: &mut Guest, tid: u32, count: u32) -> Result<(), FollowFau
     if tid != 0 || count != 0 || guest.has_running() {
         return Err(FollowFault::GoesNowhere);
     }
-    guest.close_slice(Some(GuestEnd::Stuck));
+    guest.close_slice(end.guest_end());
     Ok(())
 }
 

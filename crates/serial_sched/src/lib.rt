@@ -20,7 +20,7 @@ mod following;
 mod recorded;
 mod slices;
 
-pub use chooser::{Chooser, Listed, RoundRobin};
+pub use chooser::{Chooser, Listed, RoundRobin, can_choose};
 pub use fault::{FollowFault, SliceFault};
 pub use following::{follow, steps};
 pub use slices::slice;

@@ -157,6 +157,11 @@ module _ {C : Type 0} (chooses : Choosing C) where
         ends = refl;
       }
 
+  makes_weaker : (o a : GuestRecorder) (c : C) (E F : C → Type 0) → ((last : C) → E last → F last) → MakesChosen chooses o c a E →
+      MakesChosen chooses o c a F
+  makes_weaker o a c E F weaker p =
+      record { frames = p.frames; made_are = p.made_are; last = p.last; chosen = p.chosen; ran = p.ran; ends = weaker p.last p.ends }
+
   -- behind a turn that isn't the last the chooser is the one that the frames lead to
   pub goes_round : (turn : Step) (new : C) (s : State) (last : C) → turn ≢ turns.Over → TurnLeaves chooses turn new s last → new ≡ last
   goes_round turns.Over new s last other h = absurd (other refl)
@@ -166,15 +171,9 @@ module _ {C : Type 0} (chooses : Choosing C) where
 
   pub makes_round : (a b : GuestRecorder) (c c' : C) (turn : Step) → turn ≢ turns.Over →
       MakesChosen chooses a c b (TurnLeaves chooses turn c' (state_of b.guest)) → MakesChosen chooses a c b (λ last. c' ≡ last)
-  makes_round a b c c' turn other p =
-      record {
-        frames = p.frames;
-        made_are = p.made_are;
-        last = p.last;
-        chosen = p.chosen;
-        ran = p.ran;
-        ends = goes_round turn c' (state_of b.guest) p.last other p.ends;
-      }
+  makes_round a b c c' turn other =
+      makes_weaker a b c (TurnLeaves chooses turn c' (state_of b.guest)) (λ last. c' ≡ last)
+      (λ last. goes_round turn c' (state_of b.guest) last other)
 
   pub makes_over : (a b : GuestRecorder) (c c' : C) (turn : Step) → turn ≡ turns.Over →
       MakesChosen chooses a c b (TurnLeaves chooses turn c' (state_of b.guest))
@@ -182,11 +181,6 @@ module _ {C : Type 0} (chooses : Choosing C) where
   makes_over a b c c' turn over p = subst (λ (t : Step). MakesChosen chooses a c b (TurnLeaves chooses t c' (state_of b.guest))) over p
 
   -- ---- what is left of the chooser, by what was met
-
-  makes_weaker : (o a : GuestRecorder) (c : C) (E F : C → Type 0) → ((last : C) → E last → F last) → MakesChosen chooses o c a E →
-      MakesChosen chooses o c a F
-  makes_weaker o a c E F weaker p =
-      record { frames = p.frames; made_are = p.made_are; last = p.last; chosen = p.chosen; ran = p.ran; ends = weaker p.last p.ends }
 
   leaves_same : (e : WorkFault) (new : C) (s : State) (last : C) → new ≡ last → WorkLeaves chooses (Err e) new s last
   leaves_same work_faults.Halted new s last same = inl same

@@ -24,7 +24,7 @@ use Rattle.session.specs.declared.task.Task.{Task}
 use Rattle.session.specs.declared.task.Worked.{Worked}
 use Rattle.session.specs.Chosen.{HasChosen, HasChosenOn, LeavesChooser}
 use Rattle.session.specs.Pairs.{ArePairs}
-use Rattle.commit_core.proofs.Runs.{output_further}
+use Rattle.commit_core.proofs.Runs.{output_longer}
 use Rattle.session.proofs.Chosen.{chosen_again, first_chosen, first_on, front_on, on_again}
 use Rattle.session.specs.Sessions.{AreLeft, AreRecorded, AreReported, HasMet, HasNumber, HasRecorded, HaveMet, IsRecordingOrNone, IsReported, report_of, reports_of}
 use Rattle.session.specs.Tasks.{all_met, faults_met, jobs_of, jobs_worked, met_once, once, seats_worked, states_worked}
@@ -85,20 +85,6 @@ take_take (suc m) zero xs l = absurd (omega arith)
 take_take (suc m) (suc n) [] l = refl
 take_take (suc m) (suc n) (x ∷ xs) l = ap (λ (k : List Record). x ∷ k) (take_take m n xs (omega arith))
 
-take_less : (m n : ℕ) (xs : List Record) → m ≤ n → (more : List Record) × (take n xs ≡ take m xs ++ more)
-take_less zero n xs l = (take n xs, refl)
-take_less (suc m) zero xs l = absurd (omega arith)
-take_less (suc m) (suc n) [] l = ([], refl)
-take_less (suc m) (suc n) (x ∷ xs) l = let more = take_less m n xs (omega arith) in (more.0, ap (λ (k : List Record). x ∷ k) more.1)
-
-more_put : (out : List (ℕ × ℕ)) (m n : ℕ) (records : List Record) → IsRecording records → m ≤ n → IsOutput out (take m records) →
-    IsOutput out (take n records)
-more_put out m n records is l put =
-    let more = take_less m n records l in
-    let whole : (take m records ++ more.0) ++ drop n records ≡ records =
-    ap (λ (k : List Record). k ++ drop n records) (sym more.1) ∙ take-append-drop n records in
-    subst (IsOutput out) (sym more.1) (output_further out (take m records) more.0 (drop n records) (subst IsRecording (sym whole) is) put)
-
 -- ---- one guest
 
 first_taken : (opening : Record) (c : ℕ) (sent : List Record) → IsFirst opening sent → IsFirst opening (take (suc c) sent)
@@ -111,7 +97,7 @@ put_again first guest seen c opening sent put begun le output = output_again fir
   | inl none ↦
       subst (λ l. IsOutput put l) (ap (λ l. take seen l) none ∙ take_nothing seen ∙ sym (take_nothing c) ∙ sym (ap (λ l. take c l) none))
       output
-  | inr b ↦ more_put put seen c sent b.1.recorded.recording le output
+  | inr b ↦ output_longer put seen c sent b.1.recorded.recording le output
 ])
 
 module _ {C O S : Type 0} where

@@ -1,6 +1,6 @@
 -- A session, from what its threads gave to what it gives.
 use Rattle.std.proofs.Common.{◌≡◌, inl, inr, ℕ, zero, suc, ◌+◌, ◌≤◌, List, [], ◌∷◌, ◌++◌, append_assoc, drop, max, length, take, refl, sym, ap, ◌∙◌, subst, arith, false}
-use Rattle.std.proofs.lemmas.List.{append-nil, take-append-drop}
+use Rattle.std.proofs.lemmas.List.{append-nil, length-map, take-append-drop}
 use Rattle.std.specs.Prelude.{◌⊎◌, Option, None, Some, Result, Ok, Err, OnOk, slice_get}
 use Rattle.rrv_model.specs.declared.record.Record.{Record}
 use Rattle.store_model.specs.CrashModel.{Leaves}
@@ -38,7 +38,7 @@ use Rattle.session.proofs.Chosen.{none_chosen, none_on}
 use Rattle.session.proofs.Gained.{leaves_kept}
 use Rattle.session.proofs.Recorded.{AreFirstSent, IsEnded, all_left, all_recorded, all_reported, ended_at, first_sent, first_with, have_met, mets_are, mets_of}
 use Rattle.session.proofs.Pairs.{pairs_length}
-use Rattle.session.proofs.Tasks.{all_of, jobs_length, worked_length}
+use Rattle.session.proofs.Tasks.{all_of}
 
 module _ {D : Type 0} (device : Device D) where
   -- what a new group's flusher stands in
@@ -224,7 +224,7 @@ module _ {C O S D : Type 0} (choosers : Choosers C) (sinks : Sinks S) (device : 
       let P = IsPlaced (base f.first_guest) f.group.guests in
       let placed = AllByRecursion-front P all (drop n f.waiting) (subst (λ (l : List Record). AllByRecursion P l) (sym whole) j.placed) in
       let guests : f.group.guests ≡ count =
-      sym j.count ∙ worked_length done ∙ sym (pairs_length (HasWorked choosers sinks) tasks done j.works) ∙ given in
+      sym j.count ∙ length-map done (λ worked. worked.seat) ∙ sym (pairs_length (HasWorked choosers sinks) tasks done j.works) ∙ given in
       elim (first_is device group old f log log' flushed j.new j.flusher) [
         | inl first ↦ subst (λ (x : Option ℕ × ℕ). AllByRecursion (IsPlaced (base x.0) x.1) all) (λ i. (first i, guests i)) placed
         | inr none ↦ subst (λ (l : List Record). AllByRecursion (IsPlaced log.next_guest count) l) (sym (λ i. none.0 i ++ none.1 i)) tt
@@ -237,7 +237,7 @@ module _ {C O S D : Type 0} (choosers : Choosers C) (sinks : Sinks S) (device : 
     batch = hand_of j;
     gained = session_gained device group old f log log' flushed j.new j.flusher;
     next = next_is device group old f log log' flushed j.new j.flusher;
-    only = only_these (length jobs) j (sym (jobs_length tasks) ∙ ap length given);
+    only = only_these (length jobs) j (sym (length-map tasks (λ task. task.job)) ∙ ap length given);
     recorded = of_jobs f.committed (λ k r at. first_sent f log.next_guest (0 + k) r (ends j k r at));
     in_hand = of_jobs (f.committed ++ hand_of j) (first_in_hand j);
   }

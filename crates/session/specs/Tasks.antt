@@ -1,5 +1,5 @@
 -- Lists of tasks, and of what came of them.
-use Rattle.std.specs.Prelude.{List, [], ◌∷◌, ◌++◌, Option, Some, None}
+use Rattle.std.specs.Prelude.{List, [], ◌∷◌, ◌++◌, map, Option, Some, None}
 use Rattle.guest_calls.specs.Guest.{GuestValue}
 use Rattle.commit_group.specs.Seats.{RecorderValue}
 use Rattle.session.specs.declared.fault.SessionFault.{SessionFault}
@@ -8,20 +8,16 @@ use Rattle.session.specs.declared.task.Task.{Task}
 use Rattle.session.specs.declared.task.Worked.{Worked}
 
 abbrev pub seats_of : {C O S : Type 0} → List (Task C O S) → List RecorderValue
-seats_of [] = []
-seats_of (task ∷ tasks) = task.seat ∷ seats_of tasks
+seats_of tasks = map (λ task. task.seat) tasks
 
 abbrev pub jobs_of : {C O S : Type 0} → List (Task C O S) → List (Job C O S)
-jobs_of [] = []
-jobs_of (task ∷ tasks) = task.job ∷ jobs_of tasks
+jobs_of tasks = map (λ task. task.job) tasks
 
 abbrev pub seats_worked : {C O S : Type 0} → List (Worked C O S) → List RecorderValue
-seats_worked [] = []
-seats_worked (worked ∷ rest) = worked.seat ∷ seats_worked rest
+seats_worked done = map (λ worked. worked.seat) done
 
 abbrev pub jobs_worked : {C O S : Type 0} → List (Worked C O S) → List (Job C O S)
-jobs_worked [] = []
-jobs_worked (worked ∷ rest) = worked.job ∷ jobs_worked rest
+jobs_worked done = map (λ worked. worked.job) done
 
 abbrev pub once : Option GuestValue → List GuestValue
 once None = []

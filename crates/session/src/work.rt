@@ -133,8 +133,8 @@ fn leave<C: Chooser + Drop, O: Outside + Drop, S: Sink + Drop>(
     }
 }
 
-/// Records the job's guest to its end, and leaves.
-fn record_and_leave<C: Chooser + Drop, O: Outside + Drop, S: Sink + Drop, G: Gate, R: Wait>(
+/// Records the job's guest to its end, leaves, and wakes the flusher.
+pub(crate) fn work<C: Chooser + Drop, O: Outside + Drop, S: Sink + Drop, G: Gate, R: Wait>(
     rt: &R,
     alloc: Global,
     task: Task<C, O, S>,
@@ -150,10 +150,13 @@ fn record_and_leave<C: Chooser + Drop, O: Outside + Drop, S: Sink + Drop, G: Gat
         Ok(mut recorder) => {
             let post = Post { guest, gate, pace };
             let fault = record(rt, alloc, &mut recorder, &mut job, &post);
-            leave(recorder, job, fault)
+            let worked = leave(recorder, job, fault);
+            pace.hurry();
+            worked
         }
         Err(mut seat) => {
             seat.leave();
+            pace.hurry();
             Worked {
                 seat,
                 job,
@@ -163,20 +166,4 @@ fn record_and_leave<C: Chooser + Drop, O: Outside + Drop, S: Sink + Drop, G: Gat
             }
         }
     }
-}
-
-/// Records the job's guest to its end, leaves, and wakes the flusher.
-pub(crate) fn work<C: Chooser + Drop, O: Outside + Drop, S: Sink + Drop, G: Gate, R: Wait>(
-    rt: &R,
-    alloc: Global,
-    task: Task<C, O, S>,
-    gate: &G,
-    pace: &Pace,
-) -> Worked<C, O, S>
-    requires { IsFresh task }
-    ensures { HasWorked C.Chooser S.Sink task result }
-{
-    let worked = record_and_leave(rt, alloc, task, gate, pace);
-    pace.hurry();
-    worked
 }

@@ -4,11 +4,12 @@ use crate::wrong::Wrong;
 use guest_calls::Guest;
 use rrv_model::limits::{MAX_QUANTUM, MIN_QUANTUM};
 use rrv_model::machine::GuestEnd;
-use rrv_model::record::{CallRecord, Choice, End, Frame};
+use rrv_model::record::{Choice, Frame, Item, Record};
 use serial_sched::{Chooser, follow, slice};
 use std::alloc::{AllocError, Global};
 use test_guests::files::guest_of_file;
 use test_guests::outsides::Nothing;
+use trace_text::{EndText, RecordLine};
 
 /// A recording has fewer frames.
 const FRAMES: u32 = 10_000;
@@ -103,7 +104,7 @@ impl Pair {
 
     /// Keeps what a frame put out.
     fn keep_output(&mut self, alloc: Global, frame: &Frame) -> Result<(), AllocError> {
-        if let End::Call(_) = &frame.end {
+        if frame.end.call().is_some() {
             if let Some((descriptor, bytes)) = self.recorded.put_out() {
                 let text = hex::encode(alloc, bytes)?;
                 self.puts.push(format!(in alloc; "{descriptor} {text}")?)?;
@@ -156,37 +157,24 @@ impl Pair {
     }
 }
 
-/// How many bytes a call wrote.
-fn written_by(told: &CallRecord) -> usize {
-    let mut count = 0usize;
-    for range in told.written.as_slice() {
-        count = count.saturating_add(range.bytes.as_slice().len());
-    }
-    count
+/// A text behind the word that it begins with.
+fn behind(alloc: Global, text: &str) -> Result<String, AllocError> {
+    String::from_str(alloc, text.split_once(' ').map_or(text, |parts| parts.1))
 }
 
-/// A frame as a line of text.
+/// A frame as its line tells it.
 pub fn frame_text(alloc: Global, frame: &Frame) -> Result<String, AllocError> {
-    let tid = frame.tid;
-    let count = frame.count;
-    match &frame.end {
-        End::Preempt => format!(in alloc; "preempt tid={tid} count={count}"),
-        End::Call(told) => {
-            let result = told.result;
-            let written = written_by(told);
-            format!(in alloc; "call tid={tid} count={count} result={result:08x} written={written}")
-        }
-        End::Fault(kind) => format!(in alloc; "fault tid={tid} count={count} kind={kind:?}"),
-        End::Stuck => format!(in alloc; "stuck"),
-    }
+    let record = Record {
+        guest: 0,
+        index: 0,
+        item: Item::Frame(frame.clone()?),
+    };
+    let line = format!(in alloc; "{}", RecordLine::new(&record))?;
+    behind(alloc, line.as_str())
 }
 
-/// How a guest ended, as text.
+/// How a guest ended, as its line tells it.
 pub fn end_text(alloc: Global, end: Option<GuestEnd>) -> Result<String, AllocError> {
-    match end {
-        None => format!(in alloc; "none"),
-        Some(GuestEnd::Exited(status)) => format!(in alloc; "exited {status}"),
-        Some(GuestEnd::Faulted(kind)) => format!(in alloc; "faulted {kind:?}"),
-        Some(GuestEnd::Stuck) => format!(in alloc; "stuck"),
-    }
+    let line = format!(in alloc; "{}", EndText::new(end))?;
+    behind(alloc, line.as_str())
 }

@@ -11,6 +11,7 @@ use serial_sched::{RoundRobin, SliceFault};
 use std::alloc::{AllocError, Global};
 use std::fs;
 use std::rt::Files;
+use test_guests::files::file_of;
 
 /// A file's bytes, and the guests of it.
 #[derive(Drop)]
@@ -39,6 +40,9 @@ impl Session {
     /// What is found where a line asks this.
     pub fn answer<R: Files + AllocGlobal>(&mut self, rt: &R, line: &str) -> Result<String, Wrong> {
         let alloc = rt.alloc();
+        if let Some(code) = line.strip_prefix("guest code ") {
+            return self.open(alloc, file_of_code(alloc, code)?, 0);
+        }
         let words: Vec<&str> = line.split_whitespace().collect(alloc)?;
         match asked_of(&words).ok_or(Wrong::AsksNothing)? {
             Asked::Guest(path, random) => {
@@ -107,6 +111,18 @@ impl Session {
             _ => Err(Wrong::AsksNothing),
         }
     }
+}
+
+/// A file of the instructions that these words are, in hexadecimal digits.
+fn file_of_code(alloc: Global, text: &str) -> Result<Vec<u8>, Wrong> {
+    let mut code = Vec::new(alloc);
+    for word in text.split_whitespace() {
+        let Ok(word) = u32::from_str_radix(word, 16) else {
+            return Err(Wrong::AsksNothing);
+        };
+        code.push(word).map_err(AllocError::from)?;
+    }
+    Ok(file_of(alloc, &code)?)
 }
 
 /// Records the slice of a choice, and tells its frame.

@@ -20,12 +20,12 @@ mod stores;
 
 use changes::changes_of;
 use records::{beginnings_text, record_text, refusal_text};
-use std::alloc::Global;
 use std::process::ExitCode;
 use std::rt::Files;
 use std::{fs, io};
 use stores::changed_stores_text;
 use test_guests::bytes::bytes_of;
+use test_guests::cases::{Answers, go_through};
 
 /// What a line about a store finds; None where it asks nothing.
 fn store_answer<R: Files + AllocGlobal>(rt: &R, asked: &str, want: &str) -> Option<String> {
@@ -37,51 +37,30 @@ fn store_answer<R: Files + AllocGlobal>(rt: &R, asked: &str, want: &str) -> Opti
     changed_stores_text(alloc, &bytes, &changes, want)
 }
 
-/// What a line finds: where it goes through several cases, the first that finds something else than wanted. None where it asks
-/// nothing.
-fn answer<R: Files + AllocGlobal>(rt: &R, asked: &str, want: &str) -> Option<String> {
-    let alloc = rt.alloc();
-    let (kind, rest) = asked.split_once(' ')?;
-    match kind {
-        "record" => record_text(alloc, &bytes_of(alloc, rest)?),
-        "refusal" => refusal_text(alloc, rest),
-        "beginnings" => beginnings_text(alloc, &bytes_of(alloc, rest)?, want),
-        "store" => store_answer(rt, rest, want),
-        _ => None,
-    }
-}
+/// What answers lines: from nothing but what they say, and files.
+#[derive(Clone, Copy, Debug)]
+struct Storage;
 
-/// What a line finds in place of what it wants; None where it finds that.
-fn failure<R: Files + AllocGlobal>(rt: &R, line: &str) -> Result<Option<String>, io::Error> {
-    let alloc = rt.alloc();
-    let Some((asked, want)) = line.split_once(" = ") else {
-        return Ok(Some("no question".to_string(alloc)?));
-    };
-    match answer(rt, asked, want) {
-        Some(found) if found.as_str() == want => Ok(None),
-        Some(found) => Ok(Some(found)),
-        None => Ok(Some("no answer".to_string(alloc)?)),
+impl Answers for Storage {
+    /// Where a line goes through several cases, it finds the first that finds something else than wanted.
+    fn answer<R: Files + AllocGlobal>(
+        &mut self,
+        rt: &R,
+        asked: &str,
+        want: &str,
+    ) -> Option<String> {
+        let alloc = rt.alloc();
+        let (kind, rest) = asked.split_once(' ')?;
+        match kind {
+            "record" => record_text(alloc, &bytes_of(alloc, rest)?),
+            "refusal" => refusal_text(alloc, rest),
+            "beginnings" => beginnings_text(alloc, &bytes_of(alloc, rest)?, want),
+            "store" => store_answer(rt, rest, want),
+            _ => None,
+        }
     }
 }
 
 fn main(rt: HostRuntime) -> io::Result<ExitCode> {
-    let mut lines = 0u32;
-    let mut wrong = 0u32;
-    for line in rt.lines(rt.alloc()) {
-        let line = line?;
-        if line.is_empty() || line.starts_with('#') {
-            continue;
-        }
-        lines = lines.saturating_add(1);
-        if let Some(found) = failure(&rt, line.as_str())? {
-            wrong = wrong.saturating_add(1);
-            println!(rt; "{}\n  finds: {found}", line.as_str())?;
-        }
-    }
-    println!(rt; "{lines} lines, {wrong} wrong")?;
-    if wrong == 0 {
-        Ok(ExitCode::SUCCESS)
-    } else {
-        Ok(ExitCode::FAILURE)
-    }
+    go_through(&rt, &mut Storage)
 }

@@ -3,7 +3,7 @@
 use frames::{RecordFault, read_record, write_record};
 use rrv_model::machine::Permissions;
 use rrv_model::record::{
-    CallRecord, CheckpointRest, End, Frame, Item, Opening, PagePart, Part, Record, ThreadPart,
+    CallRecord, CheckpointRest, Frame, Item, Opening, PagePart, Part, Record, ThreadPart,
 };
 use std::alloc::{AllocError, Global};
 use std::fmt::Write;
@@ -37,15 +37,18 @@ fn write_call(alloc: Global, text: &mut String, call: &CallRecord) -> Result<(),
 }
 
 fn write_frame(alloc: Global, text: &mut String, frame: &Frame) -> Result<(), AllocError> {
-    let Frame { tid, count, .. } = frame;
-    match &frame.end {
-        End::Preempt => write!(text, " preempt tid {tid} count {count}"),
-        End::Call(call) => {
-            write!(text, " call tid {tid} count {count}")?;
-            write_call(alloc, text, call)
-        }
-        End::Fault(kind) => write!(text, " fault tid {tid} count {count} {kind:?}"),
-        End::Stuck => write!(text, " stuck"),
+    let Frame { tid, count, end } = frame;
+    let name = end.kind().name();
+    write!(text, " {name}")?;
+    if end.has_thread() {
+        write!(text, " tid {tid} count {count}")?;
+    }
+    if let Some(call) = end.call() {
+        write_call(alloc, text, call)?;
+    }
+    match end.fault() {
+        None => Ok(()),
+        Some(kind) => write!(text, " {kind:?}"),
     }
 }
 

@@ -62,6 +62,14 @@ pub enum Question {
     Ran,
 }
 
+/// A call of a thread: its number, and its arguments.
+#[derive(Clone, Copy, Debug, PartialEq, Eq)]
+pub struct ThreadCall {
+    pub tid: u32,
+    pub number: u32,
+    pub arguments: [u32; 5],
+}
+
 /// A guest, what its last call recorded, and its outside.
 pub struct Trial<'a> {
     /// The guest.
@@ -147,16 +155,10 @@ pub fn open_words<'a>(alloc: Global, words: &[u32], input: &'a [u8]) -> Option<T
 }
 
 impl Trial<'_> {
-    /// Makes a thread's call of this number, and gives its result. None where the thread can make no call.
-    pub fn call(
-        &mut self,
-        alloc: Global,
-        tid: u32,
-        number: u32,
-        arguments: [u32; 5],
-    ) -> Result<Option<u32>, Memory> {
+    /// Makes a thread's call, and gives its result. None where the thread can make no call.
+    pub fn call(&mut self, alloc: Global, call: ThreadCall) -> Result<Option<u32>, Memory> {
         let next_tid = self.guest.threads().next_tid();
-        self.call_under(alloc, next_tid, tid, number, arguments)
+        self.call_under(alloc, next_tid, call)
     }
 
     /// The same where this tid is the next one.
@@ -164,12 +166,10 @@ impl Trial<'_> {
         &mut self,
         alloc: Global,
         next_tid: u32,
-        tid: u32,
-        number: u32,
-        arguments: [u32; 5],
+        call: ThreadCall,
     ) -> Result<Option<u32>, Memory> {
-        if self.prepare(alloc, next_tid, tid, number, arguments)? {
-            self.answer(alloc, tid)
+        if self.prepare(alloc, next_tid, call)? {
+            self.answer(alloc, call.tid)
         } else {
             Ok(None)
         }
@@ -180,10 +180,13 @@ impl Trial<'_> {
         &mut self,
         alloc: Global,
         next_tid: u32,
-        tid: u32,
-        number: u32,
-        arguments: [u32; 5],
+        call: ThreadCall,
     ) -> Result<bool, Memory> {
+        let ThreadCall {
+            tid,
+            number,
+            arguments,
+        } = call;
         if self.guest.ended().is_some() {
             return Ok(false);
         }

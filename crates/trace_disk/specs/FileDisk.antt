@@ -1,13 +1,7 @@
 -- What is told of a disk in a file.
-use Rattle.std.specs.Prelude.{◌≡◌, ℕ, Bool, true, false, Result, IsErr}
+use Rattle.std.specs.Prelude.{◌≡◌, ℕ, true, false, Result, IsErr}
 use Rattle.outcomes.specs.Failures.{IsCounted}
-
--- Its length in bytes, how many calls have failed, whether a sync was among them, and whether the file is read alone.
-pub record HostFile : Type 0 where
-  pub size : ℕ
-  pub faults : ℕ
-  pub is_broken : Bool
-  pub is_read_only : Bool
+use Rattle.trace_disk.specs.declared.file_disk.HostFile.{HostFile}
 
 -- a file that was just opened, or made with no bytes
 abbrev pub opened_file : ℕ → HostFile

@@ -66,25 +66,30 @@ impl From<CannotOpen> for CreateFault {
 #[derive(Drop)]
 pub struct FileDisk {
     file: File,
-    len: u64,
-    failures: u64,
-    is_broken: bool,
-    is_read_only: bool,
+    state: HostFile,
     // What is read as the last byte, whatever the file has there.
     last: Option<u8>,
 }
 
+/// What is told of it.
+#[derive(Clone, Copy)]
+pub struct HostFile {
+    /// Its length in bytes.
+    pub size: u64,
+    /// How many calls have failed.
+    pub faults: u64,
+    /// Whether a sync was among them.
+    pub is_broken: bool,
+    /// Whether the file is read alone.
+    pub is_read_only: bool,
+}
+
 impl Model for FileDisk {
-    ghost use Rattle.trace_disk.specs.FileDisk.{HostFile};
+    ghost use Rattle.trace_disk.specs.declared.file_disk.HostFile.{HostFile};
 
     ghost Value = { HostFile };
 
-    ghost view = { λ f. record {
-      size = f.len;
-      faults = f.failures;
-      is_broken = f.is_broken;
-      is_read_only = f.is_read_only;
-    } };
+    ghost view = { λ f. f.state };
 }
 
 impl FileDisk {
@@ -98,7 +103,7 @@ impl FileDisk {
         let file = File::create_new(rt, path)?;
         let made = file.metadata();
         match FileDisk::named(file, &folder) {
-            Ok(disk) if disk.len == 0 => Ok(disk),
+            Ok(disk) if disk.state.size == 0 => Ok(disk),
             // Another program wrote to it before the lock was taken, and its bytes are kept.
             Ok(_) => Err(CreateFault::CannotOpen),
             Err(fault) => {
@@ -169,10 +174,12 @@ impl FileDisk {
         }
         Ok(FileDisk {
             file,
-            len: metadata.len(),
-            failures: 0,
-            is_broken: false,
-            is_read_only,
+            state: HostFile {
+                size: metadata.len(),
+                faults: 0,
+                is_broken: false,
+                is_read_only,
+            },
             last: None,
         })
     }
@@ -182,9 +189,9 @@ impl FileDisk {
         requires { (1 ≤ count) × (count ≤ self.old.size) }
         ensures { self.new ≡ record self.old { size = count; is_read_only = true } }
     {
-        self.len = count;
+        self.state.size = count;
         self.last = Some(last);
-        self.is_read_only = true;
+        self.state.is_read_only = true;
     }
 
     /// Whether the file is longer than the disk.
@@ -193,7 +200,7 @@ impl FileDisk {
         ensures counted { IsCounted result self.old.faults self.new.faults }
     {
         match self.file.metadata() {
-            Ok(metadata) => Ok(metadata.len() > self.len),
+            Ok(metadata) => Ok(metadata.len() > self.state.size),
             Err(_) => Err(self.failed()),
         }
     }
@@ -207,7 +214,7 @@ impl FileDisk {
             return;
         };
         let count = into.len();
-        if count > 0 && self.len - at == count as u64 {
+        if count > 0 && self.state.size - at == count as u64 {
             into[count - 1] = last;
         }
     }
@@ -218,14 +225,14 @@ impl FileDisk {
         ensures whole { IsTrue result → self.now.is_broken ≡ false }
         ensures writable { IsTrue result → self.now.is_read_only ≡ false }
     {
-        if self.is_read_only {
+        if self.state.is_read_only {
             return false;
         }
-        if self.is_broken {
+        if self.state.is_broken {
             return false;
         }
         match self.file.metadata() {
-            Ok(metadata) => metadata.len() == self.len && metadata.nlink() > 0,
+            Ok(metadata) => metadata.len() == self.state.size && metadata.nlink() > 0,
             Err(_) => false,
         }
     }
@@ -234,7 +241,7 @@ impl FileDisk {
     fn failed(&mut self) -> DiskFailed
         ensures { self.new ≡ record self.old { faults = one_more self.old.faults } }
     {
-        self.failures = self.failures.saturating_add(1);
+        self.state.faults = self.state.faults.saturating_add(1);
         DiskFailed
     }
 
@@ -245,7 +252,7 @@ impl FileDisk {
         ensures access { self.new.is_read_only ≡ self.old.is_read_only }
     {
         if let Ok(metadata) = self.file.metadata() {
-            self.len = metadata.len();
+            self.state.size = metadata.len();
         }
         self.failed()
     }
@@ -320,18 +327,18 @@ impl Disk for FileDisk {
     ghost reads_now = { λ f no. absurd no };
 
     fn len(&self) -> u64 {
-        self.len
+        self.state.size
     }
 
     fn failures(&self) -> u64 {
-        self.failures
+        self.state.faults
     }
 
     fn read_at(&mut self, at: u64, into: &mut [u8]) -> Result<(), DiskFailed>
         requires { at + length into.old ≤ self.old.size }
         ensures { IsFileRead self.old self.new result }
     {
-        if self.is_broken || self.file.read_exact_at(into, at).is_err() {
+        if self.state.is_broken || self.file.read_exact_at(into, at).is_err() {
             return Err(self.failed());
         }
         self.put_last(at, into);
@@ -350,7 +357,7 @@ impl Disk for FileDisk {
         if self.file.write_all_at(bytes, at).is_err() {
             return Err(self.failed_in_part());
         }
-        self.len = self.len.max(end);
+        self.state.size = self.state.size.max(end);
         Ok(())
     }
 
@@ -365,7 +372,7 @@ impl Disk for FileDisk {
         if self.file.set_len(len).is_err() {
             return Err(self.failed_in_part());
         }
-        self.len = len;
+        self.state.size = len;
         Ok(())
     }
 
@@ -376,7 +383,7 @@ impl Disk for FileDisk {
         ensures whole { OnOk result (self.new.is_broken ≡ false) }
     {
         if !self.is_whole() || self.file.sync_all().is_err() {
-            self.is_broken = true;
+            self.state.is_broken = true;
             return Err(self.failed());
         }
         Ok(())

@@ -1,7 +1,8 @@
 -- What the digest of a memory takes in, page by page.
-use Rattle.std.proofs.Common.{◌≡◌, ◌∙◌, ℕ, zero, suc, ◌+◌, ◌-◌, ◌*◌, ◌<◌, ◌≤◌, List, [], ◌∷◌, ◌++◌, length, get_or, Option, Some, None, is_some, false, ap, refl, sym, append-nil, arith}
+use Rattle.std.proofs.Common.{◌≡◌, ◌∙◌, ℕ, suc, ◌+◌, ◌-◌, ◌*◌, ◌<◌, ◌≤◌, List, [], ◌∷◌, ◌++◌, length, get_or, Option, Some, None, is_some, false, ap, refl, sym, append-nil, arith}
 use Rattle.std.proofs.lemmas.Bool.{false≢true}
 use Rattle.rrv_model.specs.Memory.{Memory, Cell, byte_or_zero, bytes_at, is_mapped, page_bytes}
+use Rattle.rrv_model.proofs.PageCounts.{pages_skip}
 use Rattle.guest_pages.specs.declared.page.PageView.{PageView}
 use Rattle.guest_pages.specs.Snapshots.{IsNextPage, IsPageOf}
 use Rattle.trace_text.specs.Digest.{page_piece, piece, pieces_below}
@@ -20,12 +21,9 @@ pieces_none m = refl
 pieces_skip : (m : Memory) (least d n : ℕ) → n ≡ least + d → ((q : ℕ) → least ≤ q → q < n → is_mapped m q ≡ false) →
     pieces_below n m ≡ pieces_below least m
 unfolding pieces_below
-pieces_skip m least zero n e free = let same : n ≡ least = omega (arith, e) in ap (λ (k : ℕ). pieces_below k m) same
-pieces_skip m least (suc d) zero e free = absurd (omega (arith, e))
-pieces_skip m least (suc d) (suc n) e free =
-    let before : page_piece m n (m (n * page_bytes)) ≡ [] = no_piece m n _ (free n (omega (arith, e)) (omega arith)) in
-    ap (λ (p : List ℕ). pieces_below n m ++ p) before ∙ append-nil (pieces_below n m)
-    ∙ pieces_skip m least d n (omega (arith, e)) (λ q from below. free q from (omega (arith, below)))
+pieces_skip m least d n = pages_skip (λ (k : ℕ). pieces_below k m) m
+    (λ q none. ap (λ (p : List ℕ). pieces_below q m ++ p) (no_piece m q (m (q * page_bytes)) none) ∙ append-nil (pieces_below q m)) least d
+    n
 
 -- bytes of a memory that are those of a list
 bytes_alike : (bytes : List ℕ) (m : Memory) (a : ℕ) → ((k : ℕ) → k < length bytes → byte_or_zero (m (a + k)) ≡ get_or bytes k 0) →

@@ -1,15 +1,16 @@
 -- Threads in the order of their tids.
-use Rattle.std.proofs.Common.{◌≡◌, ◌∙◌, ℕ, ◌+◌, ◌<◌, ◌≤◌, T, Bool, true, false, cond, ◌&&◌, if◌then◌else◌, nat_lt, List, [], ◌∷◌, ◌++◌, Option, Some, None, IfSome, refl, sym, ap, subst, append-nil, arith}
+use Rattle.std.proofs.Common.{◌≡◌, ◌∙◌, ℕ, ◌+◌, ◌<◌, ◌≤◌, T, Bool, true, false, cond, if◌then◌else◌, nat_lt, List, [], ◌∷◌, ◌++◌, Option, Some, None, IfSome, refl, sym, ap, subst, append-nil, arith}
 use Rattle.std.specs.Prelude.{flat_map}
 use Rattle.std.proofs.lemmas.Grind.{flat_map-append}
 use Rattle.std.proofs.lemmas.Bool.{le-ltb, lt-ltb}
 use Rattle.std.specs.Cmp.{ranks}
 use Rattle.std.specs.declared.cmp.Ordering.{Ordering}
 use Rattle.std.specs.declared.cmp.Ordering.TheVariants.{Less, Equal, Greater}
-use Rattle.std.specs.Ordering.{MatchOrdering, eq_by_cmp, nat_cmp, is_lt, is_eq}
+use Rattle.std.specs.Ordering.{MatchOrdering, eq_by_cmp, nat_cmp, is_eq}
 use Rattle.std.specs.FinMap.{FinMap, entries, entries_sorted, find, get, get-entries}
 use Rattle.std.specs.FinMap.Entries.{below_all, is_sorted}
 use Rattle.rrv_model.specs.declared.machine.Thread.{Thread}
+use Rattle.rrv_model.proofs.CheckpointLaws.{both_hold, holds, less_than}
 
 -- those of a tid below n
 abbrev pub below : ℕ → List (ℕ × Thread) → List (ℕ × Thread)
@@ -21,27 +22,12 @@ abbrev pub entry : ℕ → Option Thread → List (ℕ × Thread)
 entry n None = []
 entry n (Some t) = (n, t) ∷ []
 
-left : (a b : Bool) → T (a && b) → T a
-left true b h = tt
-left false b h = h
-
-right : (a b : Bool) → T (a && b) → T b
-right true b h = h
-right false b h = absurd h
-
-above : (x y : ℕ) → T (is_lt (nat_cmp x y)) → x < y
-above x y h = by (nat_cmp x y) (ranks x y) h where
-  by : (o : Ordering) → MatchOrdering o (x < y) (x ≡ y) (y < x) → T (is_lt o) → x < y
-  by Less r h = r
-  by Equal r h = absurd h
-  by Greater r h = absurd h
-
 -- the entries behind one of tid x are not below n, nor at n
 
 none_below : (n x : ℕ) (es : List (ℕ × Thread)) → n ≤ x + 1 → T (below_all nat_cmp x es) → below n es ≡ []
 none_below n x [] low h = refl
 none_below n x (e ∷ es) low h =
-    let after = above x e.0 (left _ _ h) in
+    let after = less_than x e.0 (holds _ (both_hold _ _ h).0) in
     ap (λ (b : Bool). if b then e ∷ below n es else []) (le-ltb e.0 n (omega (arith, after, low)))
 
 not_at : (n x : ℕ) → n < x → eq_by_cmp nat_cmp n x ≡ false
@@ -54,15 +40,15 @@ not_at n x low = by (nat_cmp n x) (ranks n x) where
 none_found : (n x : ℕ) (es : List (ℕ × Thread)) → n ≤ x → T (below_all nat_cmp x es) → find nat_cmp n es ≡ None
 none_found n x [] low h = refl
 none_found n x (e ∷ es) low h =
-    let after = above x e.0 (left _ _ h) in
+    let after = less_than x e.0 (holds _ (both_hold _ _ h).0) in
     ap (λ (b : Bool). cond b (Some e.1) (find nat_cmp n es)) (not_at n e.0 (omega (arith, after, low)))
-    ∙ none_found n x es low (right _ _ h)
+    ∙ none_found n x es low (both_hold _ _ h).1
 
 more_in : (n : ℕ) (es : List (ℕ × Thread)) → T (is_sorted nat_cmp es) → below (n + 1) es ≡ below n es ++ entry n (find nat_cmp n es)
 more_in n [] h = refl
-more_in n (e ∷ es) h = by (nat_cmp n e.0) (ranks n e.0) (more_in n es (right _ _ h)) where
+more_in n (e ∷ es) h = by (nat_cmp n e.0) (ranks n e.0) (more_in n es (both_hold _ _ h).1) where
   behind : T (below_all nat_cmp e.0 es)
-  behind = left _ _ h
+  behind = (both_hold _ _ h).0
 
   by : (o : Ordering) → MatchOrdering o (n < e.0) (n ≡ e.0) (e.0 < n) → below (n + 1) es ≡ below n es ++ entry n (find nat_cmp n es) →
       below (n + 1) (e ∷ es) ≡ below n (e ∷ es) ++ entry n (cond (is_eq o) (Some e.1) (find nat_cmp n es))

@@ -1,6 +1,6 @@
 -- The printed lines, without their newline. Words in hexadecimal have eight lower-case digits. Other numbers are
 -- decimal.
-use Rattle.std.specs.Prelude.{ℕ, ◌-◌, ◌^◌, List, ◌++◌, length, replicate, flat_map, sum_by, min, codes, Option, Some, None, false}
+use Rattle.std.specs.Prelude.{ℕ, ◌-◌, ◌^◌, Bool, if◌then◌else◌, List, [], ◌++◌, length, replicate, flat_map, sum_by, min, codes, Option, Some, None, false}
 use Rattle.std.specs.Fmt.{decimal, digits}
 use Rattle.std.specs.Char.{encode_utf8}
 use Rattle.rrv_model.specs.declared.machine.FaultKind.{FaultKind}
@@ -9,20 +9,24 @@ use Rattle.rrv_model.specs.declared.machine.GuestEnd.{GuestEnd}
 use Rattle.rrv_model.specs.declared.machine.GuestEnd.TheVariants as guest_ends
 use Rattle.rrv_model.specs.declared.record.CallRecord.{CallRecord}
 use Rattle.rrv_model.specs.declared.record.End.{End}
-use Rattle.rrv_model.specs.declared.record.End.TheVariants as ends
 use Rattle.rrv_model.specs.declared.record.Item.{Item}
 use Rattle.rrv_model.specs.declared.record.Item.TheVariants as items
 use Rattle.rrv_model.specs.declared.record.Opening.{Opening}
 use Rattle.rrv_model.specs.declared.record.Part.{Part}
 use Rattle.rrv_model.specs.declared.record.Record.{Record}
 use Rattle.rrv_model.specs.declared.record.CheckpointRest.{CheckpointRest}
+use Rattle.rrv_model.specs.Ends.{call_in, end_kind, fault_in, guest_end_name, has_thread, kind_name}
 use Rattle.rrv_model.specs.RecordText.{fault_number}
+
+-- the number behind the word of an end, if it has one
+abbrev pub end_number : GuestEnd → List ℕ
+end_number (guest_ends.Exited status) = codes " " ++ decimal status
+end_number (guest_ends.Faulted kind) = codes " " ++ decimal (fault_number kind)
+end_number _ = []
 
 abbrev pub end_text : Option GuestEnd → List ℕ
 end_text None = codes "end none"
-end_text (Some (guest_ends.Exited status)) = codes "end exited " ++ decimal status
-end_text (Some (guest_ends.Faulted kind)) = codes "end faulted " ++ decimal (fault_number kind)
-end_text (Some guest_ends.Stuck) = codes "end stuck"
+end_text (Some end) = codes "end " ++ (guest_end_name end ++ end_number end)
 
 -- the name of a kind of fault
 abbrev pub fault_name : FaultKind → List ℕ
@@ -51,14 +55,21 @@ opening_line o = codes "opening name=" ++ (name_text o.name ++ (codes " elf=" ++
 abbrev pub thread_and_count : ℕ → ℕ → List ℕ
 thread_and_count tid count = codes " tid=" ++ (decimal tid ++ (codes " count=" ++ decimal count))
 
+abbrev pub run_text : Bool → ℕ → ℕ → List ℕ
+run_text thread tid count = if thread then thread_and_count tid count else []
+
+abbrev pub call_text : Option CallRecord → List ℕ
+call_text None = []
+call_text (Some r) = codes " result=" ++ (word_text r.result ++ (codes " written=" ++ decimal (written_len r)))
+
+abbrev pub fault_text : Option FaultKind → List ℕ
+fault_text None = []
+fault_text (Some kind) = codes " kind=" ++ decimal (fault_number kind)
+
+-- the word of the end, the thread's run if there is a thread, and what its call or its fault tells, if it ends in one
 abbrev pub frame_line : End → ℕ → ℕ → List ℕ
-frame_line ends.Preempt tid count = codes "preempt" ++ thread_and_count tid count
-frame_line (ends.Call r) tid count =
-    codes "call" ++ (thread_and_count tid count
-    ++ (codes " result=" ++ (word_text r.result ++ (codes " written=" ++ decimal (written_len r)))))
-frame_line (ends.Fault kind) tid count =
-    codes "fault" ++ (thread_and_count tid count ++ (codes " kind=" ++ decimal (fault_number kind)))
-frame_line ends.Stuck tid count = codes "stuck"
+frame_line end tid count =
+    kind_name (end_kind end) ++ (run_text (has_thread end) tid count ++ (call_text (call_in end) ++ fault_text (fault_in end)))
 
 abbrev pub last_text : Option CheckpointRest → List ℕ
 last_text None = codes "no"

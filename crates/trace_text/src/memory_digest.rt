@@ -1,14 +1,13 @@
 //! The digest of a memory.
 
-ghost use Rattle.std.specs.Prelude.{◌≡◌, ℕ, ◌++◌, List, Some, length};
+ghost use Rattle.std.specs.Prelude.{◌≡◌, ℕ, ◌++◌, List, length};
 ghost use Rattle.sha2.specs.Hashers.{Holds256};
 ghost use Rattle.sha2.specs.Sha256.{sha256};
-ghost use Rattle.rrv_model.specs.RecordText.{bit, permissions_byte};
 ghost use Rattle.rrv_model.specs.Memory.{page_bytes};
 ghost use Rattle.guest_pages.specs.Space.{memory_of};
 ghost use Rattle.trace_text.specs.Digest.{pages_bytes, piece};
 
-use guest_pages::Space;
+use guest_pages::{Space, permissions_byte};
 use rrv_model::machine::Permissions;
 use sha2::{Digest, Sha256};
 
@@ -34,18 +33,4 @@ fn add_page(hasher: &mut Sha256, number: u32, permissions: Permissions, bytes: &
     hasher.update(number.to_le_bytes());
     hasher.update([permissions_byte(permissions)]);
     hasher.update(bytes);
-}
-
-/// The permissions in a byte: X 1, W 2, R 4 as a sum.
-fn permissions_byte(permissions: Permissions) -> u8
-    ensures { result ≡ permissions_byte (Some permissions) }
-{
-    bit(permissions.execute, 1) + bit(permissions.write, 2) + bit(permissions.read, 4)
-}
-
-/// A number where a bit is set, else 0.
-fn bit(is_set: bool, value: u8) -> u8
-    ensures { result ≡ bit is_set value }
-{
-    if is_set { value } else { 0 }
 }

@@ -3,7 +3,6 @@
 ghost use Rattle.std.specs.Prelude.{◌≡◌, ◌+◌, ◌*◌, ◌≤◌, ◌<◌, Some};
 ghost use Rattle.std.specs.Char.{encode_utf8};
 ghost use Rattle.std.specs.Fmt.{WritesOnOk};
-ghost use Rattle.std.specs.Option.{option_map};
 ghost use Rattle.guest_pages.specs.Space.{memory_of};
 ghost use Rattle.trace_text.specs.Lines.{word_text};
 ghost use Rattle.trace_text.specs.MemoryText.{cell_text, character, column, each_below, gap, line_from, memory_line, memory_lines};
@@ -168,7 +167,7 @@ fn write_cell<W: fmt::Write>(f: &mut fmt::Formatter<W>, space: &Space, address: 
     requires { address < 17179869184 }
     ensures { WritesOnOk W.write_str_gives f.old result (cell_text (memory_of space.now address)) f.new }
 {
-    match byte_at(space, address) {
+    match space.byte(address) {
         Some(byte) => write_byte(f, byte),
         None => f.write_str("--"),
     }
@@ -209,19 +208,8 @@ fn character_at(space: &Space, address: u64) -> char
     requires { address < 17179869184 }
     ensures { result ≡ character (memory_of space.now address) }
 {
-    match byte_at(space, address) {
+    match space.byte(address) {
         Some(byte) if 32 <= byte && byte < 127 => char::from(byte),
         _ => '.',
-    }
-}
-
-/// The byte at an address, if one is mapped there.
-fn byte_at(space: &Space, address: u64) -> Option<u8>
-    requires { address < 17179869184 }
-    ensures { result ≡ option_map (λ c. c.byte) (memory_of space.now address) }
-{
-    match space.page((address / 4096) as u32) {
-        Some(view) => Some(view.bytes[(address % 4096) as usize]),
-        None => None,
     }
 }

@@ -2,6 +2,7 @@
 -- The thread is the frame's, in the state after it, and None if it is gone by then.
 use Rattle.std.specs.Prelude.{◌≡◌, ℕ, ◌==◌, if◌then◌else◌, List, [], ◌++◌, codes, Option, Some, None}
 use Rattle.std.specs.Fmt.{decimal}
+use Rattle.rrv_model.specs.declared.machine.FaultKind.{FaultKind}
 use Rattle.rrv_model.specs.declared.machine.Thread.{Thread}
 use Rattle.rrv_model.specs.declared.record.CallRecord.{CallRecord}
 use Rattle.rrv_model.specs.declared.record.End.{End}
@@ -9,7 +10,8 @@ use Rattle.rrv_model.specs.declared.record.End.TheVariants as ends
 use Rattle.rrv_model.specs.RecordText.{fault_number}
 use Rattle.rrv_model.specs.State.{State, register, thread_at}
 use Rattle.rrv_model.specs.FrameStep.{FrameStep}
-use Rattle.rrv_model.specs.Output.{has_thread}
+use Rattle.rrv_model.specs.CallRows.{call_name}
+use Rattle.rrv_model.specs.Ends.{call_in, end_kind, fault_in, has_thread, kind_name}
 use Rattle.trace_text.specs.Lines.{fault_name, word_text, written_len}
 
 -- ---- places
@@ -30,20 +32,6 @@ places_text end from to thread =
 
 -- ---- names
 
--- the name of a call's number (Linux, include/uapi/asm-generic/unistd.h), if a guest may make the call
-abbrev pub call_name : ℕ → Option (List ℕ)
-call_name n =
-    if n == 63 then Some (codes "read") else if n == 64 then Some (codes "write")
-    else if n == 66 then Some (codes "writev") else if n == 93 then Some (codes "exit")
-    else if n == 94 then Some (codes "exit_group") else if n == 96 then Some (codes "set_tid_address")
-    else if n == 98 then Some (codes "futex") else if n == 124 then Some (codes "sched_yield")
-    else if n == 172 then Some (codes "getpid") else if n == 178 then Some (codes "gettid")
-    else if n == 214 then Some (codes "brk") else if n == 215 then Some (codes "munmap")
-    else if n == 220 then Some (codes "clone") else if n == 222 then Some (codes "mmap")
-    else if n == 226 then Some (codes "mprotect") else if n == 278 then Some (codes "getrandom")
-    else if n == 403 then Some (codes "clock_gettime64") else if n == 422 then Some (codes "futex_time64")
-    else None
-
 -- the name of a number if it has one
 abbrev pub name_or_number : ℕ → Option (List ℕ) → List ℕ
 name_or_number n None = codes "call " ++ decimal n
@@ -57,19 +45,32 @@ call_number (Some t) = register t.regs 17
 
 -- ---- events
 
+-- the name of the fault, if there is one
+abbrev pub fault_text : Option FaultKind → List ℕ
+fault_text None = []
+fault_text (Some kind) = codes " " ++ fault_name kind
+
+-- the name of the call, or the word of the end where there is none
+abbrev pub name_by : Option CallRecord → End → Option Thread → List ℕ
+name_by (Some r) end thread = name_or_number (call_number thread) (call_name (call_number thread))
+name_by None end thread = kind_name (end_kind end) ++ fault_text (fault_in end)
+
 abbrev pub event_name : End → Option Thread → List ℕ
-event_name ends.Preempt thread = codes "preempt"
-event_name (ends.Call r) thread = name_or_number (call_number thread) (call_name (call_number thread))
-event_name (ends.Fault kind) thread = codes "fault " ++ fault_name kind
-event_name ends.Stuck thread = codes "stuck"
+event_name end thread = name_by (call_in end) end thread
+
+-- what came of a call, or of a fault
+abbrev pub call_outcome : Option CallRecord → List ℕ
+call_outcome None = []
+call_outcome (Some r) =
+    codes ",\"result\":\"" ++ (word_text r.result ++ (codes "\",\"written\":" ++ decimal (written_len r)))
+
+abbrev pub fault_outcome : Option FaultKind → List ℕ
+fault_outcome None = []
+fault_outcome (Some kind) = codes ",\"kind\":" ++ decimal (fault_number kind)
 
 -- what came of the last instruction
 abbrev pub outcome_text : End → List ℕ
-outcome_text ends.Preempt = []
-outcome_text (ends.Call r) =
-    codes ",\"result\":\"" ++ (word_text r.result ++ (codes "\",\"written\":" ++ decimal (written_len r)))
-outcome_text (ends.Fault kind) = codes ",\"kind\":" ++ decimal (fault_number kind)
-outcome_text ends.Stuck = []
+outcome_text end = call_outcome (call_in end) ++ fault_outcome (fault_in end)
 
 -- where the thread goes on
 abbrev pub next_member : Option Thread → List ℕ
@@ -93,16 +94,17 @@ run_event guest index end from tid count thread =
     codes "{\"name\":\"" ++ (event_name end thread
     ++ (run_members from count guest tid ++ run_arguments index end thread))
 
--- the event of a guest that is stuck, which takes no time
-abbrev pub stuck_event : (guest index from : ℕ) → List ℕ
-stuck_event guest index from =
-    codes "{\"name\":\"stuck\",\"ph\":\"i\",\"ts\":" ++ (decimal from ++ (codes ",\"pid\":" ++ (decimal guest
-    ++ (codes ",\"tid\":0,\"s\":\"p\",\"args\":{\"record\":" ++ (decimal index ++ codes "}}")))))
+-- the event of a frame of no thread, which takes no time
+abbrev pub instant_event : (guest index : ℕ) → End → (from : ℕ) → List ℕ
+instant_event guest index end from =
+    codes "{\"name\":\"" ++ (kind_name (end_kind end) ++ (codes "\",\"ph\":\"i\",\"ts\":" ++ (decimal from
+    ++ (codes ",\"pid\":" ++ (decimal guest ++ (codes ",\"tid\":0,\"s\":\"p\",\"args\":{\"record\":"
+    ++ (decimal index ++ codes "}}")))))))
 
 -- the event of a frame
 abbrev pub event_line : (guest index : ℕ) → End → (from tid count : ℕ) → Option Thread → List ℕ
 event_line guest index end from tid count thread =
-    if has_thread end then run_event guest index end from tid count thread else stuck_event guest index from
+    if has_thread end then run_event guest index end from tid count thread else instant_event guest index end from
 
 -- ---- laws
 

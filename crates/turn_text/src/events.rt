@@ -1,16 +1,18 @@
 //! Frames as events of a trace.
 
-ghost use Rattle.std.specs.Prelude.{◌≡◌, Some};
+ghost use Rattle.std.specs.Prelude.{◌≡◌, Some, option_copied};
 ghost use Rattle.std.specs.Fmt.{WritesOnOk};
 ghost use Rattle.rrv_model.specs.State.{thread_at};
+ghost use Rattle.rrv_model.specs.CallRows.{call_name};
 ghost use Rattle.guest_calls.specs.Guest.{state_of};
-ghost use Rattle.turn_text.specs.Turns.{call_name, call_number, event_line, event_name, name_or_number, next_member};
-ghost use Rattle.turn_text.specs.Turns.{outcome_text, run_arguments, run_event, run_members, stuck_event};
+ghost use Rattle.turn_text.specs.Turns.{call_number, event_line, event_name, name_or_number, next_member};
+ghost use Rattle.turn_text.specs.Turns.{call_outcome, fault_outcome, fault_text, outcome_text};
+ghost use Rattle.turn_text.specs.Turns.{instant_event, run_arguments, run_event, run_members};
 
-use crate::names::call_name;
 use guest_calls::Guest;
-use rrv_model::machine::Thread;
-use rrv_model::record::{End, Frame};
+use rrv_model::machine::{FaultKind, Thread};
+use rrv_model::record::{CallRecord, End, Frame};
+use rrv_model::syscall::call_name;
 use std::fmt;
 use trace_text::{fault_name, write_word, written_bytes};
 
@@ -20,69 +22,41 @@ const EXIT: u32 = 93;
 /// The register of a call's number, a7.
 const CALL_NUMBER: usize = 17;
 
-/// A frame as an event of Chrome's trace-event format: an object on one line, without a comma or a newline. Its times
-/// are instructions, its process is the guest, and its thread the frame's.
-#[derive(Drop)]
-pub struct EventLine<'a> {
+/// Writes a frame as an event of Chrome's trace-event format: an object on one line, without a comma or a newline. Its
+/// times are instructions, its process is the guest, and its thread the frame's. The frame is the one at this index of
+/// this guest's records, so many instructions ran before it, and behind it the guest is this one.
+pub(crate) fn write_event<W: fmt::Write>(
+    f: &mut fmt::Formatter<W>,
     guest_number: u32,
     index: u32,
-    frame: &'a Frame,
+    frame: &Frame,
     from: u64,
-    guest: &'a Guest,
-}
-
-impl<'a> EventLine<'a> {
-    /// The event of the frame at this index of this guest's records, before which so many instructions ran, and after
-    /// which the guest is this one.
-    pub fn new(guest_number: u32, index: u32, frame: &'a Frame, from: u64, guest: &'a Guest) -> Self
-        ensures guest_number { result.guest_number ≡ guest_number }
-        ensures index { result.index ≡ index }
-        ensures frame { result.frame.now ≡ frame.now }
-        ensures from { result.from ≡ from }
-        ensures guest { result.guest.now ≡ guest.now }
-    {
-        EventLine {
-            guest_number,
-            index,
-            frame,
-            from,
-            guest,
-        }
+    guest: &Guest,
+) -> fmt::Result
+    ensures { WritesOnOk W.write_str_gives f.old result (event_line guest_number index frame.now.end from
+        frame.now.tid frame.now.count (thread_at (state_of guest.now) frame.now.tid)) f.new }
+{
+    if !frame.end.has_thread() {
+        return write_instant(f, guest_number, index, &frame.end, from);
     }
+    write_run(f, guest_number, index, frame, from, guest.thread(frame.tid))
 }
 
-impl<'a> fmt::Display for EventLine<'a> {
-    ghost output = { λ line. Some (event_line line.guest_number line.index line.frame.now.end line.from
-        line.frame.now.tid line.frame.now.count (thread_at (state_of line.guest.now) line.frame.now.tid)) };
-
-    fn fmt<W: fmt::Write>(&self, f: &mut fmt::Formatter<W>) -> fmt::Result {
-        let thread = self.guest.thread(self.frame.tid);
-        if !self.frame.end.has_thread() {
-            return write_stuck(f, self.guest_number, self.index, self.from);
-        }
-        write_run(
-            f,
-            self.guest_number,
-            self.index,
-            self.frame,
-            self.from,
-            thread,
-        )
-    }
-}
-
-/// The event of a guest that is stuck.
-fn write_stuck<W: fmt::Write>(
+/// The event of a frame of no thread.
+fn write_instant<W: fmt::Write>(
     f: &mut fmt::Formatter<W>,
     guest: u32,
     index: u32,
+    end: &End,
     from: u64,
 ) -> fmt::Result
-    ensures { WritesOnOk W.write_str_gives f.old result (stuck_event guest index from) f.new }
+    ensures { WritesOnOk W.write_str_gives f.old result (instant_event guest index end.now from) f.new }
 {
+    f.write_str("{\"name\":\"")?;
+    f.write_str(end.kind().name())?;
     write!(
         f,
-        "{{\"name\":\"stuck\",\"ph\":\"i\",\"ts\":{from},\"pid\":{guest},\
+        "\",\"ph\":\"i\",\"ts\":{from},\"pid\":{guest},\
         \"tid\":0,\"s\":\"p\",\"args\":{{\"record\":{index}}}}}"
     )
 }
@@ -114,15 +88,24 @@ fn write_name<W: fmt::Write>(
 ) -> fmt::Result
     ensures { WritesOnOk W.write_str_gives f.old result (event_name end.now thread) f.new }
 {
-    match end {
-        End::Preempt => f.write_str("preempt"),
-        End::Call(_) => write_call_name(f, call_number(thread)),
-        End::Fault(kind) => {
-            f.write_str("fault ")?;
-            f.write_str(fault_name(*kind))
+    match end.call() {
+        Some(_) => write_call_name(f, call_number(thread)),
+        None => {
+            f.write_str(end.kind().name())?;
+            write_fault(f, end.fault())
         }
-        End::Stuck => f.write_str("stuck"),
     }
+}
+
+/// The name of a fault, if there is one.
+fn write_fault<W: fmt::Write>(f: &mut fmt::Formatter<W>, fault: Option<FaultKind>) -> fmt::Result
+    ensures { WritesOnOk W.write_str_gives f.old result (fault_text fault) f.new }
+{
+    let Some(kind) = fault else {
+        return Ok(());
+    };
+    f.write_str(" ")?;
+    f.write_str(fault_name(kind))
 }
 
 /// The name of a call, or its number.
@@ -181,19 +164,32 @@ fn write_arguments<W: fmt::Write>(
 fn write_outcome<W: fmt::Write>(f: &mut fmt::Formatter<W>, end: &End) -> fmt::Result
     ensures { WritesOnOk W.write_str_gives f.old result (outcome_text end.now) f.new }
 {
-    match end {
-        End::Preempt | End::Stuck => Ok(()),
-        End::Call(call) => {
-            f.write_str(",\"result\":\"")?;
-            write_word(f, call.result)?;
-            let written = written_bytes(call);
-            write!(f, "\",\"written\":{written}")
-        }
-        End::Fault(kind) => {
-            let number = kind.number();
-            write!(f, ",\"kind\":{number}")
-        }
-    }
+    write_answer(f, end.call())?;
+    write_kind(f, end.fault())
+}
+
+/// What a call answered, and how much it wrote, if there is one.
+fn write_answer<W: fmt::Write>(f: &mut fmt::Formatter<W>, call: Option<&CallRecord>) -> fmt::Result
+    ensures { WritesOnOk W.write_str_gives f.old result (call_outcome (option_copied call.entry)) f.new }
+{
+    let Some(call) = call else {
+        return Ok(());
+    };
+    f.write_str(",\"result\":\"")?;
+    write_word(f, call.result)?;
+    let written = written_bytes(call);
+    write!(f, "\",\"written\":{written}")
+}
+
+/// The number of a fault's kind, if there is one.
+fn write_kind<W: fmt::Write>(f: &mut fmt::Formatter<W>, fault: Option<FaultKind>) -> fmt::Result
+    ensures { WritesOnOk W.write_str_gives f.old result (fault_outcome fault) f.new }
+{
+    let Some(kind) = fault else {
+        return Ok(());
+    };
+    let number = kind.number();
+    write!(f, ",\"kind\":{number}")
 }
 
 /// Where a thread goes on.

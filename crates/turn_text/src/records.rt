@@ -5,8 +5,8 @@ ghost use Rattle.std.specs.Fmt.{WritesOnOk};
 ghost use Rattle.guest_calls.specs.Guest.{state_of};
 ghost use Rattle.turn_text.specs.Records.{escaped, event_text, name_event, places_line};
 
-use crate::events::EventLine;
-use crate::places::PlacesText;
+use crate::events::write_event;
+use crate::places::write_places;
 use guest_calls::Guest;
 use rrv_model::record::{Item, Record};
 use std::fmt;
@@ -45,8 +45,7 @@ impl<'a> fmt::Display for PlacesLine<'a> {
         let record = RecordLine::new(self.entry);
         write!(f, "{record}")?;
         if let Item::Frame(frame) = &self.entry.item {
-            let places = PlacesText::new(frame, self.from, self.to, self.guest);
-            write!(f, "{places}")?;
+            write_places(f, frame, self.from, self.to, self.guest)?;
         }
         Ok(())
     }
@@ -85,9 +84,9 @@ impl<'a> fmt::Display for EventText<'a> {
                 write_name(f, self.entry.guest, opening.name.as_slice())
             }
             Item::Frame(frame) => {
+                f.write_str(",\n")?;
                 let (guest, index) = (self.entry.guest, self.entry.index);
-                let event = EventLine::new(guest, index, frame, self.from, self.guest);
-                write!(f, ",\n{event}")
+                write_event(f, guest, index, frame, self.from, self.guest)
             }
             Item::Part(_) => Ok(()),
         }

@@ -38,6 +38,23 @@ pub(crate) enum Manner {
     Long,
 }
 
+/// Sends an item. The seat stays of its group and guest.
+fn send_by<R: Wait>(
+    rt: &R,
+    seat: &mut RecorderSeat,
+    item: Item,
+    manner: Manner,
+) -> Result<(), (Item, SubmitFault)>
+    requires { CanSubmit seat.old item }
+    ensures stays { (seat.new.group ≡ seat.old.group) × (seat.new.guest ≡ seat.old.guest) }
+{
+    if manner == Manner::Waits {
+        seat.submit(rt, item)
+    } else {
+        seat.try_submit(rt, item)
+    }
+}
+
 /// The log of a new store. Its disk fails at this call of those from here on, counted from 1; at none with 0. Within its room,
 /// which a small commit stays in, it takes no memory.
 fn new_log(alloc: Global, fails: u64) -> Result<Log<Device>, Fail>
@@ -116,12 +133,7 @@ impl Machine {
             return Err(Fail::new("no such guest"));
         };
         let item = next_item(alloc, seat, manner == Manner::Long)?;
-        let sent = if manner == Manner::Waits {
-            seat.submit(rt, item)
-        } else {
-            seat.try_submit(rt, item)
-        };
-        match sent {
+        match send_by(rt, seat, item, manner) {
             Ok(()) => Ok(None),
             Err((_, fault)) => Ok(Some(fault)),
         }

@@ -13,18 +13,7 @@ use std::alloc::Global;
 use std::process::Abort;
 use std::test::Fail;
 use test_guests::files::{EXIT_FIVE, file_of, guest_of_file};
-
-const DATA: Permissions = Permissions {
-    read: true,
-    write: true,
-    execute: false,
-};
-
-const CONSTANTS: Permissions = Permissions {
-    read: true,
-    write: false,
-    execute: false,
-};
+use test_guests::permissions::{CONSTANTS, DATA};
 
 /// What a checkpoint names: a page's number, its permissions and its mask.
 type Named = (u32, Option<Permissions>, u64);

@@ -8,7 +8,7 @@ use rrv_model::refusal::Memory;
 use std::alloc::Global;
 use std::process::Abort;
 use std::test::Fail;
-use test_guests::trial::{Question, Trial};
+use test_guests::trial::{Question, ThreadCall, Trial};
 use test_guests::words::{A1_FILE, ECALL, a0, a2, a7};
 
 /// The first page of the stack.
@@ -108,7 +108,12 @@ fn before_call<'a>(
     input: &'a [u8],
 ) -> Result<Trial<'a>, Fail> {
     let mut trial = trial_of(alloc, &[0], input)?;
-    let is_ready = trial.prepare(alloc, 2, 1, number, arguments)?;
+    let call = ThreadCall {
+        tid: 1,
+        number,
+        arguments,
+    };
+    let is_ready = trial.prepare(alloc, 2, call)?;
     same(rt, &"the registers of the call", is_ready, true);
     same(rt, &"the stack", trial.find(Question::Word(STACK)), Some(0));
     Ok(trial)

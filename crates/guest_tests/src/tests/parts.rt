@@ -14,21 +14,10 @@ use std::fmt::Display;
 use std::process::Abort;
 use std::test::Fail;
 use test_guests::harts::part_of;
+use test_guests::permissions::{CODE, DATA};
 use test_guests::trial::{Question, Trial};
 
 const MMAP: u32 = 222;
-
-const DATA: Permissions = Permissions {
-    read: true,
-    write: true,
-    execute: false,
-};
-
-const CODE: Permissions = Permissions {
-    read: false,
-    write: false,
-    execute: true,
-};
 
 const WRITE_ALONE: Permissions = Permissions {
     read: false,
@@ -206,7 +195,7 @@ fn set_rest(
 fn changed_by_rest(alloc: Global, trial: &mut Trial<'_>) -> Result<Vec<u32>, Fail> {
     let rest = rest_with(alloc, 0x1_1010, [3, 7])?;
     let before = trial.guest.snapshot()?;
-    trial.guest.close_slice(Some(GuestEnd::Stuck));
+    trial.guest.close_slice(Some(GuestEnd::Exited(5)));
     trial.guest.set_rest(alloc, &rest)?;
     Ok(trial.guest.space().changed_since(&before)?)
 }

@@ -7,7 +7,7 @@ use std::alloc::Global;
 use std::fmt::Debug;
 use std::process::Abort;
 use std::test::Fail;
-use test_guests::trial::{Question, Trial, open_words};
+use test_guests::trial::{Question, ThreadCall, Trial, open_words};
 
 /// What a guest does, or what is to be found.
 #[derive(Clone, Copy, Debug)]
@@ -48,7 +48,12 @@ pub(crate) fn same<T: PartialEq + Debug + Drop>(
 fn take(rt: &impl Abort, alloc: Global, trial: &mut Trial<'_>, row: &Row) -> Result<(), Fail> {
     match *row {
         Row::Call(tid, number, arguments, want) => {
-            let answered = trial.call(alloc, tid, number, arguments)?;
+            let call = ThreadCall {
+                tid,
+                number,
+                arguments,
+            };
+            let answered = trial.call(alloc, call)?;
             same(rt, row, answered, Some(want));
         }
         Row::Run(tid, limit, want) => same(rt, row, trial.run(tid, limit), Some(want)),

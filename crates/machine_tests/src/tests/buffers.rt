@@ -1,12 +1,13 @@
 //! Two buffers in a page.
 
 use super::rows::{DONE, Deed, Row, play_on};
-use super::{DATA, same};
+use super::same;
 use guest_buffers::{join_buffers, list_buffers, total_len};
 use guest_pages::Space;
 use std::alloc::Global;
 use std::process::Abort;
 use std::test::Fail;
+use test_guests::permissions::DATA;
 
 const PAGE: u32 = 0x1_0000;
 

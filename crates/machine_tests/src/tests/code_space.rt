@@ -3,26 +3,20 @@
 ghost use Rattle.guest_pages.specs.Space.{snapshots_of};
 ghost use Rattle.std.specs.Prelude.{◌≡◌};
 
-use super::{CODE, DATA, same};
+use super::same;
 use guest_pages::{AddressSpace, PageView, Space};
-use rrv_model::machine::{FaultKind, Permissions};
+use rrv_model::machine::FaultKind;
 use rv_machine::{CodeSpace, Run, RunEnd, run_hart};
 use std::alloc::Global;
 use std::process::Abort;
 use std::test::Fail;
 use test_guests::harts::regs_with;
+use test_guests::permissions::{ALL, CODE, DATA};
 
 /// The code's page, and where it begins.
 const PAGE: u32 = 0x10;
 
 const START: u32 = 0x1_0000;
-
-/// What may be read, written and executed.
-const ALL: Permissions = Permissions {
-    read: true,
-    write: true,
-    execute: true,
-};
 
 /// `li a0, 1`
 const LI_1: u32 = 0x0010_0513;

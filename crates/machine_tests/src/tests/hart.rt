@@ -5,21 +5,16 @@ ghost use Rattle.rrv_model.specs.State.{AreRegs};
 use super::rows::{DONE, Deed, Row, play_on};
 use super::same;
 use guest_pages::Space;
-use rrv_model::machine::{FaultKind, Permissions, Regs, Reservation};
+use rrv_model::machine::{FaultKind, Regs, Reservation};
 use rv_machine::{CodeSpace, Run, RunEnd, Stepped, run_hart, step};
 use std::process::Abort;
 use std::test::Fail;
 use test_guests::harts::regs_with;
+use test_guests::permissions::ALL;
 
 const CODE: u32 = 0x1_0000;
 
 const DATA: u32 = 0x1_1000;
-
-const ALL: Permissions = Permissions {
-    read: true,
-    write: true,
-    execute: true,
-};
 
 /// A memory of three instructions, and a word of data.
 fn space_with<R: Abort + AllocGlobal>(rt: &R, words: [u32; 3], data: u32) -> Space {

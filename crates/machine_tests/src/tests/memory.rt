@@ -2,10 +2,11 @@
 
 use super::code_space::{answers, space_of_code};
 use super::rows::{Row, play_on};
-use super::{CODE, DATA, same, same_numbers};
+use super::{same, same_numbers};
 use guest_pages::{AddressSpace, PageFault, Space};
 use rrv_model::refusal::Memory;
 use std::test::Fail;
+use test_guests::permissions::{CODE, DATA};
 
 #[test]
 fn a_refused_mapping_leaves_all_as_before(rt: HostRuntime) -> Result<(), Fail> {

@@ -1,11 +1,12 @@
 //! Pages at values worked by hand: mapped, stored to, loaded from, and put in whole.
 
 use super::rows::{DONE, Deed, NOT_ALLOWED, NOT_MAPPED, Row, TOO_MANY, play, play_on};
-use super::{CODE, CONSTANTS, DATA, same};
+use super::same;
 use guest_pages::{AddressSpace, Space};
 use std::alloc::Global;
 use std::process::Abort;
 use std::test::Fail;
+use test_guests::permissions::{CODE, CONSTANTS, DATA};
 
 #[test]
 fn a_word_across_two_pages(rt: HostRuntime) {

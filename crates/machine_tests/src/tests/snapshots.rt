@@ -1,11 +1,12 @@
 //! Snapshots, with changes between them. The proofs know which snapshots live, so these tests are no rows.
 
 use super::rows::{DONE, Deed, Edges, does, edges};
-use super::{CODE, CONSTANTS, DATA, same, same_numbers};
+use super::{same, same_numbers};
 use guest_pages::{AddressSpace, Space};
 use std::alloc::Global;
 use std::process::Abort;
 use std::test::Fail;
+use test_guests::permissions::{CODE, CONSTANTS, DATA};
 
 /// A page of data with these bytes at its edges.
 fn data(first: u8, last: u8) -> Option<Edges> {

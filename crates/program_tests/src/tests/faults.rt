@@ -1,11 +1,10 @@
 //! Faults of lines: programs that are none, and which of several faults is told.
 
-use super::kit::{Content, Step, done, play, play_recorded, refused};
+use super::kit::{Content, Step, done, play, refused, refused_alike};
+use super::programs::FIVE;
+use super::stores::EMPTY;
 use std::test::Fail;
 use test_guests::files::EXIT_FIVE;
-
-/// What is reported of a program that exits with 5.
-const FIVE: (&[u8], &[u8]) = (b"", b"g0: end exited 5, records 2\n");
 
 #[test]
 fn bad_files_are_refused_by_name(rt: HostRuntime) -> Result<(), Fail> {
@@ -60,23 +59,16 @@ fn faults_of_a_recording_come_in_their_order(rt: HostRuntime) -> Result<(), Fail
             refused("record s E bad missing", b"rrv: guest 1: elf refusal 7\n"),
             refused("record s E missing bad", b"rrv: cannot read file\n"),
             refused("record s bad E bad", b"rrv: guest 0: elf refusal 7\n"),
-            done("list s", b"", b""),
+            Step::Holds("s", EMPTY),
         ],
     )
 }
 
 #[test]
 fn faults_of_a_replay_come_in_their_order(rt: HostRuntime) -> Result<(), Fail> {
-    play_recorded(
-        &rt,
-        &EXIT_FIVE,
-        FIVE,
-        &[
-            refused("back missing 7 9 9", b"rrv: cannot open store\n"),
-            refused("back s 7 9 9", b"rrv: no such guest\n"),
-            refused("back s 0 9 99", b"rrv: past the end\n"),
-            refused("last s 1 9 0", b"rrv: no such guest\n"),
-            refused("replay --at 9 s 1", b"rrv: no such guest\n"),
-        ],
-    )
+    let unknown = ["back s 7 9 9", "last s 1 9 0", "replay --at 9 s 1"];
+    refused_alike(&rt, FIVE, &unknown, b"rrv: no such guest\n")?;
+    let closed = ["back missing 7 9 9"];
+    refused_alike(&rt, FIVE, &closed, b"rrv: cannot open store\n")?;
+    refused_alike(&rt, FIVE, &["back s 0 9 99"], b"rrv: past the end\n")
 }

@@ -1,108 +1,82 @@
 //! Guests that are recorded by a line, and what the lines behind it tell of them.
 
-use super::kit::{Content, Step, done, play, play_recorded, refused};
-use super::programs::{HELLO_TO_ERRORS, LOOP, OPENING_RANDOM, READ_THEN_RANDOM};
+use super::kit::{Content, Known, done, play_in_store, play_recorded, refused, refused_alike};
+use super::programs::{FIVE, HI, HI_TO_ERRORS, LOOP, OPENING_RANDOM, READ_THEN_RANDOM};
 use std::test::Fail;
 use test_guests::files::{EXIT_FIVE, HELLO};
 
-/// What is reported of a program that exits with 5, and of one that writes `hi`.
-const FIVE: (&[u8], &[u8]) = (b"", b"g0: end exited 5, records 2\n");
+/// What is printed of a program that exits with 5, and of one that writes `hi`.
+const FIVE_DUMPED: &[u8] =
+    b"0 opening name=g0 elf=96\n1 call tid=1 count=3 result=00000000 written=0\n";
 
-const HI: (&[u8], &[u8]) = (b"hi\n", b"g0: end exited 0, records 3\n");
+const FIVE_LISTED: &[u8] = b"0 g0 records=2 frames=1 instructions=3\n";
+
+const FIVE_VERIFIED: &[u8] = b"ok records=2 instructions=3 end exited 5\n";
+
+const HI_DUMPED: &[u8] =
+    b"0 opening name=g0 elf=128\n1 call tid=1 count=8 result=00000003 written=0\n\
+    2 call tid=1 count=3 result=00000000 written=0\n";
+
+const HI_VERIFIED: &[u8] = b"ok records=3 instructions=11 end exited 0\n";
 
 #[test]
 fn a_recorded_guest_is_told(rt: HostRuntime) -> Result<(), Fail> {
-    let dump: &[u8] = b"0 opening name=g0 elf=96\n1 call tid=1 count=3 result=00000000 written=0\n";
-    let verified: &[u8] = b"ok records=2 instructions=3 end exited 5\n";
     play_recorded(
         &rt,
-        &EXIT_FIVE,
         FIVE,
         &[
-            done("list s", b"0 g0 records=2 frames=1 instructions=3\n", b""),
-            done("dump s 0", dump, b""),
-            done("verify s 0", verified, b""),
+            done("list s", FIVE_LISTED, b""),
+            done("dump s 0", FIVE_DUMPED, b""),
+            done("verify s 0", FIVE_VERIFIED, b""),
             done("replay s 0", b"", b""),
-            refused("dump s 1", b"rrv: no such guest\n"),
-            refused("verify s 7", b"rrv: no such guest\n"),
-            refused("replay s 4294967295", b"rrv: no such guest\n"),
-            refused("replay s 4294967296", b"rrv: no such guest\n"),
-            refused("verify s 18446744073709551615", b"rrv: no such guest\n"),
         ],
-    )
+    )?;
+    let others = [
+        "dump s 1",
+        "verify s 7",
+        "replay s 4294967295",
+        "replay s 4294967296",
+        "verify s 18446744073709551615",
+    ];
+    refused_alike(&rt, FIVE, &others, b"rrv: no such guest\n")
 }
 
 #[test]
 fn output_is_put_out_again(rt: HostRuntime) -> Result<(), Fail> {
-    let dump: &[u8] = b"0 opening name=g0 elf=128\n1 call tid=1 count=8 result=00000003 written=0\n\
-        2 call tid=1 count=3 result=00000000 written=0\n";
+    let listed: &[u8] = b"0 g0 records=3 frames=2 instructions=11\n";
     play_recorded(
         &rt,
-        &HELLO,
         HI,
         &[
             done("replay s 0", b"hi\n", b""),
-            done("dump s 0", dump, b""),
-            done(
-                "verify s 0",
-                b"ok records=3 instructions=11 end exited 0\n",
-                b"",
-            ),
-            done("list s", b"0 g0 records=3 frames=2 instructions=11\n", b""),
+            done("dump s 0", HI_DUMPED, b""),
+            done("verify s 0", HI_VERIFIED, b""),
+            done("list s", listed, b""),
         ],
     )?;
-    let to_errors = (
-        b"".as_slice(),
-        b"hi\ng0: end exited 0, records 3\n".as_slice(),
-    );
-    play_recorded(
-        &rt,
-        &HELLO_TO_ERRORS,
-        to_errors,
-        &[done("replay s 0", b"", b"hi\n")],
-    )
+    play_recorded(&rt, HI_TO_ERRORS, &[done("replay s 0", b"", b"hi\n")])
 }
 
 #[test]
 fn programs_are_recorded_at_once(rt: HostRuntime) -> Result<(), Fail> {
+    let reports: &[u8] = b"g0: end exited 5, records 2\ng1: end exited 0, records 3\n";
     let listed: &[u8] = b"0 g0 records=2 frames=1 instructions=3\n\
         1 g1 records=3 frames=2 instructions=11\n2 g0 records=2 frames=1 instructions=3\n";
-    play(
-        &rt,
-        &[
-            Step::Write("E", Content::Program(&EXIT_FIVE)),
-            Step::Write("F", Content::Program(&HELLO)),
-            done("new s", b"", b""),
-            done(
-                "record s E F",
-                b"hi\n",
-                b"g0: end exited 5, records 2\ng1: end exited 0, records 3\n",
-            ),
-            done("record s E", b"", b"g0: end exited 5, records 2\n"),
-            done("list s", listed, b""),
-            done("replay s 1", b"hi\n", b""),
-            done(
-                "dump s 2",
-                b"0 opening name=g0 elf=96\n1 call tid=1 count=3 result=00000000 written=0\n",
-                b"",
-            ),
-            done(
-                "verify s 0",
-                b"ok records=2 instructions=3 end exited 5\n",
-                b"",
-            ),
-            done(
-                "verify s 1",
-                b"ok records=3 instructions=11 end exited 0\n",
-                b"",
-            ),
-            done(
-                "verify s 2",
-                b"ok records=2 instructions=3 end exited 5\n",
-                b"",
-            ),
-        ],
-    )
+    let files = [
+        ("E", Content::Program(&EXIT_FIVE)),
+        ("F", Content::Program(&HELLO)),
+    ];
+    let steps = [
+        done("record s E F", b"hi\n", reports),
+        done("record s E", b"", FIVE.report),
+        done("list s", listed, b""),
+        done("replay s 1", b"hi\n", b""),
+        done("dump s 2", FIVE_DUMPED, b""),
+        done("verify s 0", FIVE_VERIFIED, b""),
+        done("verify s 1", HI_VERIFIED, b""),
+        done("verify s 2", FIVE_VERIFIED, b""),
+    ];
+    play_in_store(&rt, &files, &steps)
 }
 
 #[test]
@@ -115,17 +89,12 @@ fn sixteen_programs_are_recorded_at_once(rt: HostRuntime) -> Result<(), Fail> {
         g10: end exited 5, records 2\ng11: end exited 5, records 2\n\
         g12: end exited 5, records 2\ng13: end exited 5, records 2\n\
         g14: end exited 5, records 2\ng15: end exited 5, records 2\n";
-    play(
+    play_in_store(
         &rt,
+        &[("E", Content::Program(&EXIT_FIVE))],
         &[
-            Step::Write("E", Content::Program(&EXIT_FIVE)),
-            done("new s", b"", b""),
             done("record s E E E E E E E E E E E E E E E E", b"", reports),
-            done(
-                "verify s 15",
-                b"ok records=2 instructions=3 end exited 5\n",
-                b"",
-            ),
+            done("verify s 15", FIVE_VERIFIED, b""),
             refused("verify s 16", b"rrv: no such guest\n"),
         ],
     )
@@ -133,58 +102,39 @@ fn sixteen_programs_are_recorded_at_once(rt: HostRuntime) -> Result<(), Fail> {
 
 #[test]
 fn checkpoints_are_made_as_often_as_asked(rt: HostRuntime) -> Result<(), Fail> {
-    let dump: &[u8] = b"0 opening name=g0 elf=128\n1 call tid=1 count=8 result=00000003 written=0\n\
+    let reported: &[u8] = b"g0: end exited 0, records 4\n";
+    let dumped: &[u8] =
+        b"0 opening name=g0 elf=128\n1 call tid=1 count=8 result=00000003 written=0\n\
         2 part pages=1 last=yes\n3 call tid=1 count=3 result=00000000 written=0\n";
-    play(
-        &rt,
-        &[
-            Step::Write("F", Content::Program(&HELLO)),
-            done("new s", b"", b""),
-            done(
-                "record --every 8 s F",
-                b"hi\n",
-                b"g0: end exited 0, records 4\n",
-            ),
-            done("dump s 0", dump, b""),
-            done(
-                "verify s 0",
-                b"ok records=4 instructions=11 end exited 0\n",
-                b"",
-            ),
-            done("list s", b"0 g0 records=4 frames=2 instructions=11\n", b""),
-            done(
-                "record --every 0 s F",
-                b"hi\n",
-                b"g0: end exited 0, records 3\n",
-            ),
-        ],
-    )
+    let verified: &[u8] = b"ok records=4 instructions=11 end exited 0\n";
+    let listed: &[u8] = b"0 g0 records=4 frames=2 instructions=11\n";
+    let steps = [
+        done("record --every 8 s F", HI.out, reported),
+        done("dump s 0", dumped, b""),
+        done("verify s 0", verified, b""),
+        done("list s", listed, b""),
+        done("record --every 0 s F", HI.out, HI.report),
+    ];
+    play_in_store(&rt, &[("F", Content::Program(&HELLO))], &steps)
 }
 
 #[test]
 fn slices_are_as_long_as_asked(rt: HostRuntime) -> Result<(), Fail> {
     // 100 turns of two instructions, one before them and two behind them.
-    play(
+    let dumped: &[u8] =
+        b"0 opening name=g0 elf=104\n1 preempt tid=1 count=64\n2 preempt tid=1 count=64\n\
+        3 preempt tid=1 count=64\n4 call tid=1 count=11 result=00000000 written=0\n";
+    let (five, two): (&[u8], &[u8]) = (
+        b"g0: end exited 0, records 5\n",
+        b"g0: end exited 0, records 2\n",
+    );
+    play_in_store(
         &rt,
+        &[("loop", Content::Program(&LOOP))],
         &[
-            Step::Write("loop", Content::Program(&LOOP)),
-            done("new s", b"", b""),
-            done(
-                "record --quantum 64 s loop",
-                b"",
-                b"g0: end exited 0, records 5\n",
-            ),
-            done(
-                "dump s 0",
-                b"0 opening name=g0 elf=104\n1 preempt tid=1 count=64\n2 preempt tid=1 count=64\n\
-                3 preempt tid=1 count=64\n4 call tid=1 count=11 result=00000000 written=0\n",
-                b"",
-            ),
-            done(
-                "record --quantum 1048576 s loop",
-                b"",
-                b"g0: end exited 0, records 2\n",
-            ),
+            done("record --quantum 64 s loop", b"", five),
+            done("dump s 0", dumped, b""),
+            done("record --quantum 1048576 s loop", b"", two),
         ],
     )
 }
@@ -192,26 +142,18 @@ fn slices_are_as_long_as_asked(rt: HostRuntime) -> Result<(), Fail> {
 #[test]
 fn a_guest_that_faults_is_done(rt: HostRuntime) -> Result<(), Fail> {
     // EBREAK, at the entry 0x10054.
-    play_recorded(
-        &rt,
-        &[0x0010_0073],
-        (
-            b"",
-            b"g0: end faulted 2, records 2\nfault breakpoint at 1 thread 1 pc 00010054 word 00100073\n",
-        ),
-        &[
-            done(
-                "dump s 0",
-                b"0 opening name=g0 elf=88\n1 fault tid=1 count=1 kind=2\n",
-                b"",
-            ),
-            done(
-                "verify s 0",
-                b"ok records=2 instructions=1 end faulted 2\n",
-                b"",
-            ),
-        ],
-    )
+    let breaks = Known {
+        words: &[0x0010_0073],
+        out: b"",
+        report: b"g0: end faulted 2, records 2\nfault breakpoint at 1 thread 1 pc 00010054 word 00100073\n",
+    };
+    let dumped: &[u8] = b"0 opening name=g0 elf=88\n1 fault tid=1 count=1 kind=2\n";
+    let verified: &[u8] = b"ok records=2 instructions=1 end faulted 2\n";
+    let steps = [
+        done("dump s 0", dumped, b""),
+        done("verify s 0", verified, b""),
+    ];
+    play_recorded(&rt, breaks, &steps)
 }
 
 #[test]
@@ -222,28 +164,22 @@ fn the_seed_determines_random_bytes(rt: HostRuntime) -> Result<(), Fail> {
     let zero: &[u8] = b"\xcd\x97\x23\xab\xb2\xa6\x24\x00\xb1\x00\xa4\x60\xed\x1b\x5b\x11";
     let seeded: &[u8] = b"\xb1\x8f\xa4\x7c\xd5\x7b\x82\xc2\x8e\xb7\xad\xd9\x6b\x40\x02\x2f";
     let zero_of_1: &[u8] = b"\xbb\x7e\xad\x7c\x63\x96\x71\xbb\x53\x9b\xa9\xac\x91\xa3\xed\x09";
-    play(
+    let one: &[u8] = b"g0: end exited 16, records 3\n";
+    let two: &[u8] = b"g0: end exited 5, records 2\ng1: end exited 16, records 3\n";
+    let zeros = "record --seed 00000000000000000000000000000000 s R";
+    let rising = "record --seed 000102030405060708090a0B0C0D0E0F s R";
+    let programs = [
+        ("R", Content::Program(&OPENING_RANDOM)),
+        ("E", Content::Program(&EXIT_FIVE)),
+    ];
+    play_in_store(
         &rt,
+        &programs,
         &[
-            Step::Write("R", Content::Program(&OPENING_RANDOM)),
-            Step::Write("E", Content::Program(&EXIT_FIVE)),
-            done("new s", b"", b""),
-            done("record s R", zero, b"g0: end exited 16, records 3\n"),
-            done(
-                "record s E R",
-                zero_of_1,
-                b"g0: end exited 5, records 2\ng1: end exited 16, records 3\n",
-            ),
-            done(
-                "record --seed 00000000000000000000000000000000 s R",
-                zero,
-                b"g0: end exited 16, records 3\n",
-            ),
-            done(
-                "record --seed 000102030405060708090a0B0C0D0E0F s R",
-                seeded,
-                b"g0: end exited 16, records 3\n",
-            ),
+            done("record s R", zero, one),
+            done("record s E R", zero_of_1, two),
+            done(zeros, zero, one),
+            done(rising, seeded, one),
             done("replay s 0", zero, b""),
             done("replay s 2", zero_of_1, b""),
             done("replay s 4", seeded, b""),
@@ -261,13 +197,14 @@ fn guests_read_the_input_and_take_random_bytes(rt: HostRuntime) -> Result<(), Fa
     let empty: &[u8] =
         b"\x9d\x90\x8e\xff\xff\xff\xff\xff\xff\xff\xff\xff\xff\xff\xff\xff\xff\xff\xff\xff\xff\xff\xff\xff";
     let report: &[u8] = b"g0: end exited 0, records 5\n";
-    play(
+    play_in_store(
         &rt,
         &[
-            Step::Write("R", Content::Program(&READ_THEN_RANDOM)),
-            Step::Write("digits", Content::Bytes(b"0123456789ab")),
-            Step::Write("letters", Content::Bytes(b"abc")),
-            done("new s", b"", b""),
+            ("R", Content::Program(&READ_THEN_RANDOM)),
+            ("digits", Content::Bytes(b"0123456789ab")),
+            ("letters", Content::Bytes(b"abc")),
+        ],
+        &[
             done("record --input digits s R", whole, report),
             done("record --input letters s R", short, report),
             done("record s R", empty, report),
@@ -280,46 +217,42 @@ fn guests_read_the_input_and_take_random_bytes(rt: HostRuntime) -> Result<(), Fa
 
 #[test]
 fn the_input_has_a_limit(rt: HostRuntime) -> Result<(), Fail> {
-    play(
-        &rt,
-        &[
-            Step::Write("E", Content::Program(&EXIT_FIVE)),
-            Step::Write("most", Content::Zeros(1_048_576)),
-            Step::Write("more", Content::Zeros(1_048_577)),
-            done("new s", b"", b""),
-            done(
-                "record --input most s E",
-                b"",
-                b"g0: end exited 5, records 2\n",
-            ),
-            refused("record --input more s E", b"rrv: cannot read file\n"),
-            done("list s", b"0 g0 records=2 frames=1 instructions=3\n", b""),
-        ],
-    )
+    let files = [
+        ("E", Content::Program(&EXIT_FIVE)),
+        ("most", Content::Zeros(1_048_576)),
+        ("more", Content::Zeros(1_048_577)),
+    ];
+    let steps = [
+        done("record --input most s E", FIVE.out, FIVE.report),
+        refused("record --input more s E", b"rrv: cannot read file\n"),
+        done("list s", FIVE_LISTED, b""),
+    ];
+    play_in_store(&rt, &files, &steps)
 }
+
+/// A program that exits with the seconds since 1970 over 2^30, which are 1 from 2004 to 2038.
+const SINCE_1970: [u32; 9] = [
+    0x7FF00437, 0x00000513, 0x00040593, 0x19300893, 0x00000073, 0x00042503, 0x01E55513, 0x05D00893,
+    0x00000073,
+];
+
+/// One that exits with the seconds since the start over 2^8.
+const SINCE_START: [u32; 9] = [
+    0x7FF00437, 0x00100513, 0x00040593, 0x19300893, 0x00000073, 0x00042503, 0x00855513, 0x05D00893,
+    0x00000073,
+];
 
 #[test]
 fn clocks_count_from_1970_and_from_the_start(rt: HostRuntime) -> Result<(), Fail> {
-    // They exit with the seconds since 1970 over 2^30, 1 from 2004 to 2038, and with those since the start over 2^8.
-    let real = [
-        0x7FF00437, 0x00000513, 0x00040593, 0x19300893, 0x00000073, 0x00042503, 0x01E55513,
-        0x05D00893, 0x00000073,
-    ];
-    let monotonic = [
-        0x7FF00437, 0x00100513, 0x00040593, 0x19300893, 0x00000073, 0x00042503, 0x00855513,
-        0x05D00893, 0x00000073,
-    ];
-    play(
+    let reports: &[u8] = b"g0: end exited 1, records 3\ng1: end exited 0, records 3\n";
+    play_in_store(
         &rt,
         &[
-            Step::Write("real", Content::Program(&real)),
-            Step::Write("monotonic", Content::Program(&monotonic)),
-            done("new s", b"", b""),
-            done(
-                "record s real monotonic",
-                b"",
-                b"g0: end exited 1, records 3\ng1: end exited 0, records 3\n",
-            ),
+            ("real", Content::Program(&SINCE_1970)),
+            ("monotonic", Content::Program(&SINCE_START)),
+        ],
+        &[
+            done("record s real monotonic", b"", reports),
             done(
                 "verify s 0",
                 b"ok records=3 instructions=9 end exited 1\n",
@@ -336,19 +269,14 @@ fn clocks_count_from_1970_and_from_the_start(rt: HostRuntime) -> Result<(), Fail
 
 #[test]
 fn a_file_of_the_greatest_length_is_recorded(rt: HostRuntime) -> Result<(), Fail> {
-    play(
-        &rt,
-        &[
-            Step::Write("most", Content::Filled(&EXIT_FIVE, 2_097_152)),
-            Step::Write("more", Content::Filled(&EXIT_FIVE, 2_097_153)),
-            done("new s", b"", b""),
-            done("record s most", b"", b"g0: end exited 5, records 2\n"),
-            refused("record s more", b"rrv: cannot read file\n"),
-            done(
-                "dump s 0",
-                b"0 opening name=g0 elf=2097152\n1 call tid=1 count=3 result=00000000 written=0\n",
-                b"",
-            ),
-        ],
-    )
+    let dumped: &[u8] =
+        b"0 opening name=g0 elf=2097152\n1 call tid=1 count=3 result=00000000 written=0\n";
+    let most = Content::Filled(&EXIT_FIVE, 2_097_152);
+    let more = Content::Filled(&EXIT_FIVE, 2_097_153);
+    let steps = [
+        done("record s most", FIVE.out, FIVE.report),
+        refused("record s more", b"rrv: cannot read file\n"),
+        done("dump s 0", dumped, b""),
+    ];
+    play_in_store(&rt, &[("most", most), ("more", more)], &steps)
 }

@@ -30,6 +30,14 @@ pub(crate) enum Content<'a> {
     Zeros(usize),
 }
 
+/// A program, and what it puts out and what is reported of it where it is recorded alone.
+#[derive(Clone, Copy)]
+pub(crate) struct Known<'a> {
+    pub(crate) words: &'a [u32],
+    pub(crate) out: &'a [u8],
+    pub(crate) report: &'a [u8],
+}
+
 /// A step of a scene.
 #[derive(Clone, Copy, Debug)]
 pub(crate) enum Step<'a> {
@@ -190,30 +198,78 @@ where
     Ok(())
 }
 
-/// The same behind the recording of a program `f` in a new store, which reports so.
-pub(crate) fn play_recorded<'a, R>(
+/// The same behind the making of these files and of a new store `s`.
+pub(crate) fn play_in_store<'a, R>(
     rt: &R,
-    program: &'a [u32],
-    report: (&'a [u8], &'a [u8]),
+    files: &[(&'a str, Content<'a>)],
     steps: &[Step<'a>],
 ) -> Result<(), Fail>
 where
     R: Abort + AllocGlobal + Files<File = File> + Input + Threads + Wait + Sync + Clock,
 {
-    let before = [
-        Step::Write("f", Content::Program(program)),
-        Step::Line("new s", 0, b"", b""),
-        Step::Line("record s f", 0, report.0, report.1),
-    ];
-    clear(rt, steps);
-    clear(rt, &before);
-    for step in &before {
-        play_step(rt, step)?;
+    let mut scene = Vec::new(rt.alloc());
+    for (name, content) in files {
+        scene.push(Step::Write(*name, *content))?;
     }
-    for step in steps {
-        play_step(rt, step)?;
+    scene.push(done("new s", b"", b""))?;
+    scene.extend_from_slice(steps)?;
+    play(rt, &scene)
+}
+
+/// The same behind the recording of a program `f` in a new store.
+pub(crate) fn play_recorded<'a, R>(
+    rt: &R,
+    program: Known<'a>,
+    steps: &[Step<'a>],
+) -> Result<(), Fail>
+where
+    R: Abort + AllocGlobal + Files<File = File> + Input + Threads + Wait + Sync + Clock,
+{
+    let mut scene = Vec::new(rt.alloc());
+    scene.push(done("record s f", program.out, program.report))?;
+    scene.extend_from_slice(steps)?;
+    play_in_store(rt, &[("f", Content::Program(program.words))], &scene)
+}
+
+/// The same of lines that each end with this status, this output, and these errors.
+fn play_alike<'a, R>(
+    rt: &R,
+    program: Known<'a>,
+    lines: &[&'a str],
+    (status, out, err): (u8, &'a [u8], &'a [u8]),
+) -> Result<(), Fail>
+where
+    R: Abort + AllocGlobal + Files<File = File> + Input + Threads + Wait + Sync + Clock,
+{
+    let mut steps = Vec::new(rt.alloc());
+    for line in lines {
+        steps.push(Step::Line(*line, status, out, err))?;
     }
-    clear(rt, steps);
-    clear(rt, &before);
-    Ok(())
+    play_recorded(rt, program, &steps)
+}
+
+/// The same of lines that are each done, and put out the same.
+pub(crate) fn put_out_alike<'a, R>(
+    rt: &R,
+    program: Known<'a>,
+    lines: &[&'a str],
+    out: &'a [u8],
+) -> Result<(), Fail>
+where
+    R: Abort + AllocGlobal + Files<File = File> + Input + Threads + Wait + Sync + Clock,
+{
+    play_alike(rt, program, lines, (0, out, b""))
+}
+
+/// The same of lines that are each refused so.
+pub(crate) fn refused_alike<'a, R>(
+    rt: &R,
+    program: Known<'a>,
+    lines: &[&'a str],
+    err: &'a [u8],
+) -> Result<(), Fail>
+where
+    R: Abort + AllocGlobal + Files<File = File> + Input + Threads + Wait + Sync + Clock,
+{
+    play_alike(rt, program, lines, (1, b"", err))
 }

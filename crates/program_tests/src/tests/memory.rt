@@ -5,7 +5,7 @@ use super::recordings::verified_of;
 use recover::ReadFault;
 use replayer::{Verified, VerifyFault, verify};
 use reverse_step::{Cursor, SeekFault};
-use rrv_model::machine::{Permissions, Regs, Thread};
+use rrv_model::machine::{Regs, Thread};
 use rrv_model::record::{
     CheckpointRest, End, Frame, Item, Line, Opening, PagePart, Part, Record, ThreadPart,
 };
@@ -14,6 +14,7 @@ use std::alloc::{AllocError, Global};
 use std::process::Abort;
 use std::test::Fail;
 use test_guests::files::{COUNT_UP, file_of};
+use test_guests::permissions::DATA;
 
 /// Where `COUNT_UP` stores.
 const STORED: u32 = 0x7FF0_0000;
@@ -49,11 +50,7 @@ fn page_at(alloc: Global, at: u32) -> Result<PagePart, AllocError> {
     bytes[..4].copy_from_slice(&stored.to_le_bytes());
     Ok(PagePart {
         number: STORED / 4096,
-        permissions: Some(Permissions {
-            read: true,
-            write: true,
-            execute: false,
-        }),
+        permissions: Some(DATA),
         mask: 1,
         lines: Sequence::from_vec(vec![in alloc; Line { bytes }]?),
     })

@@ -1,10 +1,31 @@
-//! The programs that lines of tests record, beside those that tests share.
+//! The programs that lines of tests record.
 
-/// It writes `hi` and a newline as the one that tests share does, but to descriptor 2.
-pub(crate) const HELLO_TO_ERRORS: [u32; 11] = [
-    0xFF010593, 0x000A7537, 0x96850513, 0x00A5A023, 0x00200513, 0x00300613, 0x04000893, 0x00000073,
-    0x00000513, 0x05D00893, 0x00000073,
-];
+use super::kit::Known;
+use test_guests::files::{EXIT_FIVE, HELLO};
+
+/// It exits with 5.
+pub(crate) const FIVE: Known<'static> = Known {
+    words: &EXIT_FIVE,
+    out: b"",
+    report: b"g0: end exited 5, records 2\n",
+};
+
+/// It writes `hi` and a newline.
+pub(crate) const HI: Known<'static> = Known {
+    words: &HELLO,
+    out: b"hi\n",
+    report: b"g0: end exited 0, records 3\n",
+};
+
+/// It does so to descriptor 2.
+pub(crate) const HI_TO_ERRORS: Known<'static> = Known {
+    words: &[
+        0xFF010593, 0x000A7537, 0x96850513, 0x00A5A023, 0x00200513, 0x00300613, 0x04000893,
+        0x00000073, 0x00000513, 0x05D00893, 0x00000073,
+    ],
+    out: b"",
+    report: b"hi\ng0: end exited 0, records 3\n",
+};
 
 /// It writes the 16 random bytes of its opening, at 0x7FFFFFF0, and exits with 16.
 pub(crate) const OPENING_RANDOM: [u32; 8] = [

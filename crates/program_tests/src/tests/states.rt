@@ -1,13 +1,8 @@
 //! The lines that print the state at a place of a recording.
 
-use super::kit::{done, play_recorded, refused};
+use super::kit::{put_out_alike, refused_alike};
+use super::programs::{FIVE, HI};
 use std::test::Fail;
-use test_guests::files::{EXIT_FIVE, HELLO};
-
-/// What is reported of a program that exits with 5, and of one that writes `hi`.
-const FIVE: (&[u8], &[u8]) = (b"", b"g0: end exited 5, records 2\n");
-
-const HI: (&[u8], &[u8]) = (b"hi\n", b"g0: end exited 0, records 3\n");
 
 // The digests are those of a script that lays the pages out as the ELF file and the opening state have them: for a file of
 // these words and the name `g0`, the file's page, then those of the stack with the 16 random bytes, the name and the 18 words.
@@ -21,7 +16,7 @@ const BEFORE_EXIT: &[u8] = b"at 2 of 3\nend none\nbreak 00011000\nreservation no
     x28 00000000 x29 00000000 x30 00000000 x31 00000000\n\
     pages 257 digest 264b47cf315dfe4dd83a8600fba4e21c0a7584e6274d426b4cfe0acbc0a34d52\n";
 
-/// Its state behind that, without a thread.
+/// The state of the program that exits with 5 behind its last instruction, without a thread.
 const EXITED: &[u8] = b"at 3 of 3\nend exited 5\nbreak 00011000\nreservation none\n\
     pages 257 digest 264b47cf315dfe4dd83a8600fba4e21c0a7584e6274d426b4cfe0acbc0a34d52\n";
 
@@ -36,56 +31,44 @@ const BEFORE_STORE: &[u8] = b"at 3 of 11\nend none\nbreak 00011000\nreservation 
 
 #[test]
 fn the_state_at_a_place_is_printed(rt: HostRuntime) -> Result<(), Fail> {
-    play_recorded(
-        &rt,
-        &EXIT_FIVE,
-        FIVE,
-        &[
-            done("back s 0 3 1", BEFORE_EXIT, b""),
-            done("back s 0 2 0", BEFORE_EXIT, b""),
-            done("replay --at 2 s 0", BEFORE_EXIT, b""),
-            done("replay s 0 --at 2", BEFORE_EXIT, b""),
-            done("replay --at 3 s 0", EXITED, b""),
-            done("replay --at end s 0", EXITED, b""),
-            done("back s 0 3 0", EXITED, b""),
-        ],
-    )
+    let lines = [
+        "back s 0 3 1",
+        "back s 0 2 0",
+        "replay --at 2 s 0",
+        "replay s 0 --at 2",
+    ];
+    put_out_alike(&rt, FIVE, &lines, BEFORE_EXIT)?;
+    let lines = ["replay --at 3 s 0", "replay --at end s 0", "back s 0 3 0"];
+    put_out_alike(&rt, FIVE, &lines, EXITED)
 }
 
 #[test]
 fn places_outside_are_refused(rt: HostRuntime) -> Result<(), Fail> {
-    let before: &[u8] = b"rrv: before the start\n";
-    let past: &[u8] = b"rrv: past the end\n";
-    play_recorded(
-        &rt,
-        &EXIT_FIVE,
-        FIVE,
-        &[
-            refused("back s 0 3 4", before),
-            refused("back s 0 0 1", before),
-            refused("back s 0 3 18446744073709551615", before),
-            refused("back s 0 4 1", past),
-            refused("back s 0 4 5", past),
-            refused("back s 0 18446744073709551615 1", past),
-            refused("replay --at 4 s 0", past),
-            refused("last s 0 4 7FFFFF90", past),
-        ],
-    )
+    let before = [
+        "back s 0 3 4",
+        "back s 0 0 1",
+        "back s 0 3 18446744073709551615",
+    ];
+    refused_alike(&rt, FIVE, &before, b"rrv: before the start\n")?;
+    let past = [
+        "back s 0 4 1",
+        "back s 0 4 5",
+        "back s 0 18446744073709551615 1",
+        "replay --at 4 s 0",
+        "last s 0 4 7FFFFF90",
+    ];
+    refused_alike(&rt, FIVE, &past, b"rrv: past the end\n")
 }
 
 #[test]
 fn the_last_change_of_a_byte_is_found(rt: HostRuntime) -> Result<(), Fail> {
-    play_recorded(
-        &rt,
-        &HELLO,
-        HI,
-        &[
-            done("last s 0 3 7FFFFF90", b"unchanged\n", b""),
-            done("last s 0 11 7FFFFF90", BEFORE_STORE, b""),
-            done("last s 0 4 7fffff91", BEFORE_STORE, b""),
-            done("last s 0 11 7FFFFF93", b"unchanged\n", b""),
-            done("last s 0 11 0", b"unchanged\n", b""),
-            done("last s 0 0 7FFFFF90", b"unchanged\n", b""),
-        ],
-    )
+    let changed = ["last s 0 11 7FFFFF90", "last s 0 4 7fffff91"];
+    put_out_alike(&rt, HI, &changed, BEFORE_STORE)?;
+    let unchanged = [
+        "last s 0 3 7FFFFF90",
+        "last s 0 11 7FFFFF93",
+        "last s 0 11 0",
+        "last s 0 0 7FFFFF90",
+    ];
+    put_out_alike(&rt, HI, &unchanged, b"unchanged\n")
 }

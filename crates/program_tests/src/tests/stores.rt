@@ -1,17 +1,14 @@
 //! Lines over stores: empty ones, damaged ones, and files that are none.
 
 use super::kit::{Content, Step, done, play, play_recorded, refused, same};
+use super::programs::FIVE;
 use commands::run;
 use std::fs;
 use std::test::Fail;
-use test_guests::files::EXIT_FIVE;
 use trace_disk::FileDisk;
 
 /// The store that `new` makes.
-const EMPTY: Content<'_> = Content::Bytes(b"RRVTRC1\n\0\0\0\0\0\0\0\0\0");
-
-/// What is reported of a program that exits with 5.
-const FIVE: (&[u8], &[u8]) = (b"", b"g0: end exited 5, records 2\n");
+pub(crate) const EMPTY: Content<'_> = Content::Bytes(b"RRVTRC1\n\0\0\0\0\0\0\0\0\0");
 
 #[test]
 fn a_new_store_is_empty(rt: HostRuntime) -> Result<(), Fail> {
@@ -68,7 +65,6 @@ fn a_store_that_is_cut_is_damaged(rt: HostRuntime) -> Result<(), Fail> {
     let damaged: &[u8] = b"rrv: damaged segment 0\n";
     play_recorded(
         &rt,
-        &EXIT_FIVE,
         FIVE,
         &[
             Step::Cut("s", 100),
@@ -91,7 +87,6 @@ fn a_store_that_is_cut_is_damaged(rt: HostRuntime) -> Result<(), Fail> {
 fn a_store_with_another_byte_is_refused(rt: HostRuntime) -> Result<(), Fail> {
     play_recorded(
         &rt,
-        &EXIT_FIVE,
         FIVE,
         &[
             Step::Change("s", 57, 1),
@@ -108,7 +103,6 @@ fn a_store_with_another_byte_is_refused(rt: HostRuntime) -> Result<(), Fail> {
 fn a_store_is_repaired_where_it_is_opened(rt: HostRuntime) -> Result<(), Fail> {
     play_recorded(
         &rt,
-        &EXIT_FIVE,
         FIVE,
         &[
             // The first gate, which was open.

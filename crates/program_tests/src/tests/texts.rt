@@ -72,8 +72,7 @@ fn lines_of_frames(rt: HostRuntime) -> Result<(), Fail> {
         1,
         frame(1, 1, breakpoint),
         "1 fault tid=1 count=1 kind=2",
-    )?;
-    line_is(&rt, 12, frame(0, 0, End::Stuck), "12 stuck")
+    )
 }
 
 #[test]
@@ -117,7 +116,6 @@ fn lines_of_ends(rt: HostRuntime) -> Result<(), Fail> {
             Some(GuestEnd::Faulted(FaultKind::Breakpoint)),
             "end faulted 2",
         ),
-        (Some(GuestEnd::Stuck), "end stuck"),
     ];
     for (end, want) in ends {
         shows(&rt, &EndText::new(end), want)?;

@@ -1,6 +1,6 @@
 //! Calls that ask the outside, recorded and followed.
 
-use super::trial::{Kind, Row, Told, play, same};
+use super::trial::{Row, Told, call, play, same};
 use rrv_model::record::{CallRecord, End, Frame, Written};
 use rrv_model::sequence::Sequence;
 use serial_sched::{FollowFault, SliceFault, follow};
@@ -36,11 +36,7 @@ const STACK: u32 = 0x7FF0_0000;
 
 /// What the slice of a call tells.
 const fn told(value: u32) -> Result<Told, SliceFault> {
-    Ok(Told {
-        tid: 1,
-        count: 5,
-        kind: Kind::Call(value),
-    })
+    call(1, 5, value)
 }
 
 #[test]

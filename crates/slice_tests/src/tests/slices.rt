@@ -1,24 +1,12 @@
 //! How slices end, and which choices are refused.
 
-use super::trial::{Kind, Row, Told, play};
+use super::trial::{Row, call, play, preempt};
 use rrv_model::machine::GuestEnd;
 use serial_sched::{FollowFault, SliceFault};
 use std::alloc::{AllocError, Global};
 use std::test::Fail;
 use test_guests::files::{EXIT_FIVE, file_of, file_with_data};
 use test_guests::words::{A1_BEHIND, ECALL, NO_OP, RESERVE, STORE_CONDITIONAL, a7};
-
-/// `lui a0, 0x10; lw a2, 0(a0); li a7, 98; ecall`: waits at the file's first word, as long as it has its value.
-const WAIT: [u32; 4] = [0x0001_0537, 0x0005_2603, 0x0620_0893, ECALL];
-
-/// What a slice of thread 1 tells.
-const fn told(count: u32, kind: Kind) -> Result<Told, SliceFault> {
-    Ok(Told {
-        tid: 1,
-        count,
-        kind,
-    })
-}
 
 /// A guest whose 64th instruction is an LR, and whose next one is an SC to that address, of 0. A call follows.
 fn reserving(alloc: Global) -> Result<Vec<u8>, AllocError> {
@@ -37,7 +25,7 @@ fn the_third_instruction_exits(rt: HostRuntime) -> Result<(), Fail> {
     let rows = [
         Row::Register(2, 0x7FFF_FFA0),
         Row::Break(0x1_1000),
-        Row::Slice(1, 64, told(3, Kind::Call(0))),
+        Row::Slice(1, 64, call(1, 3, 0)),
         Row::Ranges(0),
         Row::Ended(Some(GuestEnd::Exited(5))),
         Row::Ran(3),
@@ -72,9 +60,9 @@ fn two_steps_and_no_third(rt: HostRuntime) -> Result<(), Fail> {
 fn a_slice_ends_with_its_reservation(rt: HostRuntime) -> Result<(), Fail> {
     let alloc = rt.alloc();
     let rows = [
-        Row::Slice(1, 64, told(64, Kind::Preempt)),
+        Row::Slice(1, 64, preempt(1, 64)),
         Row::Reserved(None),
-        Row::Slice(1, 64, told(3, Kind::Call(0))),
+        Row::Slice(1, 64, call(1, 3, 0)),
         Row::Register(12, 1),
         Row::Word(0x1_1000, 0x464C_457F),
         Row::IsFollowed,
@@ -86,29 +74,10 @@ fn a_slice_ends_with_its_reservation(rt: HostRuntime) -> Result<(), Fail> {
 fn a_longer_slice_keeps_its_reservation(rt: HostRuntime) -> Result<(), Fail> {
     let alloc = rt.alloc();
     let rows = [
-        Row::Slice(1, 128, told(67, Kind::Call(0))),
+        Row::Slice(1, 128, call(1, 67, 0)),
         Row::Register(12, 0),
         Row::Word(0x1_1000, 0),
         Row::Pages(258),
     ];
     play(&rt, alloc, reserving(alloc)?, &rows)
-}
-
-#[test]
-fn a_guest_whose_only_thread_waits_is_stuck(rt: HostRuntime) -> Result<(), Fail> {
-    let alloc = rt.alloc();
-    let stuck = Told {
-        tid: 0,
-        count: 0,
-        kind: Kind::Stuck,
-    };
-    let rows = [
-        Row::Slice(1, 64, told(4, Kind::Call(0))),
-        Row::Ended(None),
-        Row::Slice(1, 64, Ok(stuck)),
-        Row::Ended(Some(GuestEnd::Stuck)),
-        Row::Slice(1, 64, Err(SliceFault::Ended)),
-        Row::IsFollowed,
-    ];
-    play(&rt, alloc, file_with_data(alloc, &WAIT)?, &rows)
 }

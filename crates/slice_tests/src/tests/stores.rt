@@ -1,6 +1,6 @@
 //! Stores at the edge of a page, over a whole slice: each is an instruction like another, and ends no slice.
 
-use super::trial::{Kind, Row, Told, play};
+use super::trial::{Row, Told, play, preempt};
 use serial_sched::SliceFault;
 use std::alloc::{AllocError, Global};
 use std::test::Fail;
@@ -38,11 +38,7 @@ fn file_from(alloc: Global, first: &[u32]) -> Result<Vec<u8>, AllocError> {
 
 /// The frame of a slice of 64 instructions, none of which is a call or a fault.
 const fn whole() -> Result<Told, SliceFault> {
-    Ok(Told {
-        tid: 1,
-        count: 64,
-        kind: Kind::Preempt,
-    })
+    preempt(1, 64)
 }
 
 #[test]

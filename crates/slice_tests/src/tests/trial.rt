@@ -1,8 +1,8 @@
 //! A guest that is played by rows, each of which does something to it or looks for something in it.
 
 use guest_calls::{Guest, Outside};
-use rrv_model::machine::{FaultKind, GuestEnd};
-use rrv_model::record::{Choice, End, Frame};
+use rrv_model::machine::GuestEnd;
+use rrv_model::record::{Choice, Frame};
 use serial_sched::{FollowFault, SliceFault, follow, slice, steps};
 use std::alloc::Global;
 use std::fmt::Debug;
@@ -10,22 +10,33 @@ use std::process::Abort;
 use std::test::Fail;
 use test_guests::files::guest_of_file;
 
-/// How a slice ended.
-#[derive(Clone, Copy, Debug, PartialEq, Eq)]
-pub(crate) enum Kind {
-    Preempt,
-    /// With a call of this result.
-    Call(u32),
-    Fault(FaultKind),
-    Stuck,
-}
-
-/// What a slice tells.
+/// What a slice tells: the thread, its steps, the word for how it ended, and the result of its call.
 #[derive(Clone, Copy, Debug, PartialEq, Eq)]
 pub(crate) struct Told {
     pub(crate) tid: u32,
     pub(crate) count: u32,
-    pub(crate) kind: Kind,
+    pub(crate) kind: &'static str,
+    pub(crate) result: Option<u32>,
+}
+
+/// A slice that was preempted.
+pub(crate) const fn preempt(tid: u32, count: u32) -> Result<Told, SliceFault> {
+    Ok(Told {
+        tid,
+        count,
+        kind: "preempt",
+        result: None,
+    })
+}
+
+/// A slice that ended in a call of this result.
+pub(crate) const fn call(tid: u32, count: u32, value: u32) -> Result<Told, SliceFault> {
+    Ok(Told {
+        tid,
+        count,
+        kind: "call",
+        result: Some(value),
+    })
 }
 
 /// What is done, and what it has to tell; or what has to be found.
@@ -138,7 +149,8 @@ impl Trial {
         let told = Told {
             tid: frame.tid,
             count: frame.count,
-            kind: kind_of(&frame.end),
+            kind: frame.end.kind().name(),
+            result: frame.end.call().map(|call| call.result),
         };
         self.frames.push(frame)?;
         Ok(Ok(told))
@@ -153,10 +165,7 @@ impl Trial {
     }
 
     fn ranges(&self) -> Option<usize> {
-        match &self.frames.last()?.end {
-            End::Call(told) => Some(told.written.as_slice().len()),
-            _ => None,
-        }
+        Some(self.frames.last()?.end.call()?.written.as_slice().len())
     }
 
     fn register(&self, number: usize) -> Option<u32> {
@@ -165,14 +174,5 @@ impl Trial {
 
     fn word(&self, address: u32) -> Option<u32> {
         self.guest.space().load_word(address)
-    }
-}
-
-fn kind_of(end: &End) -> Kind {
-    match end {
-        End::Preempt => Kind::Preempt,
-        End::Call(told) => Kind::Call(told.result),
-        End::Fault(kind) => Kind::Fault(*kind),
-        End::Stuck => Kind::Stuck,
     }
 }

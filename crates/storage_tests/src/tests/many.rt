@@ -5,35 +5,24 @@ use super::worked::{OPENING, call_at};
 use recover::OpenFault;
 use std::test::Fail;
 
-// What stands before these bodies is what this Python prints, with the opening and the function `store` of `logs`:
+// These digests are what this Python prints, with the opening and the function `store` of `logs`:
 //
 //     def call(index):
 //         return struct.pack("<IIBIIIII", 0, index, 2, 16, 1, index, 0, 0)
 //     calls = [call(index) for index in range(1, 65538)]
-//     many = store([opening, *calls[:300]])
-//     for text, place in [(many[:21118] + b"\0", 21048), (many, 21118), (store([opening + b"".join(calls)]), 16)]:
-//         print(len(text), ", ".join("0x%02X" % byte for byte in text[place:place + 41]))
+//     long = opening + b"".join(calls)
+//     for body in [calls[298], calls[299], long]:
+//         print(len(body), hashlib.sha256(body).hexdigest())
+//     print(len(store([opening, *calls[:299]])), len(store([opening, *calls[:300]])), len(store([long])))
 //
-// The 300th segment of a store of 21,119 bytes, whose body is the call of index 299.
-const BEFORE_300TH_BODY: [u8; 41] = [
-    0xA5, 0x1D, 0x00, 0x00, 0x00, 0x2B, 0x01, 0x00, 0x00, 0x4D, 0xA3, 0xDD, 0xEC, 0xD2, 0x4B, 0xA5,
-    0x21, 0x58, 0x6C, 0x73, 0x04, 0xD6, 0x2F, 0x44, 0xCB, 0x5E, 0x4D, 0x07, 0x19, 0x5B, 0x0D, 0xC7,
-    0xD3, 0xC8, 0x96, 0x8A, 0x3D, 0x4E, 0x9D, 0xAC, 0xDE,
-];
+// The body of the 300th segment, of a store of 21,119 bytes, is the call of index 299.
+const CALL_299: &str = "4da3ddecd24ba521586c7304d62f44cb5e4d07195b0dc7d3c8968a3d4e9dacde";
 
 // The one behind it, to 21,189 bytes.
-const BEFORE_301ST_BODY: [u8; 41] = [
-    0xA5, 0x1D, 0x00, 0x00, 0x00, 0x2C, 0x01, 0x00, 0x00, 0x84, 0x11, 0xA4, 0xED, 0x1B, 0xD4, 0x96,
-    0x6F, 0x08, 0x32, 0x51, 0x98, 0xEC, 0x8E, 0x0C, 0x5B, 0x2E, 0x9E, 0x6B, 0x43, 0xA3, 0x4F, 0x77,
-    0x15, 0x75, 0x22, 0x62, 0x89, 0x38, 0x34, 0xA3, 0xAB,
-];
+const CALL_300: &str = "8411a4ed1bd4966f08325198ec8e0c5b2e9e6b43a34f7715752262893834a3ab";
 
-// The one segment of a store of 1,900,762 bytes: an opening and 65,537 calls.
-const BEFORE_LONG_BODY: [u8; 41] = [
-    0xA5, 0xA0, 0x00, 0x1D, 0x00, 0x00, 0x00, 0x00, 0x00, 0x4E, 0x8D, 0x2E, 0xB1, 0x0A, 0xD7, 0xFB,
-    0x2F, 0x00, 0xC0, 0xF1, 0xCF, 0x17, 0xCF, 0x55, 0xD5, 0x88, 0xE9, 0x9A, 0x1B, 0xE9, 0xE8, 0x82,
-    0x04, 0x28, 0x2D, 0x44, 0xCA, 0x54, 0x29, 0xAC, 0x4E,
-];
+// The one body of a store of 1,900,762 bytes: an opening and 65,537 calls.
+const LONG: &str = "4e8d2eb10ad7fb2f00c0f1cf17cf55d588e99a1be9e88204282d44ca5429ac4e";
 
 // A record in each of 300 segments; and once they are opened, a further one.
 #[test]
@@ -45,7 +34,7 @@ fn three_hundred_segments(rt: HostRuntime) -> Result<(), Fail> {
         Row::CommitCalls(1, 300),
         Row::Close,
         Row::Len(21_119),
-        Row::Bytes(21_048, &BEFORE_300TH_BODY),
+        Row::Front(21_048, 29, 299, CALL_299),
         Row::Bytes(21_118, &[0]),
         Row::Open(None),
         Row::NextGuest(1),
@@ -57,7 +46,7 @@ fn three_hundred_segments(rt: HostRuntime) -> Result<(), Fail> {
         Row::Call(0, 256, 1, 256),
         Row::Call(0, 299, 1, 299),
         Row::Len(21_189),
-        Row::Bytes(21_118, &BEFORE_301ST_BODY),
+        Row::Front(21_118, 29, 300, CALL_300),
         Row::Open(None),
         Row::Records(0, 301),
     ];
@@ -89,7 +78,7 @@ fn indexes_above_65_535(rt: HostRuntime) -> Result<(), Fail> {
         Row::Commit(None),
         Row::Close,
         Row::Len(1_900_762),
-        Row::Bytes(16, &BEFORE_LONG_BODY),
+        Row::Front(16, 1_900_704, 0, LONG),
         Row::Open(None),
         Row::Records(0, 65_538),
         Row::Close,

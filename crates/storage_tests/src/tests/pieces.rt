@@ -3,11 +3,10 @@
 use super::device::{bytes_of, crashed, disk_of};
 use super::limits::store_of;
 use super::machine::{Machine, new_disk};
-use super::rows::{Row, play_on};
+use super::rows::{Row, frame_in, one_body, play_on};
 use super::same;
-use super::worked::{CALL, OPENING};
 use recover::{Lists, OpenFault, ReadFault, open, open_in_pieces, read};
-use rrv_model::record::{End, Item, Record};
+use rrv_model::record::{End, Record};
 use std::alloc::Global;
 use std::process::Abort;
 use std::test::Fail;
@@ -20,27 +19,18 @@ use trace_disk::{Disk, DiskFailed, FailOnce, MemDisk};
 //     payload = struct.pack("<I", len(elf)) + elf + b"\x01a" + bytes(16)
 //     opening = struct.pack("<IIBI", 0, 0, 0, len(payload)) + payload
 //     records = [opening, *(struct.pack("<IIBIII", 0, index, 1, 8, 1, 64) for index in range(1, 256))]
-//     text = store([b"".join(records[first:first + 64]) for first in range(0, 256, 64)])
-//     print(opening, len(text), text[4273:4314])
+//     bodies = [b"".join(records[first:first + 64]) for first in range(0, 256, 64)]
+//     print(opening, len(store(bodies)), len(bodies[3]), hashlib.sha256(bodies[3]).hexdigest())
 //
-// The opening record of a guest that jumps to where it stands, 123 bytes.
-const SPIN: [u8; 123] = [
-    0x00, 0x00, 0x00, 0x00, 0x00, 0x00, 0x00, 0x00, 0x00, 0x6E, 0x00, 0x00, 0x00, 0x58, 0x00, 0x00,
-    0x00, 0x7F, 0x45, 0x4C, 0x46, 0x01, 0x01, 0x01, 0x00, 0x00, 0x00, 0x00, 0x00, 0x00, 0x00, 0x00,
-    0x00, 0x02, 0x00, 0xF3, 0x00, 0x01, 0x00, 0x00, 0x00, 0x54, 0x00, 0x01, 0x00, 0x34, 0x00, 0x00,
-    0x00, 0x00, 0x00, 0x00, 0x00, 0x00, 0x00, 0x00, 0x00, 0x34, 0x00, 0x20, 0x00, 0x01, 0x00, 0x00,
-    0x00, 0x00, 0x00, 0x00, 0x00, 0x01, 0x00, 0x00, 0x00, 0x00, 0x00, 0x00, 0x00, 0x00, 0x00, 0x01,
-    0x00, 0x00, 0x00, 0x01, 0x00, 0x58, 0x00, 0x00, 0x00, 0x58, 0x00, 0x00, 0x00, 0x05, 0x00, 0x00,
-    0x00, 0x04, 0x00, 0x00, 0x00, 0x6F, 0x00, 0x00, 0x00, 0x01, 0x61, 0x00, 0x00, 0x00, 0x00, 0x00,
-    0x00, 0x00, 0x00, 0x00, 0x00, 0x00, 0x00, 0x00, 0x00, 0x00, 0x00,
-];
+// The opening record of a guest that jumps to where it stands.
+const SPIN: &[u8; 123] =
+    b"\0\0\0\0\0\0\0\0\0\x6E\0\0\0\x58\0\0\0\x7FELF\x01\x01\x01\0\0\0\0\0\0\0\0\0\
+    \x02\0\xF3\0\x01\0\0\0\x54\0\x01\0\x34\0\0\0\0\0\0\0\0\0\0\0\x34\0\x20\0\x01\0\0\0\0\0\0\0\
+    \x01\0\0\0\0\0\0\0\0\0\x01\0\0\0\x01\0\x58\0\0\0\x58\0\0\0\x05\0\0\0\x04\0\0\0\x6F\0\0\0\
+    \x01\x61\0\0\0\0\0\0\0\0\0\0\0\0\0\0\0\0";
 
-// The fourth segment of its store, in front of the body.
-const BEFORE_LAST_BODY: [u8; 41] = [
-    0xA5, 0x40, 0x05, 0x00, 0x00, 0x03, 0x00, 0x00, 0x00, 0xB0, 0xC9, 0x57, 0xCF, 0x0B, 0xCA, 0x15,
-    0x41, 0x5A, 0x9B, 0x56, 0x0A, 0x83, 0xFA, 0x64, 0x3E, 0x8E, 0x94, 0x8F, 0x7B, 0x73, 0x21, 0x4A,
-    0x31, 0x4E, 0xEB, 0x4A, 0xE5, 0x8B, 0x54, 0xCC, 0xF2,
-];
+// The fourth body of its store.
+const LAST_BODY: &str = "b0c957cf0bca15415a9b560a83fa643e8e948f7b73214a314eeb4ae58b54ccf2";
 
 // Its record of this index, 64 instructions of thread 1: 21 bytes.
 fn preempt_at(index: u32) -> [u8; 21] {
@@ -51,32 +41,6 @@ fn preempt_at(index: u32) -> [u8; 21] {
     bytes
 }
 
-// A record's guest and index, and a preempt's tid and count.
-fn preempt_in(record: &Record) -> Option<(u32, u32, u32, u32)> {
-    let Item::Frame(frame) = &record.item else {
-        return None;
-    };
-    let End::Preempt = &frame.end else {
-        return None;
-    };
-    Some((record.guest, record.index, frame.tid, frame.count))
-}
-
-// Commits the records of these indexes as a body, behind what is to be committed.
-fn commit_preempts(
-    rt: &impl Abort,
-    alloc: Global,
-    machine: &mut Machine,
-    from: u32,
-    to: u32,
-) -> Result<(), Fail> {
-    for index in from..to {
-        machine.put(&preempt_at(index))?;
-    }
-    same(rt, &(from, to), machine.commit(alloc)?, None);
-    Ok(())
-}
-
 // The store of the guest that jumps to where it stands: 256 records, 64 in each body.
 fn spin_store(rt: &impl Abort, alloc: Global) -> Result<MemDisk, Fail> {
     let mut machine = Machine::new(alloc, new_disk(alloc)?, 0);
@@ -84,19 +48,21 @@ fn spin_store(rt: &impl Abort, alloc: Global) -> Result<MemDisk, Fail> {
         rt,
         alloc,
         &mut machine,
-        &[Row::Create(None), Row::Body(&SPIN)],
+        &[Row::Create(None), Row::Body(SPIN)],
     )?;
-    commit_preempts(rt, alloc, &mut machine, 1, 64)?;
-    commit_preempts(rt, alloc, &mut machine, 64, 128)?;
-    commit_preempts(rt, alloc, &mut machine, 128, 192)?;
-    commit_preempts(rt, alloc, &mut machine, 192, 256)?;
+    for index in 1..256 {
+        machine.put(&preempt_at(index))?;
+        if index % 64 == 63 {
+            same(rt, &index, machine.commit(alloc)?, None);
+        }
+    }
     let rows = [
         Row::Close,
         Row::Len(5_659),
         Row::Bytes(16, &[0xA5]),
         Row::Bytes(1_503, &[0xA5]),
         Row::Bytes(2_888, &[0xA5]),
-        Row::Bytes(4_273, &BEFORE_LAST_BODY),
+        Row::Front(4_273, 1_344, 3, LAST_BODY),
         Row::Bytes(5_658, &[0]),
     ];
     play_on(rt, alloc, &mut machine, &rows)?;
@@ -174,12 +140,11 @@ fn has_spin<D: Disk>(
     same(rt, &piece, lists.len(0), 256);
     for index in 1..256 {
         let record = item_in(alloc, lists, disk, index)??;
-        same(
-            rt,
-            &(piece, index),
-            preempt_in(&record),
-            Some((0, index, 1, 64)),
-        );
+        let preempt = match frame_in(&record) {
+            Some((frame, End::Preempt)) => Some(frame),
+            _ => None,
+        };
+        same(rt, &(piece, index), preempt, Some((0, index, 1, 64)));
     }
     Ok(())
 }
@@ -241,17 +206,8 @@ fn pieces_of_a_long_store_that_is_read(rt: HostRuntime) -> Result<(), Fail> {
 }
 
 // The store of the worked records in one body, 218 bytes.
-fn one_body(rt: &impl Abort, alloc: Global) -> Result<Vec<u8>, Fail> {
-    let mut machine = Machine::new(alloc, new_disk(alloc)?, 0);
-    let rows = [
-        Row::Create(None),
-        Row::Body(&OPENING),
-        Row::Body(&CALL),
-        Row::Commit(None),
-        Row::Close,
-        Row::Len(218),
-    ];
-    play_on(rt, alloc, &mut machine, &rows)?;
+fn worked_store(rt: &impl Abort, alloc: Global) -> Result<Vec<u8>, Fail> {
+    let mut machine = one_body(rt, alloc)?;
     bytes_of(alloc, machine.device()?)
 }
 
@@ -271,7 +227,7 @@ fn is_damaged(rt: &impl Abort, alloc: Global, bytes: &[u8], piece: usize) -> Res
 #[test]
 fn damaged_in_pieces(rt: HostRuntime) -> Result<(), Fail> {
     let alloc = rt.alloc();
-    let store = one_body(&rt, alloc)?;
+    let store = worked_store(&rt, alloc)?;
     let mut cut = store.to_vec(alloc)?;
     cut.truncate(100);
     let mut changed = store.to_vec(alloc)?;
@@ -304,7 +260,7 @@ fn refusal_of(
 #[test]
 fn record_is_read_again(rt: HostRuntime) -> Result<(), Fail> {
     let alloc = rt.alloc();
-    let store = one_body(&rt, alloc)?;
+    let store = worked_store(&rt, alloc)?;
     let opened = open(alloc, disk_of(alloc, &store)?);
     let (_, lists) = opened.ok().ok_or("not opened")?;
     let rows = [
@@ -328,7 +284,7 @@ fn record_is_read_again(rt: HostRuntime) -> Result<(), Fail> {
 #[test]
 fn failed_read_of_a_record(rt: HostRuntime) -> Result<(), Fail> {
     let alloc = rt.alloc();
-    let store = one_body(&rt, alloc)?;
+    let store = worked_store(&rt, alloc)?;
     let opened = open(alloc, disk_of(alloc, &store)?);
     let (_, lists) = opened.ok().ok_or("not opened")?;
     let mut disk = FailOnce::new(disk_of(alloc, &store)?, 1);

@@ -3,7 +3,8 @@
 use super::device::{Device, bytes_from, bytes_of};
 use super::machine::{Machine, new_disk};
 use super::same;
-use super::worked::call_at;
+use super::worked::{CALL, OPENING, call_at};
+use hex::FromHex;
 use recover::OpenFault;
 use rrv_model::record::{End, Item, Record};
 use std::alloc::Global;
@@ -52,6 +53,8 @@ pub(crate) enum Row<'a> {
     All(&'a [u8]),
     /// The bytes from this place on.
     Bytes(u64, &'a [u8]),
+    /// What stands at a place in front of a body: an open gate, the body's length, its number, and its digest, given as text.
+    Front(u64, u32, u32, &'a str),
 }
 
 /// A record's guest and index, and an opening's file and name.
@@ -63,15 +66,35 @@ pub(crate) fn opening_in(record: &Record) -> Option<(u32, u32, &[u8], &[u8])> {
     Some((record.guest, record.index, elf, opening.name.as_slice()))
 }
 
-/// A record's guest and index, and a call's tid and count.
-pub(crate) fn call_in(record: &Record) -> Option<(u32, u32, u32, u32)> {
+/// A record's guest and index, and a frame's tid and count; and how the frame ended.
+pub(crate) fn frame_in(record: &Record) -> Option<((u32, u32, u32, u32), &End)> {
     let Item::Frame(frame) = &record.item else {
         return None;
     };
-    let End::Call(_) = &frame.end else {
-        return None;
-    };
-    Some((record.guest, record.index, frame.tid, frame.count))
+    Some((
+        (record.guest, record.index, frame.tid, frame.count),
+        &frame.end,
+    ))
+}
+
+/// The same of a call alone, without its end.
+pub(crate) fn call_in(record: &Record) -> Option<(u32, u32, u32, u32)> {
+    match frame_in(record) {
+        Some((frame, End::Call(_))) => Some(frame),
+        _ => None,
+    }
+}
+
+// The bytes of `Row::Front`.
+fn front_of(length: u32, number: u32, digest: &str) -> Result<[u8; 41], Fail> {
+    let digest = <[u8; 32] as FromHex>::from_hex(digest)
+        .ok()
+        .ok_or("no digest")?;
+    let mut bytes = [0xA5; 41];
+    bytes[1..5].copy_from_slice(&length.to_le_bytes());
+    bytes[5..9].copy_from_slice(&number.to_le_bytes());
+    bytes[9..41].copy_from_slice(&digest);
+    Ok(bytes)
 }
 
 // What the disk of a closed log tells.
@@ -89,6 +112,11 @@ fn look(
         Row::Bytes(from, want) => {
             let found = bytes_from(alloc, device, from, want.len())?;
             same(rt, &place, found.as_slice(), want);
+        }
+        Row::Front(from, length, number, digest) => {
+            let want = front_of(length, number, digest)?;
+            let found = bytes_from(alloc, device, from, want.len())?;
+            same(rt, &place, found.as_slice(), want.as_slice());
         }
         _ => return Err(Fail::new("no row of a closed log")),
     }
@@ -148,7 +176,7 @@ fn take(
             same(rt, &place, call_in(&record), want);
         }
         Row::Lengths(least, greatest) => same(rt, &place, machine.lengths()?, (least, greatest)),
-        Row::Len(_) | Row::Failures(_) | Row::All(_) | Row::Bytes(..) => {
+        Row::Len(_) | Row::Failures(_) | Row::All(_) | Row::Bytes(..) | Row::Front(..) => {
             look(rt, alloc, machine.device()?, place, row)?;
         }
     }
@@ -172,4 +200,18 @@ pub(crate) fn play_on(
 pub(crate) fn play(rt: &impl Abort, alloc: Global, fails: u64, rows: &[Row]) -> Result<(), Fail> {
     let mut machine = Machine::new(alloc, new_disk(alloc)?, fails);
     play_on(rt, alloc, &mut machine, rows)
+}
+
+/// A machine with the store of the worked records in one body, closed again.
+pub(crate) fn one_body(rt: &impl Abort, alloc: Global) -> Result<Machine, Fail> {
+    let mut machine = Machine::new(alloc, new_disk(alloc)?, 0);
+    let rows = [
+        Row::Create(None),
+        Row::Body(&OPENING),
+        Row::Body(&CALL),
+        Row::Commit(None),
+        Row::Close,
+    ];
+    play_on(rt, alloc, &mut machine, &rows)?;
+    Ok(machine)
 }

@@ -9,8 +9,9 @@ use Rattle.guest_calls.specs.Guest.{state_of}
 use Rattle.guest_pages.specs.Snapshots.{DifferOn}
 use Rattle.checkpoint.specs.Made.{NamesChanges, kept_memory}
 use Rattle.checkpoint.proofs.Named.{of_back, of_contained, of_front, split_of}
-use Rattle.checkpoint.proofs.Whole.{HasListed, all_texts, described, has_all, lists_more, lists_none, names_changes}
+use Rattle.checkpoint.proofs.Whole.{HasAll, HasListed, all_texts, described, has_all, lists_more, lists_none, names_changes}
 use Rattle.checkpoint.proofs.making.make.Goals as goal
+use Rattle.checkpoint.proofs.making.make.Goals.{In_ok-add_part-2}
 
 pub loop-left-init : goal.loop-left-init
 loop-left-init c =
@@ -53,32 +54,26 @@ loop-left-preserved c =
       differ = of_back (λ (n : ℕ). DifferOn n before m) left front behind whole c.loop-left.invariant.differ;
     }
 
+-- the parts have all that differs
+all_parts : (c : In_ok-add_part-2) → HasAll (kept_memory c.args.guest.now c.args.base.now) (state_of c.args.guest.now)
+    c.loop-left.parts.items c.in_ok-pages-2.pages.items c.in_ok-rest.rest
+all_parts c =
+    has_all (kept_memory c.args.guest.now c.args.base.now) (state_of c.args.guest.now) c.loop-left.parts.items c.loop-left.left.now
+    c.in_ok-pages-2.pages.items c.in_ok-rest.rest c.loop-left.invariant.listed c.in_ok-pages-2.ensures.numbers
+    c.in_ok-pages-2.ensures.made c.loop-left-test.false c.in_ok-rest.ensures.rest c.rest_of.ensures.is_state
+
 pub returns-clause-texts : goal.returns-clause-texts
 returns-clause-texts c =
-    let s = state_of c.args.guest.now in
-    let before = kept_memory c.args.guest.now c.args.base.now in
-    let all = has_all before s c.loop-left.parts.items c.loop-left.left.now c.in_ok-pages-2.pages.items c.in_ok-rest.rest
-    c.loop-left.invariant.listed c.in_ok-pages-2.ensures.numbers
-    c.in_ok-pages-2.ensures.made c.loop-left-test.false c.in_ok-rest.ensures.rest c.rest_of.ensures.is_state in
     subst (λ (ps : List Part). AllByRecursion HasPartText ps) (sym c.in_ok-add_part-2.ensures)
-    (all_texts before s c.loop-left.parts.items c.in_ok-pages-2.pages.items c.in_ok-rest.rest all)
+    (all_texts _ _ _ _ _ (all_parts (goal.at.returns-clause-texts c).In_ok-add_part-2))
 
 pub returns-clause-describes : goal.returns-clause-describes
 returns-clause-describes c old base =
-    let s = state_of c.args.guest.now in
-    let before = kept_memory c.args.guest.now c.args.base.now in
-    let all = has_all before s c.loop-left.parts.items c.loop-left.left.now c.in_ok-pages-2.pages.items c.in_ok-rest.rest
-    c.loop-left.invariant.listed c.in_ok-pages-2.ensures.numbers
-    c.in_ok-pages-2.ensures.made c.loop-left-test.false c.in_ok-rest.ensures.rest c.rest_of.ensures.is_state in
-    subst (λ (ps : List Part). Describes old ps s) (sym c.in_ok-add_part-2.ensures)
-    (described before s c.loop-left.parts.items c.in_ok-pages-2.pages.items c.in_ok-rest.rest all old base)
+    subst (λ (ps : List Part). Describes old ps (state_of c.args.guest.now)) (sym c.in_ok-add_part-2.ensures)
+    (described _ _ _ _ _ (all_parts (goal.at.returns-clause-describes c).In_ok-add_part-2) old base)
 
 pub returns-clause-changes : goal.returns-clause-changes
 returns-clause-changes c =
-    let s = state_of c.args.guest.now in
-    let before = kept_memory c.args.guest.now c.args.base.now in
-    let all = has_all before s c.loop-left.parts.items c.loop-left.left.now c.in_ok-pages-2.pages.items c.in_ok-rest.rest
-    c.loop-left.invariant.listed c.in_ok-pages-2.ensures.numbers
-    c.in_ok-pages-2.ensures.made c.loop-left-test.false c.in_ok-rest.ensures.rest c.rest_of.ensures.is_state in
-    subst (λ (ps : List Part). NamesChanges before s.memory (all_pages ps)) (sym c.in_ok-add_part-2.ensures)
-    (names_changes before s c.loop-left.parts.items c.in_ok-pages-2.pages.items c.in_ok-rest.rest all)
+    subst (λ (ps : List Part). NamesChanges (kept_memory c.args.guest.now c.args.base.now) (state_of c.args.guest.now).memory
+    (all_pages ps))
+    (sym c.in_ok-add_part-2.ensures) (names_changes _ _ _ _ _ (all_parts (goal.at.returns-clause-changes c).In_ok-add_part-2))

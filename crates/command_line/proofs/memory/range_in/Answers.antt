@@ -1,6 +1,6 @@
 use Rattle.std.proofs.Common.{◌≡◌, ◌==◌, rules}
 use Rattle.std.specs.List.{after_first}
-use Rattle.command_line.specs.Request.{IsNumberIn}
+use Rattle.command_line.specs.Values.{IsNumberIn}
 use Rattle.command_line.proofs.memory.range_in.Goals as goal
 
 pub returns-in_err-length-clause-none : goal.returns-in_err-length-clause-none

@@ -1,6 +1,6 @@
 use Rattle.std.proofs.Common.{map, take}
 use Rattle.std.specs.List.{AllZip}
-use Rattle.command_line.specs.Request.{IsMemoryRange}
+use Rattle.command_line.specs.Values.{IsMemoryRange}
 use Rattle.command_line.proofs.memory.ranges_in.Given as goal
 
 abbrev pub invariant-loop-text : goal.invariant-loop-text

@@ -4,7 +4,7 @@ use Rattle.std.specs.Char.{digit_value}
 use Rattle.std.specs.Str.Parse.{AllDigits, IsNumeral, digits_value, without_leading_plus}
 use Rattle.std.proofs.lemmas.Bool.{ne_eqb}
 use Rattle.std.proofs.lemmas.Int.Digits.{digits_value-lt}
-use Rattle.command_line.specs.Request.{without_0x}
+use Rattle.command_line.specs.Values.{without_0x}
 use Rattle.command_line.proofs.numbers.address_in.Goals as goal
 
 no_plus : (text : List ℕ) → slice_index text 0 ≢ 43 → without_leading_plus text ≡ text

@@ -14,19 +14,23 @@ all_read (Some all) bytes limit is short =
     let least : min limit (length all) ≡ length all = omega (arith, len, short) in
     is ∙ sym (take_min limit all) ∙ ap (λ n. take n all) least ∙ take-length all
 
-pub returns-clause-whole : goal.returns-clause-whole
-returns-clause-whole g c =
-    let remaining = g.F.Read.remaining in
-    let limit = c.args.most + 1 in
-    let limit_is : c.take.result.limit ≡ limit = search rules in
-    let new_is : c.new-bytes.result.items ≡ [] = search rules in
-    let read = subst
-    (λ f. IfSome (option_map (take c.take.result.limit) (remaining f))
-    (λ xs. c.read_to_end-read.new.buf.items ≡ c.new-bytes.result.items ++ xs)) c.take.ensures.inner c.in_default.ensures.bytes in
-    let read = subst
-    (λ n. IfSome (option_map (take n) (remaining c.args.file))
-    (λ xs. c.read_to_end-read.new.buf.items ≡ c.new-bytes.result.items ++ xs)) limit_is read in
-    let read = subst
-    (λ (old : List ℕ). IfSome (option_map (take limit) (remaining c.args.file)) (λ xs. c.read_to_end-read.new.buf.items ≡ old ++ xs))
-    new_is read in
-    all_read (remaining c.args.file) c.read_to_end-read.new.buf.items limit read (search rules)
+pub returns : goal.returns
+returns g c = record {
+  whole =
+      let remaining = g.F.Read.remaining in
+      let limit = c.args.most + 1 in
+      let limit_is : c.take.result.limit ≡ limit = search rules in
+      let new_is : c.new-bytes.result.items ≡ [] = search rules in
+      let read = subst
+      (λ f. IfSome (option_map (take c.take.result.limit) (remaining f))
+      (λ xs. c.read_to_end-read.new.buf.items ≡ c.new-bytes.result.items ++ xs)) c.take.ensures.inner c.in_default.ensures.bytes in
+      let read = subst
+      (λ n. IfSome (option_map (take n) (remaining c.args.file))
+      (λ xs. c.read_to_end-read.new.buf.items ≡ c.new-bytes.result.items ++ xs)) limit_is read in
+      let read = subst
+      (λ (old : List ℕ). IfSome (option_map (take limit) (remaining c.args.file)) (λ xs. c.read_to_end-read.new.buf.items ≡ old ++ xs))
+      new_is read in
+      all_read (remaining c.args.file) c.read_to_end-read.new.buf.items limit read (search rules);
+  within = search rules;
+  refused = tt;
+}

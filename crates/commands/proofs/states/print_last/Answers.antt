@@ -1,4 +1,4 @@
-use Rattle.std.proofs.Common.{◌≡◌, List, ℕ, Option, subst, ◌∙◌}
+use Rattle.std.proofs.Common.{◌≡◌, ◌∙◌, List, ℕ, Option, arith, subst}
 use Rattle.std.specs.Prelude.{IfSome, Ok}
 use Rattle.std.specs.Io.KnownBytes.{Appends}
 use Rattle.replayer.specs.Verified.{VerifiedValue}
@@ -21,22 +21,24 @@ pub returns-in-Some-clause-printed : goal.returns-in-Some-clause-printed
 returns-in-Some-clause-printed g c =
     let v = c.args.verified.now in
     let made = c.in_ok-cursor.ensures in
+    let at : c.in_ok-cursor.cursor.place ≡ c.place_in.result = omega (arith, made.at) in
     let moved = c.in_ok-last_change.ensures in
     let new = c.last_change.new.self in
     let contents = g.W.Write.contents in
     change_printed {E = Refusal} (Ok (tt {0})) v.opening v.frames c.args.ranges.now c.args.address (place_in (total v.frames) c.args.from)
     c.in-Some.field-0 new.place _ _
-    (last_change _ v c.args.address _ _ _ _ made.verified (made.at ∙ c.place_in.ensures) c.in-Some.is moved.change)
+    (last_change _ v c.args.address _ _ _ _ made.verified_is (at ∙ c.place_in.ensures) c.in-Some.is moved.change)
     (subst (λ (o : Option ℕ). IfSome o (λ t. new.place ≡ t)) c.in-Some.is moved.at)
     (subst (λ (x : VerifiedValue). (text : List ℕ) × IsStateText x.opening x.frames c.args.ranges.now new.place text ×
     Appends (contents c.args.out.now) (contents c.print_state.new.out) text)
-    (moved.verified ∙ made.verified) c.in_ok-print_state-in-Some.ensures.printed)
+    (moved.verified ∙ made.verified_is) c.in_ok-print_state-in-Some.ensures.printed)
 
 pub returns-clause-printed : goal.returns-clause-printed
 returns-clause-printed g c =
     let v = c.args.verified.now in
     let made = c.in_ok-cursor.ensures in
+    let at : c.in_ok-cursor.cursor.place ≡ c.place_in.result = omega (arith, made.at) in
     unchanged_printed {E = Refusal} (Ok (tt {0})) v.opening v.frames c.args.ranges.now c.args.address
     (place_in (total v.frames) c.args.from) _ _
-    (last_change _ v c.args.address _ _ _ _ made.verified (made.at ∙ c.place_in.ensures) c.in-None.is c.in_ok-last_change.ensures.change)
+    (last_change _ v c.args.address _ _ _ _ made.verified_is (at ∙ c.place_in.ensures) c.in-None.is c.in_ok-last_change.ensures.change)
     c.in_ok-print_line-in-None.ensures.printed

@@ -33,13 +33,19 @@ loop-page-preserved c =
       c.cover.ensures.covered.snapshots ∙ c.loop-page.invariant.1,
     )
 
-pub returns-then-memory_len-eq0-clause-memory : goal.returns-then-memory_len-eq0-clause-memory
-returns-then-memory_len-eq0-clause-memory c = covered_empty c.args.load.now (memory_of c.args.space.now) (omega arith)
+pub returns-then-memory_len-eq0 : goal.returns-then-memory_len-eq0
+returns-then-memory_len-eq0 c = record {
+  memory = covered_empty c.args.load.now (memory_of c.args.space.now) (omega arith);
+  snapshots = refl;
+}
 
-pub returns-clause-memory : goal.returns-clause-memory
-returns-clause-memory c =
+pub returns : goal.returns
+returns c =
     let load = c.args.load.now in
     let some : 0 < load.memory_len = omega arith in
     let last : c.loop-page.page ≡ (load.address + load.memory_len - 1) / 4096 + 1 = omega arith in
-    walk_ends load c.loop-page.page c.load_permissions-permissions.result (memory_of c.args.space.now) (memory_of c.loop-page.space) some
-    c.load_permissions-permissions.ensures c.loop-page.invariant.0 last
+    record {
+      memory = walk_ends load c.loop-page.page c.load_permissions-permissions.result (memory_of c.args.space.now)
+          (memory_of c.loop-page.space) some c.load_permissions-permissions.ensures c.loop-page.invariant.0 last;
+      snapshots = c.loop-page.invariant.1;
+    }

@@ -1,4 +1,4 @@
-use Rattle.std.proofs.Common.{◌≡◌, ℕ, ◌*◌, List, [], ◌∷◌, length, arith, ap, sym, subst}
+use Rattle.std.proofs.Common.{◌≡◌, ℕ, ◌*◌, List, [], ◌∷◌, length, arith, ap, ◌∙◌, sym, subst}
 use Rattle.rrv_model.specs.Memory.{Memory}
 use Rattle.rrv_model.specs.Opening.{bare_memory, image_memory}
 use Rattle.guest_pages.specs.Space.{memory_of}
@@ -52,10 +52,13 @@ fill_unshared-requires-3-clause-there c =
     let sixteen = c.told-random in
     present_on_stack m3 0x7FFFFFF0 (length c.args.random.now) has3 (omega arith) (omega (arith, sixteen))
 
-pub returns-clause-memory : goal.returns-clause-memory
-returns-clause-memory c =
-    stack_filled c.args.image.now c.args.name.now c.args.random.now c.stack_pointer.result c.name_at.result c.stack_words.result
-    (memory_of c.args.space.now) (memory_of c.fill_words.new.space) (memory_of c.fill_unshared.new.self)
-    (memory_of c.fill_unshared-2.new.self) (memory_of c.fill_unshared-3.new.self)
-    c.requires.name c.requires.bare c.stack_pointer.ensures c.stack_words.ensures c.name_at.ensures c.fill_words.ensures.memory
-    c.fill_unshared.ensures.memory c.fill_unshared-2.ensures.memory c.fill_unshared-3.ensures.memory
+pub returns : goal.returns
+returns c = record {
+  memory = stack_filled c.args.image.now c.args.name.now c.args.random.now c.stack_pointer.result c.name_at.result c.stack_words.result
+      (memory_of c.args.space.now) (memory_of c.fill_words.new.space) (memory_of c.fill_unshared.new.self)
+      (memory_of c.fill_unshared-2.new.self) (memory_of c.fill_unshared-3.new.self)
+      c.requires.name c.requires.bare c.stack_pointer.ensures c.stack_words.ensures c.name_at.ensures c.fill_words.ensures.memory
+      c.fill_unshared.ensures.memory c.fill_unshared-2.ensures.memory c.fill_unshared-3.ensures.memory;
+  snapshots = c.fill_unshared-3.ensures.snapshots ∙ c.fill_unshared-2.ensures.snapshots ∙ c.fill_unshared.ensures.snapshots
+      ∙ c.fill_words.ensures.snapshots;
+}

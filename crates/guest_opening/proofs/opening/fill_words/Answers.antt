@@ -20,7 +20,9 @@ loop-place-preserved c = (
   c.fill_unshared.ensures.snapshots ∙ c.loop-place.invariant.1,
 )
 
-pub returns-clause-memory : goal.returns-clause-memory
-returns-clause-memory c =
-    words_end c.args.address c.args.words.now c.loop-place.place (memory_of c.args.space.now) (memory_of c.loop-place.space) (omega arith)
-    c.loop-place.invariant.0
+pub returns : goal.returns
+returns c = record {
+  memory = words_end c.args.address c.args.words.now c.loop-place.place (memory_of c.args.space.now) (memory_of c.loop-place.space)
+      (omega arith) c.loop-place.invariant.0;
+  snapshots = c.loop-place.invariant.1;
+}

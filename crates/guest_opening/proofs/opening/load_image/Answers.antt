@@ -6,8 +6,16 @@ use Rattle.rrv_model.specs.Memory.{Memory, stored}
 use Rattle.rrv_model.specs.Elf.{loads, IsLoad}
 use Rattle.guest_pages.specs.Space.{memory_of}
 use Rattle.guest_opening.specs.Loading.{file_bytes}
-use Rattle.guest_opening.proofs.LoadWalk.{is_next, next_has_room, next_is_there, walk_begins, walk_goes_on, walk_ends}
+use Rattle.guest_opening.proofs.LoadWalk.{IsNext, is_next, next_has_room, next_is_there, walk_begins, walk_goes_on, walk_ends}
 use Rattle.guest_opening.proofs.opening.load_image.Goals as goal
+use Rattle.guest_opening.proofs.opening.load_image.Goals.{In-Some}
+
+-- the load that comes is the next from the end
+next_of : (c : In-Some) → IsNext c.args.image.now (length c.loop-load.yielded) c.in-Some.load.now
+next_of c =
+    let t = YieldsList-turn (YieldsList-from_rev_slice (loads c.args.image.now) cc) c.loop-load.yielded _ c.loop-load.yielded_by _ _
+    c.in-Some.load c.in-Some.is c.next.ensures.steps in
+    is_next c.args.image.now (length c.loop-load.yielded) c.in-Some.load.now c.elf-file.ensures.accepted t.0 t.1
 
 pub loop-load-init : goal.loop-load-init
 loop-load-init c = (walk_begins c.args.image.now (memory_of c.args.space.now) c.requires.empty, refl)
@@ -15,9 +23,7 @@ loop-load-init c = (walk_begins c.args.image.now (memory_of c.args.space.now) c.
 pub cover_load-requires : goal.cover_load-requires
 cover_load-requires c =
     let file = c.args.image.now in
-    let t = YieldsList-turn (YieldsList-from_rev_slice (loads file) cc) c.loop-load.yielded _ c.loop-load.yielded_by _ _ c.in-Some.load
-    c.in-Some.is c.next.ensures.steps in
-    let next = is_next file (length c.loop-load.yielded) c.in-Some.load.now c.elf-file.ensures.accepted t.0 t.1 in
+    let next = next_of (goal.at.cover_load-requires c).In-Some in
     record {
       low = next.load.low;
       high = next.load.high;
@@ -28,9 +34,7 @@ cover_load-requires c =
 pub fill_load-requires : goal.fill_load-requires
 fill_load-requires c =
     let file = c.args.image.now in
-    let t = YieldsList-turn (YieldsList-from_rev_slice (loads file) cc) c.loop-load.yielded _ c.loop-load.yielded_by _ _ c.in-Some.load
-    c.in-Some.is c.next.ensures.steps in
-    let next = is_next file (length c.loop-load.yielded) c.in-Some.load.now c.elf-file.ensures.accepted t.0 t.1 in
+    let next = next_of (goal.at.fill_load-requires c).In-Some in
     record {
       load = subst (λ (f : List ℕ). IsLoad f c.in-Some.load.now) (sym c.elf-file.ensures.value) next.load;
       there = next_is_there file c.in-Some.load.now (memory_of c.loop-load.space) (memory_of c.cover_load.new.space) next.load
@@ -44,9 +48,7 @@ loop-load-preserved c =
     let file = c.args.image.now in
     let load = c.in-Some.load.now in
     let n = length c.loop-load.yielded in
-    let t = YieldsList-turn (YieldsList-from_rev_slice (loads file) cc) c.loop-load.yielded _ c.loop-load.yielded_by _ _ c.in-Some.load
-    c.in-Some.is c.next.ensures.steps in
-    let next = is_next file n load c.elf-file.ensures.accepted t.0 t.1 in
+    let next = next_of (goal.at.loop-load-preserved c).In-Some in
     let filled =
     c.fill_load.ensures.memory
     ∙ ap (λ (f : List ℕ). stored load.address (file_bytes f load) (memory_of c.cover_load.new.space)) c.elf-file.ensures.value in (

@@ -1,9 +1,16 @@
 use Rattle.std.proofs.Common.{◌≡◌, ℕ, List, IsSomeAnd, sym, subst, arith, refl}
 use Rattle.page_tables.specs.Contents.{contents_of}
 use Rattle.guest_pages.specs.Mapping.{SameAt, ListsOthers}
-use Rattle.guest_pages.proofs.Changes.{same_then_on, differ_then_on}
+use Rattle.guest_pages.proofs.Changes.{none_then_on, same_then_on, differ_then_on}
 use Rattle.guest_pages.proofs.mapping.list_changed.Goals.{then-not-same_as_kept+in_ok-push, else-not-same_as_kept}
 use Rattle.guest_pages.proofs.mapping.list_changed.Goals as goal
+
+pub loop-number-init : goal.loop-number-init
+loop-number-init c =
+    let kept = (contents_of c.args.tables.now).kept c.args.snapshot in
+    let pages = (contents_of c.args.tables.now).pages in
+    let next = c.next_of_both-number in
+    (next.ensures.high, rw c.new-numbers.ensures.items (none_then_on kept pages next.result c.requires next.ensures.passed))
 
 pub loop-number-preserved : goal.loop-number-preserved
 loop-number-preserved c =
@@ -20,11 +27,11 @@ loop-number-preserved c =
           (subst (λ (xs : List ℕ). IsSomeAnd kept (λ before. ListsOthers (SameAt before pages) next.result xs))
           (sym w.in_ok-push.ensures.items)
           (differ_then_on kept pages n next.result c.loop-number.numbers.items on listed (w.if-not-same_as_kept.ensures.differ refl)
-          next.ensures.same))
+          next.ensures.passed))
       | else-not-same_as_kept w ↦
           rw w.numbers-is
           (same_then_on kept pages n next.result c.loop-number.numbers.items on listed (w.if-not-same_as_kept.ensures.same refl)
-          next.ensures.same)
+          next.ensures.passed)
     ] in
     (next.ensures.high, after)
 

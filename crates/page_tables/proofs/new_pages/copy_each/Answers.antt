@@ -1,5 +1,4 @@
-use Rattle.std.proofs.Common.{◌≡◌, ◌∙◌, ℕ, ◌+◌, ◌∷◌, ◌++◌, List, [], take, get_or, sym, ap, subst}
-use Rattle.std.proofs.lemmas.Grind.{take_at_read}
+use Rattle.std.proofs.Common.{◌≡◌, ◌∙◌, ℕ, false, List, [], get_or, sym, ap, subst}
 use Rattle.std.proofs.lemmas.List.{take_all}
 use Rattle.slab.specs.Slab.{get}
 use Rattle.page_tables.specs.declared.new_pages.NewPage.{NewPage}
@@ -7,10 +6,11 @@ use Rattle.page_tables.specs.Table.{entry_at}
 use Rattle.page_tables.specs.Changes.{is_listed}
 use Rattle.page_tables.specs.Sharing.{pages_in, counts_in}
 use Rattle.page_tables.specs.NewPages.{AreUnshared, AreCopies}
-use Rattle.page_tables.proofs.Listed.{still_listed, last_listed, listed_taken}
+use Rattle.page_tables.proofs.Listed.{listed_taken}
 use Rattle.page_tables.proofs.PlacedPages.{on_err}
-use Rattle.page_tables.proofs.NewPages.{no_copies, one_is_own, one_copied}
+use Rattle.page_tables.proofs.NewPages.{no_copies, next_is_own, next_copied, less_unshared, last_unshared}
 use Rattle.page_tables.proofs.new_pages.copy_each.Goals as goal
+use Rattle.page_tables.proofs.new_pages.copy_each.Goals.{After-is_own}
 
 pub loop-number-init : goal.loop-number-init
 loop-number-init c =
@@ -24,53 +24,37 @@ loop-number-init c =
 
 pub loop-number-preserved-then-is_own : goal.loop-number-preserved-then-is_own
 loop-number-preserved-then-is_own c =
-    let numbers = c.args.numbers.now in
     let i = c.loop-number.number-index in
-    let m = get_or numbers i 0 in
-    let more : take (i + 1) numbers ≡ take i numbers ++ m ∷ [] = (take_at_read numbers i 0 c.loop-number-test.true).1 in
-    let counts = counts_in (get c.args.pool.now) (entry_at c.args.table.now) in
     record {
-      copies = subst
-          (λ (ns : List ℕ). AreCopies ns (pages_in (get c.args.pool.now) (entry_at c.args.table.now)) counts c.loop-number.copies.items)
-          (sym more)
-          (one_is_own (take i numbers) m _ _ c.loop-number.copies.items c.loop-number.invariant.copies
-          (c.is_own.ensures.own c.if-is_own.true));
-      none = λ own. c.loop-number.invariant.none
-          (λ n a. own n (ap (λ (ns : List ℕ). is_listed ns n) more ∙ still_listed (take i numbers) m n a));
+      copies = next_is_own c.args.numbers.now i c.loop-number-test.true _ _ _ c.loop-number.invariant.copies
+          (c.is_own.ensures.own c.if-is_own.true);
+      none = λ own. c.loop-number.invariant.none (less_unshared c.args.numbers.now i c.loop-number-test.true _ own);
     }
 
 pub loop-number-preserved : goal.loop-number-preserved
 loop-number-preserved c =
-    let numbers = c.args.numbers.now in
     let i = c.loop-number.number-index in
-    let m = get_or numbers i 0 in
-    let more : take (i + 1) numbers ≡ take i numbers ++ m ∷ [] = (take_at_read numbers i 0 c.loop-number-test.true).1 in
-    let counts = counts_in (get c.args.pool.now) (entry_at c.args.table.now) in
     record {
-      copies = subst
-          (λ (ns : List ℕ). AreCopies ns (pages_in (get c.args.pool.now) (entry_at c.args.table.now)) counts c.push.new.self.items)
-          (sym more)
-          (one_copied (take i numbers) m _ _ c.loop-number.copies.items c.loop-number.invariant.copies _ c.in_ok-copy.copy
-          c.in_ok-push.ensures.items c.in_ok-copy.ensures.number c.in_ok-copy.ensures.value);
-      none = λ own. absurd
-          (c.is_own.ensures.shared c.if-is_own.false (own m (ap (λ (ns : List ℕ). is_listed ns m) more ∙ last_listed (take i numbers) m)));
+      copies = next_copied c.args.numbers.now i c.loop-number-test.true _ _ _ c.loop-number.invariant.copies _ c.in_ok-copy.copy
+          c.in_ok-push.ensures.items c.in_ok-copy.ensures.number c.in_ok-copy.ensures.value;
+      none = λ own. absurd (c.is_own.ensures.shared c.if-is_own.false (last_unshared c.args.numbers.now i c.loop-number-test.true _ own));
     }
+
+-- where a page is copied, not all are their own
+not_own : (c : After-is_own) → false ≡ c.is_own.result → AreUnshared c.args.numbers.now
+    (counts_in (get c.args.pool.now) (entry_at c.args.table.now)) → ⊥
+not_own c shared own =
+    c.is_own.ensures.shared (sym shared)
+    (own (get_or c.args.numbers.now c.loop-number.number-index 0)
+    (listed_taken c.args.numbers.now c.loop-number.number-index c.loop-number-test.true))
 
 pub returns-in_err-copy-clause-grows : goal.returns-in_err-copy-clause-grows
 returns-in_err-copy-clause-grows c =
-    let not : AreUnshared c.args.numbers.now (counts_in (get c.args.pool.now) (entry_at c.args.table.now)) → ⊥ = λ own.
-    c.is_own.ensures.shared c.if-is_own.false
-    (own (get_or c.args.numbers.now c.loop-number.number-index 0)
-    (listed_taken c.args.numbers.now c.loop-number.number-index c.loop-number-test.true)) in
-    on_err _ _ not
+    on_err _ _ (not_own (goal.at.returns-in_err-copy-clause-grows c).After-is_own (sym c.if-is_own.false))
 
 pub returns-in_err-push-clause-grows : goal.returns-in_err-push-clause-grows
 returns-in_err-push-clause-grows c =
-    let not : AreUnshared c.args.numbers.now (counts_in (get c.args.pool.now) (entry_at c.args.table.now)) → ⊥ = λ own.
-    c.is_own.ensures.shared c.if-is_own.false
-    (own (get_or c.args.numbers.now c.loop-number.number-index 0)
-    (listed_taken c.args.numbers.now c.loop-number.number-index c.loop-number-test.true)) in
-    on_err _ _ not
+    on_err _ _ (not_own (goal.at.returns-in_err-push-clause-grows c).After-is_own (sym c.if-is_own.false))
 
 pub returns-clause-copies : goal.returns-clause-copies
 returns-clause-copies c =

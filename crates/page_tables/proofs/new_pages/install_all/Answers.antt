@@ -10,8 +10,7 @@ use Rattle.page_tables.proofs.new_pages.install_all.Goals as goal
 pub loop-page-init : goal.loop-page-init
 loop-page-init c = record {
   shared = c.requires.shared;
-  room = c.requires.room;
-  small = c.requires.small;
+  roomy = c.requires.roomy;
   low = c.requires.low;
   leaves = c.requires.leaves;
   owned = λ numbers copies. (copies, no_step numbers (contents_in c.args.pool.now c.args.table.now c.args.kept.now.items));
@@ -31,8 +30,7 @@ loop-page-preserved c =
     let leaves = All-pop (λ q. has_leaf c.loop-page.table q.number ≡ true) c.loop-page.pages.items rest (Some x) is i.leaves in
     record {
       shared = p.shared;
-      room = omega (arith, i.room, sizes, p.len, p.room);
-      small = omega (arith, i.small, p.room);
+      roomy = record { room = omega (arith, i.roomy.room, sizes, p.len, p.room); small = omega (arith, i.roomy.small, p.room) };
       low = low.0;
       leaves = All-weaker (λ q. has_leaf c.loop-page.table q.number ≡ true) (λ q. has_leaf c.install.new.table q.number ≡ true)
           (λ q e. p.leaves q.number ∙ e) rest leaves.0;

@@ -1,7 +1,8 @@
-use Rattle.std.proofs.Common.{◌≡◌, ◌<◌, ◌≤◌, ◌^◌, ℕ, List, true, length}
+use Rattle.std.proofs.Common.{◌≡◌, ◌<◌, ℕ, List, true, length}
 use Rattle.std.specs.List.{All}
-use Rattle.slab.specs.Slab.{get, HasRoomFor}
+use Rattle.slab.specs.Slab.{get}
 use Rattle.page_tables.specs.Table.{entry_at, has_leaf}
+use Rattle.page_tables.specs.Changes.{IsRoomyFor}
 use Rattle.page_tables.specs.Sharing.{AreShared, pages_in, counts_in, contents_in}
 use Rattle.page_tables.specs.NewPages.{AreCopies}
 use Rattle.page_tables.proofs.NewPages.{AreNearer}
@@ -10,8 +11,7 @@ use Rattle.page_tables.proofs.new_pages.install_all.Given as goal
 abbrev pub invariant-loop-page : goal.invariant-loop-page
 invariant-loop-page l = record {
   shared : AreShared (get l.pool) (entry_at l.table) l.kept.items;
-  room : HasRoomFor l.pool (length l.pages.items);
-  small : l.pool.capacity ≤ 2 ^ 32;
+  roomy : IsRoomyFor l.pool (length l.pages.items);
   low : All (λ p. p.number < 0x80000) l.pages.items;
   leaves : All (λ p. has_leaf l.table p.number ≡ true) l.pages.items;
   owned : (numbers : List ℕ) →

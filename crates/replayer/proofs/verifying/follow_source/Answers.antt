@@ -47,9 +47,9 @@ loop-index-preserved g c =
       is = λ h there. ap (λ (l : List Record). l ++ next.entry ∷ []) (inv.is h there)
           ∙ sym (take_next (g.S.Source.records c.args.source.now) c.loop-index.index next.entry
           (subst (λ (l : List Record). slice_get l c.loop-index.index ≡ Some next.entry) inv.records (next.there (inv.honest.1 h))));
-      records = c.follow_given.ensures.records ∙ inv.records;
-      honest = (λ h. inv.honest.0 (c.follow_given.ensures.honest.0 h), λ h. c.follow_given.ensures.honest.1 (inv.honest.1 h));
-      withheld = c.in_ok-follow_given.ensures.withheld ∙ inv.withheld;
+      records = c.follow_given.ensures.asks.records ∙ inv.records;
+      honest = (λ h. inv.honest.0 (c.follow_given.ensures.asks.honest.0 h), λ h. c.follow_given.ensures.asks.honest.1 (inv.honest.1 h));
+      withheld = c.in_ok-follow_given.ensures.asks.told.withheld ∙ inv.withheld;
     }
 
 pub returns-in_err-walk-clause-refused : goal.returns-in_err-walk-clause-refused

@@ -1,5 +1,6 @@
 use Rattle.std.proofs.Common.{rules, arith, ◌≡◌, [], ◌++◌, length, sym, ap, ◌∙◌, subst}
 use Rattle.std.specs.Prelude.{slice_get, Err, Option, Some}
+use Rattle.std.proofs.lemmas.List.{length-map}
 use Rattle.commit_group.specs.Seats.{AllNew, AllOf, GroupId}
 use Rattle.session.specs.declared.fault.SessionFault.{SessionFault}
 use Rattle.session.specs.declared.report.SessionReport.{SessionReport}
@@ -8,13 +9,16 @@ use Rattle.std.specs.List.{AllByRecursion}
 use Rattle.session.specs.Openings.{StartsGuest}
 use Rattle.session.specs.Tasks.{faults_met}
 use Rattle.session.specs.Works.{HasWorked}
+use Rattle.session.specs.Sessions.{HasRun}
 use Rattle.session.proofs.Pairs.{pairs_length}
 use Rattle.session.proofs.Recorded.{all_numbered}
 use Rattle.session.proofs.Refusals.{lowest_tells}
 use Rattle.session.specs.declared.fault.SessionFault.TheVariants as faults
 use Rattle.session.proofs.Told.{device_told, none_meets, other_than_sink, sinks_err, sinks_ok, sinks_rest, steady_where_none}
 use Rattle.session.proofs.Sessions.{AreJoined, flusher_met_none, has_left, has_reported, has_run, nothing_ran, tells_alone, tells_first}
-use Rattle.session.proofs.Tasks.{all_fresh, all_of, jobs_length, seats_length, worked_length}
+use Rattle.session.proofs.Tasks.{all_fresh, all_of}
+use Rattle.session.proofs.session.record_some.Given.{Over}
+use Rattle.session.proofs.session.record_some.Goals.{After-end}
 use Rattle.session.proofs.session.record_some.Goals as goal
 
 pub returns-in_default-clause-recorded : goal.returns-in_default-clause-recorded
@@ -29,7 +33,7 @@ pub run-done-requires-after_bounds : goal.run-done-requires-after_bounds
 run-done-requires-after_bounds g c κs within =
     let h = c.in-Ok.ensures in
     let len : length c.give.new.tasks.items ≡ length c.in-Ok.room.seats.items =
-    sym (seats_length c.give.new.tasks.items) ∙ ap length c.give.ensures.seats in
+    sym (length-map c.give.new.tasks.items (λ task. task.seat)) ∙ ap length c.give.ensures.seats in
     let count = h.count in record {
       fresh = all_fresh c.in-Ok.room.flusher.group c.give.new.tasks.items
           (subst (λ l. AllNew c.in-Ok.room.flusher.group l) (sym c.give.ensures.seats) h.seats)
@@ -48,10 +52,10 @@ take_back-requires g c =
     let T = c.give.new.tasks.items in
     let Z = c.run-done.result.0.items in
     let new = subst (λ l. AllNew c.in-Ok.room.flusher.group l) (sym c.give.ensures.seats) h.seats in
-    let len : length T ≡ length c.in-Ok.room.seats.items = sym (seats_length T) ∙ ap length c.give.ensures.seats in
+    let len : length T ≡ length c.in-Ok.room.seats.items = sym (length-map T (λ task. task.seat)) ∙ ap length c.give.ensures.seats in
     let same = pairs_length (HasWorked g.C.Chooser g.S.Sink) T Z c.run-done.ensures.works in
     let count = h.count in
-    let jobs : length T ≡ length c.args.jobs.items = sym (jobs_length T) ∙ ap length c.give.ensures.jobs in
+    let jobs : length T ≡ length c.args.jobs.items = sym (length-map T (λ task. task.job)) ∙ ap length c.give.ensures.jobs in
     let numbers = c.requires.numbers in
     let first = c.next_guest-first.ensures in
     record {
@@ -68,10 +72,11 @@ pub end-requires-clause-count : goal.end-requires-clause-count
 end-requires-clause-count g c =
     let h = c.in-Ok.ensures in
     let len : length c.give.new.tasks.items ≡ length c.in-Ok.room.seats.items =
-    sym (seats_length c.give.new.tasks.items) ∙ ap length c.give.ensures.seats in
+    sym (length-map c.give.new.tasks.items (λ task. task.seat)) ∙ ap length c.give.ensures.seats in
     let same = pairs_length (HasWorked g.C.Chooser g.S.Sink) c.give.new.tasks.items c.run-done.result.0.items c.run-done.ensures.works in
     let count = h.count in
-    ap length c.take_back.ensures.seats ∙ worked_length c.run-done.result.0.items ∙ sym same ∙ len ∙ h.count ∙ sym h.guests_are
+    ap length c.take_back.ensures.seats ∙ length-map c.run-done.result.0.items (λ worked. worked.seat) ∙ sym same ∙ len ∙ h.count
+    ∙ sym h.guests_are
     ∙ ap (λ (gr : GroupId). gr.guests) (sym c.run-done.ensures.flushed.group)
 
 pub end-requires-clause-of_group : goal.end-requires-clause-of_group
@@ -83,29 +88,43 @@ end-requires-clause-of_group g c =
     subst (λ gr. AllOf gr c.take_back.new.seats.items) (sym c.run-done.ensures.flushed.group)
     (subst (λ l. AllOf c.in-Ok.room.flusher.group l) (sym c.take_back.ensures.seats) all)
 
-pub returns-in-Some-clause-recorded : goal.returns-in-Some-clause-recorded
-returns-in-Some-clause-recorded g c =
+-- the seats that came back are those of the group, and what came of them is joined
+joins : (g : Over) (c : After-end g) → AreJoined g.C.Chooser g.S.Sink g.D.Disk c.in-Ok.room.flusher.group c.in-Ok.room.flusher
+    c.run-done.result.1 c.args.log c.run-done.result.2 c.run-done.result.3 c.give.new.tasks.items c.run-done.result.0.items
+joins g c =
     let h = c.in-Ok.ensures in
     let T = c.give.new.tasks.items in
     let Z = c.run-done.result.0.items in
-    let group = c.in-Ok.room.flusher.group in
     let same = pairs_length (HasWorked g.C.Chooser g.S.Sink) T Z c.run-done.ensures.works in
-    let len : length T ≡ length c.in-Ok.room.seats.items = sym (seats_length T) ∙ ap length c.give.ensures.seats in
-    let joined : AreJoined g.C.Chooser g.S.Sink g.D.Disk group c.in-Ok.room.flusher c.run-done.result.1 c.args.log c.run-done.result.2
-    c.run-done.result.3 T Z = record {
+    let len : length T ≡ length c.in-Ok.room.seats.items = sym (length-map T (λ task. task.seat)) ∙ ap length c.give.ensures.seats in
+    record {
       new = h.flusher;
-      seats = subst (λ l. AllNew group l) (sym c.give.ensures.seats) h.seats;
+      seats = subst (λ l. AllNew c.in-Ok.room.flusher.group l) (sym c.give.ensures.seats) h.seats;
       works = c.run-done.ensures.works;
       flusher = c.run-done.ensures.flushed;
-      count = worked_length Z ∙ sym same ∙ len ∙ h.count ∙ sym h.guests_are
+      count = length-map Z (λ worked. worked.seat) ∙ sym same ∙ len ∙ h.count ∙ sym h.guests_are
           ∙ ap (λ (gr : GroupId). gr.guests) (sym c.run-done.ensures.flushed.group);
       placed = c.end.ensures.placed;
       each = λ k r at. (_, _, _, c.end.ensures.each k r (ap (λ l. slice_get l k) c.take_back.ensures.seats ∙ at));
-    } in
-    let run = has_run g.C.Chooser g.S.Sink g.D.Disk group c.in-Ok.room.flusher c.run-done.result.1 c.args.log c.run-done.result.2
-    c.run-done.result.3 T Z c.args.jobs.items c.take_back.new.jobs.items joined c.give.ensures.jobs c.take_back.ensures.jobs in
-    let jobs : length T ≡ length c.args.jobs.items = sym (jobs_length T) ∙ ap length c.give.ensures.jobs in
+    }
+
+runs : (g : Over) (c : After-end g) → HasRun g.C.Chooser g.S.Sink g.D.Disk c.run-done.result.1.committed c.args.log c.run-done.result.2
+    c.args.jobs.items c.take_back.new.jobs.items
+runs g c =
+    has_run g.C.Chooser g.S.Sink g.D.Disk c.in-Ok.room.flusher.group c.in-Ok.room.flusher c.run-done.result.1 c.args.log
+    c.run-done.result.2 c.run-done.result.3 c.give.new.tasks.items c.run-done.result.0.items c.args.jobs.items
+    c.take_back.new.jobs.items (joins g c) c.give.ensures.jobs c.take_back.ensures.jobs
+
+pub returns-in-Some-clause-recorded : goal.returns-in-Some-clause-recorded
+returns-in-Some-clause-recorded g c =
+    let T = c.give.new.tasks.items in
+    let Z = c.run-done.result.0.items in
+    let group = c.in-Ok.room.flusher.group in
+    let joined = joins g (goal.at.returns-in-Some-clause-recorded g c).After-end in
+    let run = runs g (goal.at.returns-in-Some-clause-recorded g c).After-end in
+    let jobs : length T ≡ length c.args.jobs.items = sym (length-map T (λ task. task.job)) ∙ ap length c.give.ensures.jobs in
     let r = c.requires.numbers in
+    let same = pairs_length (HasWorked g.C.Chooser g.S.Sink) T Z c.run-done.ensures.works in
     let met = flusher_met c.run-done.result.3 in
     let lowest =
     subst (λ l. IsLowest (met ++ faults_met l) (Some c.in-Some.fault)) c.deref.ensures.value
@@ -121,27 +140,14 @@ returns-in-Some-clause-recorded g c =
 
 pub returns-clause-recorded : goal.returns-clause-recorded
 returns-clause-recorded g c =
-    let h = c.in-Ok.ensures in
     let T = c.give.new.tasks.items in
     let Z = c.run-done.result.0.items in
     let group = c.in-Ok.room.flusher.group in
-    let same = pairs_length (HasWorked g.C.Chooser g.S.Sink) T Z c.run-done.ensures.works in
-    let len : length T ≡ length c.in-Ok.room.seats.items = sym (seats_length T) ∙ ap length c.give.ensures.seats in
-    let joined : AreJoined g.C.Chooser g.S.Sink g.D.Disk group c.in-Ok.room.flusher c.run-done.result.1 c.args.log c.run-done.result.2
-    c.run-done.result.3 T Z = record {
-      new = h.flusher;
-      seats = subst (λ l. AllNew group l) (sym c.give.ensures.seats) h.seats;
-      works = c.run-done.ensures.works;
-      flusher = c.run-done.ensures.flushed;
-      count = worked_length Z ∙ sym same ∙ len ∙ h.count ∙ sym h.guests_are
-          ∙ ap (λ (gr : GroupId). gr.guests) (sym c.run-done.ensures.flushed.group);
-      placed = c.end.ensures.placed;
-      each = λ k r at. (_, _, _, c.end.ensures.each k r (ap (λ l. slice_get l k) c.take_back.ensures.seats ∙ at));
-    } in
-    let run = has_run g.C.Chooser g.S.Sink g.D.Disk group c.in-Ok.room.flusher c.run-done.result.1 c.args.log c.run-done.result.2
-    c.run-done.result.3 T Z c.args.jobs.items c.take_back.new.jobs.items joined c.give.ensures.jobs c.take_back.ensures.jobs in
-    let jobs : length T ≡ length c.args.jobs.items = sym (jobs_length T) ∙ ap length c.give.ensures.jobs in
+    let joined = joins g (goal.at.returns-clause-recorded g c).After-end in
+    let run = runs g (goal.at.returns-clause-recorded g c).After-end in
+    let jobs : length T ≡ length c.args.jobs.items = sym (length-map T (λ task. task.job)) ∙ ap length c.give.ensures.jobs in
     let r = c.requires.numbers in
+    let same = pairs_length (HasWorked g.C.Chooser g.S.Sink) T Z c.run-done.ensures.works in
     let met = flusher_met c.run-done.result.3 in
     let none : met ++ faults_met Z ≡ [] = ap (λ l. met ++ faults_met l) (sym c.deref.ensures.value)
     ∙ subst (λ (o : Option SessionFault). IsLowest (met ++ faults_met c.deref.result.now) o) c.in_default-lowest.is
@@ -171,7 +177,7 @@ returns-in-Some-clause-refused g c =
     lowest_tells g.C.Chooser g.S.Sink c.args.log c.run-done.result.2 c.args.jobs c.take_back.new.jobs c.in-Ok.room.flusher.group
     c.run-done.result.3 T Z c.in-Some.fault f.refused f.whole
     (subst (λ l. AllNew c.in-Ok.room.flusher.group l) (sym c.give.ensures.seats) c.in-Ok.ensures.seats) c.run-done.ensures.works
-    (sym (jobs_length T) ∙ ap length c.give.ensures.jobs)
+    (sym (length-map T (λ task. task.job)) ∙ ap length c.give.ensures.jobs)
     (subst (λ l. IsLowest (met ++ faults_met l) (Some c.in-Some.fault)) c.deref.ensures.value
     (subst (λ (o : Option SessionFault). IsLowest (met ++ faults_met c.deref.result.now) o) c.in-Some.is c.lowest_fault-lowest.ensures))
 

@@ -9,15 +9,13 @@ use Rattle.elf_load.proofs.elf_file.ElfFile.any_load.Goals as goal
 pub returns-then-is_load_with : goal.returns-then-is_load_with
 returns-then-is_load_with c =
     let f = c.self.inside in
-    let step = any_load-step (load_test c.args.test f.bytes.now) f.bytes.now f.table_offset f.header_count c.loop-index.index
-    (omega arith) in
+    let step = any_load-step c.args.test f.bytes.now f.table_offset f.header_count c.loop-index.index (omega arith) in
     grind arith
 
 pub loop-index-preserved : goal.loop-index-preserved
 loop-index-preserved c =
     let f = c.self.inside in
-    let step = any_load-step (load_test c.args.test f.bytes.now) f.bytes.now f.table_offset f.header_count c.loop-index.index
-    (omega arith) in
+    let step = any_load-step c.args.test f.bytes.now f.table_offset f.header_count c.loop-index.index (omega arith) in
     grind arith
 
 pub returns : goal.returns

@@ -1,4 +1,4 @@
-use Rattle.std.proofs.Common.{◌≡◌, ℕ, true, sym, ◌∙◌, ap, subst, arith}
+use Rattle.std.proofs.Common.{◌≡◌, ℕ, true, sym, ◌∙◌, ap, subst, arith, rules}
 use Rattle.std.specs.Int.{w32, to_le_bytes}
 use Rattle.rrv_model.specs.declared.machine.Thread.{Thread}
 use Rattle.rrv_model.specs.Memory.{Memory}
@@ -16,17 +16,21 @@ pub store_words-requires : goal.store_words-requires
 store_words-requires c =
     subst (λ (g : GuestValue). all_writable (state_of g).memory c.args.places.now ≡ true) (sym c.self.view_is) c.requires.allowed
 
-pub returns-clause-state : goal.returns-clause-state
-returns-clause-state c =
+pub returns-clause-child : goal.returns-clause-child
+returns-clause-child c =
     let s = state_of (the_view c.self.inside) in
     let m = memory_of c.store_words.new.self in
     let t = c.args.thread.now in
-    c.in_ok-threads.ensures (with_memory m s)
-    ∙ ap (λ (child : Thread). with_memory m (spawned child s)) c.child_of.ensures.value
-    ∙ ap (λ (memory : Memory). with_memory memory (spawned (child_of t) s))
-    (c.in_ok-store_words.ensures.stored.ok
-    ∙ ap (λ (n : ℕ). stored_at_each c.args.places.now (to_le_bytes w32 n) s.memory) c.next_tid-child.ensures)
-    ∙ ap (λ (g : GuestValue). with_child_at c.args.places.now t (state_of g)) c.self.view_is
+    record {
+      state = c.in_ok-threads.ensures (with_memory m s)
+          ∙ ap (λ (child : Thread). with_memory m (spawned child s)) c.child_of.ensures.value
+          ∙ ap (λ (memory : Memory). with_memory memory (spawned (child_of t) s))
+          (c.in_ok-store_words.ensures.stored.ok
+          ∙ ap (λ (n : ℕ). stored_at_each c.args.places.now (to_le_bytes w32 n) s.memory) c.next_tid-child.ensures)
+          ∙ ap (λ (g : GuestValue). with_child_at c.args.places.now t (state_of g)) c.self.view_is;
+      refused = search rules;
+      keeps = search rules;
+    }
 
 pub returns-clause-record_is : goal.returns-clause-record_is
 returns-clause-record_is c =

@@ -1,4 +1,4 @@
-use Rattle.std.proofs.Common.{◌≡◌, Bool, true, false, List, ℕ, [], sym, ◌∙◌, ap, subst}
+use Rattle.std.proofs.Common.{◌≡◌, Bool, true, false, List, ℕ, [], sym, ◌∙◌, ap, subst, rules}
 use Rattle.rrv_model.specs.declared.machine.Thread.{Thread}
 use Rattle.rrv_model.specs.CallRows.{Row, all_writable, are_clone_flags, argument, clone_row, tid_places}
 use Rattle.guest_threads.proofs.RunningTids.{on_err}
@@ -22,17 +22,26 @@ child_made {g} {old} t view flags_are flagged full_is room places_are allowed_is
     let free : all_writable s.memory (tid_places t) ≡ true = ap (all_writable s.memory) (sym places_are) ∙ sym allowed_is ∙ allowed in
     (row_of_child s t flags space free, child_succeeds s t flags space free)
 
-pub returns-clause-makes : goal.returns-clause-makes
-returns-clause-makes c =
+pub returns : goal.returns
+returns c =
     let s = state_of c.args.self.now in
     let t = c.args.thread.now in
     let made = child_made t c.self.view_is c.are_clone_flags.ensures c.if-not-are_clone_flags.false c.is_full.ensures c.if-is_full.false
     c.tid_places-places.ensures.places c.are_writable.ensures c.if-not-are_writable.false in
-    subst (λ (row : Row). Makes row [] c.args.tid c.args.self.now c.in_ok-record.record c.make_child.new.self) (sym made.0)
-    (subst (λ (places : List ℕ). Makes (makes_child s t places) [] c.args.tid c.args.self.now c.in_ok-record.record c.make_child.new.self)
-    c.tid_places-places.ensures.places c.in_ok-record.ensures.makes)
+    record {
+      makes = subst (λ (row : Row). Makes row [] c.args.tid c.args.self.now c.in_ok-record.record c.make_child.new.self) (sym made.0)
+          (subst (λ (places : List ℕ).
+          Makes (makes_child s t places) [] c.args.tid c.args.self.now c.in_ok-record.record c.make_child.new.self)
+          c.tid_places-places.ensures.places c.in_ok-record.ensures.makes);
+      memory = search rules;
+      refused = search rules;
+    }
 
-pub returns-in_err-record-clause-memory : goal.returns-in_err-record-clause-memory
-returns-in_err-record-clause-memory c =
-    on_err c.from_residual.result (child_made c.args.thread.now c.self.view_is c.are_clone_flags.ensures c.if-not-are_clone_flags.false
-    c.is_full.ensures c.if-is_full.false c.tid_places-places.ensures.places c.are_writable.ensures c.if-not-are_writable.false).1
+pub returns-in_err-record : goal.returns-in_err-record
+returns-in_err-record c = record {
+  makes = search rules;
+  memory = on_err c.from_residual.result (child_made c.args.thread.now c.self.view_is c.are_clone_flags.ensures
+      c.if-not-are_clone_flags.false c.is_full.ensures c.if-is_full.false c.tid_places-places.ensures.places c.are_writable.ensures
+      c.if-not-are_writable.false).1;
+  refused = search rules;
+}

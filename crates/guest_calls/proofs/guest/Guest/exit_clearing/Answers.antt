@@ -15,7 +15,7 @@ returns-clause-makes c =
     record {
       carries = carries_clearing c.args.clear c.args.tid c.args.status (0 ∷ 0 ∷ 0 ∷ 0 ∷ []) old (state_of c.clear_word.new.self) _ _
           (ap made c.in_ok-written.ensures) c.in_ok-clear_word.ensures.state
-          (ap state_of c.self.view_is ∙ c.leave.ensures.state ∙ ap (leaves c.args.tid c.args.status) c.wake.ensures.state)
+          (ap state_of c.self.view_is ∙ c.leave.ensures.state ∙ ap (leaves c.args.tid c.args.status) c.wake.ensures.wakes.state)
           (memory_kept c.args.clear c.args.tid c.args.status old);
       text = text_cleared c.args.clear c.in_ok-written.written (omega arith) c.in_ok-written.ensures;
       puts = refl;
@@ -24,6 +24,6 @@ returns-clause-makes c =
 
 pub leave-requires : goal.leave-requires
 leave-requires c =
-    subst (λ (s : State). IsRunning (thread_at s c.args.tid)) (sym c.wake.ensures.state)
+    subst (λ (s : State). IsRunning (thread_at s c.args.tid)) (sym c.wake.ensures.wakes.state)
     (wakes_running c.args.clear 1 c.args.tid (state_of c.clear_word.new.self)
     (subst (λ (s : State). IsRunning (thread_at s c.args.tid)) (sym c.in_ok-clear_word.ensures.state) c.requires.running))

@@ -6,7 +6,7 @@ use Rattle.guest_calls.proofs.guest.Guest.make_child.Goals as goal
 pub returns-clause-makes : goal.returns-clause-makes
 returns-clause-makes c = record {
   carries = carries_child c.args.tid (state_of c.args.self.now) (state_of c.add_child.new.self) _ c.args.thread.now c.args.places.now
-      c.in_ok-record.record c.in_ok-record.ensures.record_is c.in_ok-record.ensures.state
+      c.in_ok-record.record c.in_ok-record.ensures.record_is c.in_ok-record.ensures.child.state
       (ap state_of c.self.view_is ∙ c.set_result.ensures.state);
   text = c.in_ok-record.ensures.text;
   puts = refl;

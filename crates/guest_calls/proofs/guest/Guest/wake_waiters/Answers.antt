@@ -9,5 +9,5 @@ returns c =
     let woken = waiters (state_of c.args.self.now) c.args.address c.args.count in
     record {
       makes = makes_after (length woken) _ (wakes c.args.address c.args.count) c.args.tid c.args.self.now _ _ _
-          c.wake-woken.ensures.count c.wake-woken.ensures.state c.wake-woken.ensures.keeps c.answer.ensures.makes;
+          c.wake-woken.ensures.count c.wake-woken.ensures.wakes.state c.wake-woken.ensures.wakes.keeps c.answer.ensures.makes;
     }

@@ -17,8 +17,8 @@ joined_are : (m : Memory) (bs : List (ℕ × ℕ)) (a k count : ℕ) (bytes : Li
 joined_are m bs a k count bytes listed are counted =
     are ∙ sym (joined_alike m bs count counted) ∙ ap (λ (bs : List (ℕ × ℕ)). joined m (clipped count bs)) listed
 
-pub returns-clause-makes : goal.returns-clause-makes
-returns-clause-makes c =
+pub returns : goal.returns
+returns c =
     let m = memory_of c.self.inside.space in
     let t = c.args.thread.now in
     let count = c.answer-record.result.result in
@@ -32,9 +32,13 @@ returns-clause-makes c =
     let most : count ≤ 65_536 = omega (arith, counted) in
     let are = joined_are m c.deref-2.result.now (argument t 1) (argument t 2) count bytes listed found.1 counted in
     record {
-      carries = search rules;
-      text = c.answer-record.ensures.makes.text;
-      puts = bytes_moved (argument t 0) count _ bytes (chunks_of c.put_of.result) are (sym len) most c.put_of.ensures
-          ∙ ap (λ (g : GuestValue). puts Writev (memory_of g.space) t count) c.self.view_is;
-      keeps = search rules;
+      makes = record {
+        carries = search rules;
+        text = c.answer-record.ensures.makes.text;
+        puts = bytes_moved (argument t 0) count _ bytes (chunks_of c.put_of.result) are (sym len) most c.put_of.ensures
+            ∙ ap (λ (g : GuestValue). puts Writev (memory_of g.space) t count) c.self.view_is;
+        keeps = search rules;
+      };
+      memory = search rules;
+      refused = search rules;
     }

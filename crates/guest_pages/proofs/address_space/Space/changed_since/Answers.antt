@@ -1,17 +1,10 @@
-use Rattle.std.proofs.Common.{◌∙◌, ℕ, IsSome, IsSomeAnd, Some, ap, sym, subst}
+use Rattle.std.proofs.Common.{◌∙◌, ℕ, IsSomeAnd, Some, ap, sym, subst}
 use Rattle.std.proofs.lemmas.Result.{err_from_is_err_and}
 use Rattle.page_tables.specs.Contents.{contents_of}
 use Rattle.guest_pages.specs.Space.{SpaceValue, memory_of, snapshots_of}
 use Rattle.guest_pages.specs.Snapshots.{AreChanges}
 use Rattle.guest_pages.proofs.Changes.{kept_changes, differs}
-use Rattle.guest_pages.proofs.SnapshotPages.{live_kept}
 use Rattle.guest_pages.proofs.address_space.Space.changed_since.Goals as goal
-
-pub list_changed-requires : goal.list_changed-requires
-list_changed-requires c =
-    subst (λ (n : ℕ). IsSome ((contents_of c.self.inside.tables).kept n)) (sym c.number.ensures)
-    (live_kept (contents_of c.self.inside.tables).kept c.args.snapshot.now
-    (subst (λ (s : SpaceValue). IsSome (snapshots_of s c.args.snapshot.now)) (sym c.self.view_is) c.requires))
 
 pub returns-clause-changes : goal.returns-clause-changes
 returns-clause-changes c =

@@ -1,4 +1,4 @@
-use Rattle.std.proofs.Common.{◌≡◌, ◌∙◌, ◌+◌, Some, subst, sym, ap, arith}
+use Rattle.std.proofs.Common.{◌≡◌, ◌∙◌, ◌+◌, false, Some, subst, sym, ap, arith}
 use Rattle.rrv_model.specs.Memory.{page_count, is_mapped}
 use Rattle.page_tables.specs.Contents.{contents_of}
 use Rattle.guest_pages.specs.Live.{added_for, live_of}
@@ -9,6 +9,16 @@ use Rattle.guest_pages.proofs.Spaces.{is_space, no_page}
 use Rattle.guest_pages.proofs.Stays.{stays, snapshots_stay}
 use Rattle.guest_pages.proofs.WholePages.{page_count_put, page_count_over, put_in, put_each}
 use Rattle.guest_pages.proofs.address_space.Space.put_page.Goals as goal
+use Rattle.guest_pages.proofs.address_space.Space.put_page.Goals.{After-is_there}
+
+-- where there is no page, one more would be mapped
+total_after : (c : After-is_there) → c.is_there.result ≡ false → page_count (with_page c.args.number (Some c.args.page)
+    (memory_of c.args.self.now))
+    ≡ page_count (memory_of c.self.inside.tables) + 1
+total_after c absent =
+    ap (λ (s : SpaceValue). page_count (with_page c.args.number (Some c.args.page) (memory_of s))) (sym c.self.view_is)
+    ∙ page_count_put (contents_of c.self.inside.tables).pages c.args.page c.args.number c.requires.1
+    (no_page ((contents_of c.self.inside.tables).pages c.args.number) (sym c.is_there.ensures ∙ absent))
 
 pub returns-in_default-clause-set : goal.returns-in_default-clause-set
 returns-in_default-clause-set c = stays _ _ _ _ (c.in_default.ensures.err ∙ c.self.view_is)
@@ -54,11 +64,7 @@ returns-then-is_there-clause-set c =
 
 pub returns-then-self-ge-MAX_PAGES-clause-refused : goal.returns-then-self-ge-MAX_PAGES-clause-refused
 returns-then-self-ge-MAX_PAGES-clause-refused c =
-    let total : page_count (with_page c.args.number (Some c.args.page) (memory_of c.args.self.now))
-    ≡ page_count (memory_of c.self.inside.tables) + 1 =
-    ap (λ (s : SpaceValue). page_count (with_page c.args.number (Some c.args.page) (memory_of s))) (sym c.self.view_is)
-    ∙ page_count_put (contents_of c.self.inside.tables).pages c.args.page c.args.number c.requires.1
-    (no_page ((contents_of c.self.inside.tables).pages c.args.number) (sym c.is_there.ensures ∙ c.if-is_there.false)) in
+    let total = total_after (goal.at.returns-then-self-ge-MAX_PAGES-clause-refused c).After-is_there c.if-is_there.false in
     let count = c.self.invariant.count in
     omega (arith, total, count, c.if-self-ge-MAX_PAGES.true)
 
@@ -69,11 +75,7 @@ returns-then-self-ge-MAX_PAGES-clause-too_many c = λ e.
 
 pub returns-in_default-place-clause-refused : goal.returns-in_default-place-clause-refused
 returns-in_default-place-clause-refused c =
-    let total : page_count (with_page c.args.number (Some c.args.page) (memory_of c.args.self.now))
-    ≡ page_count (memory_of c.self.inside.tables) + 1 =
-    ap (λ (s : SpaceValue). page_count (with_page c.args.number (Some c.args.page) (memory_of s))) (sym c.self.view_is)
-    ∙ page_count_put (contents_of c.self.inside.tables).pages c.args.page c.args.number c.requires.1
-    (no_page ((contents_of c.self.inside.tables).pages c.args.number) (sym c.is_there.ensures ∙ c.if-is_there.false)) in
+    let total = total_after (goal.at.returns-in_default-place-clause-refused c).After-is_there c.if-is_there.false in
     let count = c.self.invariant.count in
     omega (arith, total, count, c.if-self-ge-MAX_PAGES.false)
 

@@ -12,6 +12,20 @@ use Rattle.guest_pages.proofs.MissingPages.{joined_each, joined_there, covered_j
 use Rattle.guest_pages.proofs.Spaces.{is_space}
 use Rattle.guest_pages.proofs.Stays.{stays, snapshots_stay}
 use Rattle.guest_pages.proofs.space_calls.SpaceAddressSpace.cover.Goals as goal
+use Rattle.guest_pages.proofs.space_calls.SpaceAddressSpace.cover.Goals.{In_default}
+
+-- where there is no page, one more would be mapped
+total_after : (c : In_default) → page_count (covered c.args.page c.args.permissions (memory_of c.args.self.now))
+    ≡ page_count (memory_of c.self.inside.tables) + 1
+total_after c =
+    ap (λ (s : SpaceValue). page_count (covered c.args.page c.args.permissions (memory_of s))) (sym c.self.view_is)
+    ∙ page_count_covered (contents_of c.self.inside.tables).pages c.args.permissions c.args.page c.requires.high
+    (sym c.page.ensures ∙ ap shown c.in_default.is)
+
+unmapped_before : (c : In_default) → is_mapped (memory_of c.args.self.now) c.args.page ≡ false
+unmapped_before c =
+    ap (λ (s : SpaceValue). is_mapped (memory_of s) c.args.page) (sym c.self.view_is)
+    ∙ is_mapped_in (contents_of c.self.inside.tables).pages c.args.page ∙ ap is_some (sym c.page.ensures ∙ ap shown c.in_default.is)
 
 pub invariant_of-self : goal.invariant_of-self
 invariant_of-self c =
@@ -41,36 +55,24 @@ returns-in-Some-clause-covered c =
 
 pub returns-then-self-ge-MAX_PAGES-clause-refused : goal.returns-then-self-ge-MAX_PAGES-clause-refused
 returns-then-self-ge-MAX_PAGES-clause-refused c =
-    let absent = sym c.page.ensures ∙ ap shown c.in_default.is in
-    let total : page_count (covered c.args.page c.args.permissions (memory_of c.args.self.now))
-    ≡ page_count (memory_of c.self.inside.tables) + 1 =
-    ap (λ (s : SpaceValue). page_count (covered c.args.page c.args.permissions (memory_of s))) (sym c.self.view_is)
-    ∙ page_count_covered (contents_of c.self.inside.tables).pages c.args.permissions c.args.page c.requires.high absent in
+    let total = total_after (goal.at.returns-then-self-ge-MAX_PAGES-clause-refused c).In_default in
     let count = c.self.invariant.count in
     omega (arith, total, count, c.if-self-ge-MAX_PAGES.true)
 
 pub returns-then-self-ge-MAX_PAGES-clause-grows : goal.returns-then-self-ge-MAX_PAGES-clause-grows
-returns-then-self-ge-MAX_PAGES-clause-grows c =
-    ap (λ (s : SpaceValue). is_mapped (memory_of s) c.args.page) (sym c.self.view_is)
-    ∙ is_mapped_in (contents_of c.self.inside.tables).pages c.args.page ∙ ap is_some (sym c.page.ensures ∙ ap shown c.in_default.is)
+returns-then-self-ge-MAX_PAGES-clause-grows c = unmapped_before (goal.at.returns-then-self-ge-MAX_PAGES-clause-grows c).In_default
 
 pub returns-in_default-place-clause-covered : goal.returns-in_default-place-clause-covered
 returns-in_default-place-clause-covered c = stays _ _ _ _ (c.in_default-place.ensures.err ∙ c.self.view_is)
 
 pub returns-in_default-place-clause-refused : goal.returns-in_default-place-clause-refused
 returns-in_default-place-clause-refused c =
-    let absent = sym c.page.ensures ∙ ap shown c.in_default.is in
-    let total : page_count (covered c.args.page c.args.permissions (memory_of c.args.self.now))
-    ≡ page_count (memory_of c.self.inside.tables) + 1 =
-    ap (λ (s : SpaceValue). page_count (covered c.args.page c.args.permissions (memory_of s))) (sym c.self.view_is)
-    ∙ page_count_covered (contents_of c.self.inside.tables).pages c.args.permissions c.args.page c.requires.high absent in
+    let total = total_after (goal.at.returns-in_default-place-clause-refused c).In_default in
     let count = c.self.invariant.count in
     omega (arith, total, count, c.if-self-ge-MAX_PAGES.false)
 
 pub returns-in_default-place-clause-grows : goal.returns-in_default-place-clause-grows
-returns-in_default-place-clause-grows c =
-    ap (λ (s : SpaceValue). is_mapped (memory_of s) c.args.page) (sym c.self.view_is)
-    ∙ is_mapped_in (contents_of c.self.inside.tables).pages c.args.page ∙ ap is_some (sym c.page.ensures ∙ ap shown c.in_default.is)
+returns-in_default-place-clause-grows c = unmapped_before (goal.at.returns-in_default-place-clause-grows c).In_default
 
 pub invariant_of-self-2 : goal.invariant_of-self-2
 invariant_of-self-2 c =

@@ -1,16 +1,10 @@
-use Rattle.std.proofs.Common.{◌∙◌, ℕ, ◌≤◌, None, IsSome, ap, sym, subst}
+use Rattle.std.proofs.Common.{◌∙◌, ℕ, ◌≤◌, None, ap, sym, subst}
 use Rattle.page_tables.specs.Contents.{contents_of}
 use Rattle.guest_pages.specs.Live.{live_of}
 use Rattle.guest_pages.specs.Space.{SpaceValue, AreEachPage, snapshots_of}
 use Rattle.guest_pages.proofs.Live.{total_is}
-use Rattle.guest_pages.proofs.SnapshotPages.{live_kept, memory_kept, none_kept, still_kept}
+use Rattle.guest_pages.proofs.SnapshotPages.{memory_kept, none_kept, still_kept}
 use Rattle.guest_pages.proofs.space_calls.SpaceAddressSpace.drop_snapshot.Goals as goal
-
-pub release-requires : goal.release-requires
-release-requires c =
-    subst (λ (n : ℕ). IsSome ((contents_of c.self.inside.tables).kept n)) (sym c.number.ensures)
-    (live_kept (contents_of c.self.inside.tables).kept c.args.snapshot
-    (subst (λ (s : SpaceValue). IsSome (snapshots_of s c.args.snapshot)) (sym c.self.view_is) c.requires))
 
 pub returns-clause-gone : goal.returns-clause-gone
 returns-clause-gone c =

@@ -1,10 +1,9 @@
 use Rattle.std.proofs.Common.{refl}
 use Rattle.slab.specs.Slab.{get}
 use Rattle.page_tables.specs.Table.{entry_at}
-use Rattle.page_tables.specs.Sharing.{contents_in}
 use Rattle.page_tables.specs.Changes.{IsRemoved}
-use Rattle.page_tables.proofs.Values.{seen}
-use Rattle.page_tables.proofs.KeptTables.{transport, positive}
+use Rattle.page_tables.proofs.Values.{stand, carried}
+use Rattle.page_tables.proofs.KeptTables.{positive}
 use Rattle.page_tables.proofs.PlacedPages.{removed_shared, removed_contents}
 use Rattle.page_tables.proofs.page_tables.PageTables.remove.Goals as goal
 
@@ -18,11 +17,9 @@ invariant_of-self c =
 
 pub returns : goal.returns
 returns c =
-    transport (IsRemoved c.args.number) (contents_in c.self.inside.pool c.self.inside.table c.self.inside.kept.items)
-    (contents_in c.detach.new.pool c.detach.new.table c.self.inside.kept.items) _ _
-    (seen c.self.inside.pool c.self.inside.table c.self.inside.kept.items _ c.self.invariant c.self.view_is)
-    (seen c.detach.new.pool c.detach.new.table c.self.inside.kept.items _
-    (removed_shared c.self.inside.pool c.detach.new.pool c.self.inside.table c.detach.new.table c.self.inside.kept.items c.args.number
-    c.self.invariant c.detach.ensures.gone c.detach.ensures.none c.detach.ensures.others c.detach.ensures.pages) refl)
+    let shared = removed_shared c.self.inside.pool c.detach.new.pool c.self.inside.table c.detach.new.table c.self.inside.kept.items
+    c.args.number c.self.invariant c.detach.ensures.gone c.detach.ensures.none c.detach.ensures.others c.detach.ensures.pages in
+    carried (stand c.self.inside.pool _ _ _ c.self.invariant c.self.view_is)
+    (stand c.detach.new.pool c.detach.new.table c.self.inside.kept.items _ shared refl) (IsRemoved c.args.number)
     (removed_contents c.self.inside.pool c.detach.new.pool c.self.inside.table c.detach.new.table c.self.inside.kept.items c.args.number
     c.self.invariant c.detach.ensures.gone c.detach.ensures.none c.detach.ensures.others c.detach.ensures.pages c.detach.ensures.len)

@@ -9,38 +9,22 @@ use Rattle.page_tables.proofs.table.Table.set.Goals as goal
 pub index_mut-requires : goal.index_mut-requires
 index_mut-requires c = omega (arith, c.args.self.now.directory.ok, within c.args.self.now c.args.number c.requires)
 
-pub returns-in-Some-clause-here : goal.returns-in-Some-clause-here
-returns-in-Some-clause-here c =
+pub returns-in-Some : goal.returns-in-Some
+returns-in-Some c =
+    let t = c.args.self.now in
     let new : Leaf = record { entries = with_value c.in-Some.leaf.entries c.put_entry.new.entries } in
-    let u : Table = record { directory = with_item c.args.self.now.directory (c.args.number / 1024) (Some new) } in
-    set_here c.args.self.now u c.args.number c.in-Some.leaf new c.args.entry (within c.args.self.now c.args.number c.requires) refl
-    (c.put_entry.ensures.put ∙ ap (λ es. set es (c.args.number % 1024) c.args.entry) c.deref_mut.ensures.value)
-    (ap length (sym c.deref_mut.ensures.value) ∙ c.put_entry.ensures.full)
-
-pub returns-in-Some-clause-others : goal.returns-in-Some-clause-others
-returns-in-Some-clause-others c =
-    let new : Leaf = record { entries = with_value c.in-Some.leaf.entries c.put_entry.new.entries } in
-    let u : Table = record { directory = with_item c.args.self.now.directory (c.args.number / 1024) (Some new) } in
-    let here = within c.args.self.now c.args.number c.requires in
+    let u : Table = record { directory = with_item t.directory (c.args.number / 1024) (Some new) } in
+    let there = within t c.args.number c.requires in
+    let put = c.put_entry.ensures.put ∙ ap (λ es. set es (c.args.number % 1024) c.args.entry) c.deref_mut.ensures.value in
     let was = c.index_mut.ensures.value in
-    set_others c.args.self.now u c.args.number c.in-Some.leaf new c.args.entry here refl
-    (c.put_entry.ensures.put ∙ ap (λ es. set es (c.args.number % 1024) c.args.entry) c.deref_mut.ensures.value)
-    (same_in c.args.self.now.directory.items (c.args.number / 1024) None c.index_mut.result.now here ∙ sym was ∙ c.in-Some.is)
+    record {
+      here = set_here t u c.args.number c.in-Some.leaf new c.args.entry there refl put
+          (ap length (sym c.deref_mut.ensures.value) ∙ c.put_entry.ensures.full);
+      others = set_others t u c.args.number c.in-Some.leaf new c.args.entry there refl put
+          (same_in t.directory.items (c.args.number / 1024) None c.index_mut.result.now there ∙ sym was ∙ c.in-Some.is);
+      leaves = set_room t u c.args.number new c.requires refl;
+    }
 
-pub returns-in-Some-clause-room : goal.returns-in-Some-clause-room
-returns-in-Some-clause-room c =
-    let new : Leaf = record { entries = with_value c.in-Some.leaf.entries c.put_entry.new.entries } in
-    let u : Table = record { directory = with_item c.args.self.now.directory (c.args.number / 1024) (Some new) } in
-    set_room c.args.self.now u c.args.number new c.requires refl
-
-pub returns-in_default-clause-here : goal.returns-in_default-clause-here
-returns-in_default-clause-here c =
+pub returns-in_default : goal.returns-in_default
+returns-in_default c =
     absurd (let h = c.index_mut.ensures.value in no_leaf c.args.self.now c.args.number (cc (h, c.in_default.is)) c.requires)
-
-pub returns-in_default-clause-others : goal.returns-in_default-clause-others
-returns-in_default-clause-others c =
-    λ q apart. absurd (let h = c.index_mut.ensures.value in no_leaf c.args.self.now c.args.number (cc (h, c.in_default.is)) c.requires)
-
-pub returns-in_default-clause-room : goal.returns-in_default-clause-room
-returns-in_default-clause-room c =
-    λ q. absurd (let h = c.index_mut.ensures.value in no_leaf c.args.self.now c.args.number (cc (h, c.in_default.is)) c.requires)

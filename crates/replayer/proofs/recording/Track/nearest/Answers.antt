@@ -17,16 +17,14 @@ loop-left-init c =
     let start : IsPlace o frames 0 0 (state_of position.guest) =
     subst (λ n. IsPlace o frames n 0 (state_of position.guest)) c.in_ok-position.ensures.frames
     (subst (λ n. IsPlace o frames position.frames n (state_of position.guest)) c.in_ok-position.ensures.at
-    c.in_ok-position.ensures.place) in
+    c.in_ok-position.ensures.begins.place) in
     record {
-      position = c.in_ok-position.ensures.place;
+      begins = c.in_ok-position.ensures.begins;
       left = subst (λ (ms : List Mark). MarksLeft o frames (state_of position.guest) ms) (sym c.as_slice-left.ensures)
           (start_marks o frames c.args.self.now.marks (state_of position.guest) c.requires start);
       last = ap (λ n. last_place n c.as_slice-left.result.now c.args.t) c.in_ok-position.ensures.at
           ∙ ap (λ (ms : List Mark). last_place 0 ms c.args.t) c.as_slice-left.ensures;
       low = omega (arith, c.in_ok-position.ensures.at);
-      steps = c.in_ok-position.ensures.steps;
-      ran = c.in_ok-position.ensures.ran;
     }
 
 pub loop-left-preserved : goal.loop-left-preserved
@@ -42,11 +40,13 @@ loop-left-preserved c =
     let left = subst (λ (ms : List Mark). MarksLeft o frames base ms) next c.loop-left.invariant.left in
     let described = subst (λ (ps : List Part). Describes base ps new) c.as_slice.ensures c.in-Ok.ensures.put in
     record {
-      position = mark_place o frames base new m rest left described;
+      begins = record {
+        place = mark_place o frames base new m rest left described;
+        steps = c.loop-left.invariant.begins.steps;
+        ran = c.in-Ok.ensures.ran ∙ c.loop-left.invariant.begins.ran;
+      };
       left = mark_left o frames base new m rest left described;
       last = sym (last_on c.loop-left.position.at m rest c.args.t (search rules))
           ∙ ap (λ (ms : List Mark). last_place c.loop-left.position.at ms c.args.t) (sym next) ∙ c.loop-left.invariant.last;
       low = search rules;
-      steps = c.loop-left.invariant.steps;
-      ran = c.in-Ok.ensures.ran ∙ c.loop-left.invariant.ran;
     }

@@ -6,6 +6,7 @@ use Rattle.replayer.specs.declared.position.Position.{Position}
 use Rattle.replayer.specs.Places.{Begins, GoesOn}
 use Rattle.replayer.proofs.Onward.{drop_next, frame_ahead, none_left, on_step, split_first, stands_between, stands_in, steps_ahead}
 use Rattle.replayer.proofs.recording.Track.run_to.Goals as goal
+use Rattle.replayer.proofs.recording.Track.run_to.Goals.{After-frame-item}
 
 pub loop-left-init : goal.loop-left-init
 loop-left-init c =
@@ -23,60 +24,49 @@ loop-left-init c =
       ran = omega arith;
     }
 
+-- the frame is next, and the frames go on with it
+next_is : (c : After-frame-item) → c.loop-left.left.now
+    ≡ c.frame-item.result ∷ take (length c.loop-left.left.now - 1) (drop 1 c.loop-left.left.now)
+next_is c = split_first c.loop-left.left.now c.frame-item.result c.in-len1-up.len_at_least c.frame-item.is
+
+goes_on : (c : After-frame-item) → GoesOn c.args.self.now.opening c.args.self.now.frames c.loop-left.position.at
+    (state_of c.loop-left.position.guest)
+    (c.frame-item.result ∷ take (length c.loop-left.left.now - 1) (drop 1 c.loop-left.left.now))
+goes_on c =
+    subst (λ (fs : List Frame). GoesOn c.args.self.now.opening c.args.self.now.frames c.loop-left.position.at
+    (state_of c.loop-left.position.guest) fs) (next_is c) c.loop-left.invariant.on
+
 pub run_plain-requires : goal.run_plain-requires
 run_plain-requires c =
-    let all = c.loop-left.left.now in
-    let f = c.frame-item.result in
-    let rest = take (length all - 1) (drop 1 all) in
-    let next : all ≡ f ∷ rest = split_first all f c.in-len1-up.len_at_least c.frame-item.is in
-    let s = state_of c.loop-left.position.guest in
-    let at = c.loop-left.position.at in
-    let on = subst (λ (fs : List Frame). GoesOn c.args.self.now.opening c.args.self.now.frames at s fs) next c.loop-left.invariant.on in
-    steps_ahead c.args.self.now.opening c.args.self.now.frames at s f rest (c.args.t - at) on
+    steps_ahead _ _ _ _ _ _ (c.args.t - c.loop-left.position.at) (goes_on (goal.at.run_plain-requires c).After-frame-item)
     (omega (arith, c.from-count.ensures, c.if-t-position.true))
 
 pub follow_whole-requires : goal.follow_whole-requires
-follow_whole-requires c =
-    let all = c.loop-left.left.now in
-    let f = c.frame-item.result in
-    let rest = take (length all - 1) (drop 1 all) in
-    let next : all ≡ f ∷ rest = split_first all f c.in-len1-up.len_at_least c.frame-item.is in
-    let s = state_of c.loop-left.position.guest in
-    let at = c.loop-left.position.at in
-    let on = subst (λ (fs : List Frame). GoesOn c.args.self.now.opening c.args.self.now.frames at s fs) next c.loop-left.invariant.on in
-    frame_ahead c.args.self.now.opening c.args.self.now.frames at s f rest on
+follow_whole-requires c = frame_ahead _ _ _ _ _ _ (goes_on (goal.at.follow_whole-requires c).After-frame-item)
 
 pub returns-then-t-position-clause-stands : goal.returns-then-t-position-clause-stands
 returns-then-t-position-clause-stands c =
-    let all = c.loop-left.left.now in
-    let f = c.frame-item.result in
-    let rest = take (length all - 1) (drop 1 all) in
-    let next : all ≡ f ∷ rest = split_first all f c.in-len1-up.len_at_least c.frame-item.is in
-    let s = state_of c.loop-left.position.guest in
+    let before = (goal.at.returns-then-t-position-clause-stands c).After-frame-item in
     let at = c.loop-left.position.at in
-    let on = subst (λ (fs : List Frame). GoesOn c.args.self.now.opening c.args.self.now.frames at s fs) next c.loop-left.invariant.on in
     let low = c.loop-left.invariant.low in
     let there : Position =
     record { guest = c.run_plain.new.guest; frames = c.loop-left.position.frames; steps = c.args.t - at; at = c.args.t } in
-    stands_in c.args.self.now there at (c.args.t - at) s f rest on (c.loop-left.invariant.rest ∙ next) c.loop-left.invariant.inside
-    (omega (arith, c.from-count.ensures, c.if-t-position.true)) c.in_ok-run_plain.ensures.steps refl (omega (arith, low))
+    stands_in c.args.self.now there at (c.args.t - at) _ _ _ (goes_on before) (c.loop-left.invariant.rest ∙ next_is before)
+    c.loop-left.invariant.inside (omega (arith, c.from-count.ensures, c.if-t-position.true)) c.in_ok-run_plain.ensures.steps refl
+    (omega (arith, low))
 
 pub loop-left-preserved : goal.loop-left-preserved
 loop-left-preserved c =
-    let all = c.loop-left.left.now in
-    let f = c.frame-item.result in
-    let rest = take (length all - 1) (drop 1 all) in
-    let next : all ≡ f ∷ rest = split_first all f c.in-len1-up.len_at_least c.frame-item.is in
-    let s = state_of c.loop-left.position.guest in
+    let before = (goal.at.loop-left-preserved c).After-frame-item in
     let new = state_of c.follow_whole.new.guest in
     let o = c.args.self.now.opening in
     let frames = c.args.self.now.frames in
     let at = c.loop-left.position.at in
-    let on = subst (λ (fs : List Frame). GoesOn o frames at s fs) next c.loop-left.invariant.on in
-    let behind = on_step o frames at s new f rest on c.in_ok-follow_whole.ensures.follows in
-    let there = drop_next frames c.loop-left.position.frames f rest (c.loop-left.invariant.rest ∙ next) in
+    let behind = on_step o frames at _ new c.frame-item.result _ (goes_on before) c.in_ok-follow_whole.ensures.follows in
+    let there = drop_next frames c.loop-left.position.frames c.frame-item.result _ (c.loop-left.invariant.rest ∙ next_is before) in
     record {
-      on = subst (λ i. GoesOn o frames (at + i) new rest) (sym c.from-count.ensures) behind;
+      on = subst (λ i. GoesOn o frames (at + i) new (take (length c.loop-left.left.now - 1) (drop 1 c.loop-left.left.now)))
+          (sym c.from-count.ensures) behind;
       rest = there.0;
       inside = there.1;
       low = search (rules, c.loop-left.invariant.low);

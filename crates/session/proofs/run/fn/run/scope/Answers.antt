@@ -7,5 +7,5 @@ returns g c =
       works = c.finish_all.ensures c.captures.tasks.items c.start_all.ensures.works;
       flushed = flushed_of g.D.Disk c.captures.flusher c.start_all.new.flusher c.flush-flushed.new.flusher c.captures.log
           c.flush-flushed.new.log c.flush-flushed.result c.start_all.ensures.same
-          e.ended e.stopped e.numbers e.never e.group c.requires.2.whole e.disk e.raises;
+          e.turned e.numbers e.never e.group c.requires.2.whole;
     }

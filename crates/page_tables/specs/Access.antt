@@ -1,0 +1,9 @@
+-- What bytes are asked for.
+use Rattle.std.specs.Prelude.{Bool}
+use Rattle.rrv_model.specs.declared.machine.Permissions.{Permissions}
+use Rattle.page_tables.specs.declared.page_tables.Access.{Access}
+use Rattle.page_tables.specs.declared.page_tables.Access.TheVariants.{Read, Execute}
+
+abbrev pub has_access : Access → Permissions → Bool
+has_access Read p = p.read
+has_access Execute p = p.execute

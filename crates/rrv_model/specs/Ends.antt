@@ -1,0 +1,101 @@
+-- Ends: the kinds of records, and what is asked of how a frame ended, and a guest. Others go by these words, and have no arm for each end.
+use Rattle.std.specs.Prelude.{ℕ, ◌==◌, Bool, true, false, if◌then◌else◌, List, codes, Option, Some, None}
+use Rattle.rrv_model.specs.declared.machine.FaultKind.{FaultKind}
+use Rattle.rrv_model.specs.declared.machine.GuestEnd.{GuestEnd}
+use Rattle.rrv_model.specs.declared.machine.GuestEnd.TheVariants as guest_ends
+use Rattle.rrv_model.specs.declared.record.CallRecord.{CallRecord}
+use Rattle.rrv_model.specs.declared.record.End.{End}
+use Rattle.rrv_model.specs.declared.record.End.TheVariants as ends
+use Rattle.rrv_model.specs.declared.record.Item.{Item}
+use Rattle.rrv_model.specs.declared.record.Item.TheVariants as items
+use Rattle.rrv_model.specs.declared.record.Kind.{Kind}
+use Rattle.rrv_model.specs.declared.record.Kind.TheVariants as kinds
+
+-- ---- kinds of records
+
+-- the byte of a kind
+abbrev pub kind_number : Kind → ℕ
+kind_number kinds.Opening = 0
+kind_number kinds.Preempt = 1
+kind_number kinds.Call = 2
+kind_number kinds.Fault = 3
+kind_number kinds.Stuck = 4
+kind_number kinds.Part = 5
+
+-- the kind of a byte
+abbrev pub kind_from : ℕ → Option Kind
+kind_from n =
+    if n == 0 then Some kinds.Opening
+    else if n == 1 then Some kinds.Preempt
+    else if n == 2 then Some kinds.Call
+    else if n == 3 then Some kinds.Fault
+    else if n == 4 then Some kinds.Stuck
+    else if n == 5 then Some kinds.Part
+    else None
+
+-- the word that is printed of a kind
+abbrev pub kind_name : Kind → List ℕ
+kind_name kinds.Opening = codes "opening"
+kind_name kinds.Preempt = codes "preempt"
+kind_name kinds.Call = codes "call"
+kind_name kinds.Fault = codes "fault"
+kind_name kinds.Stuck = codes "stuck"
+kind_name kinds.Part = codes "part"
+
+-- the kind of a frame's record
+abbrev pub end_kind : End → Kind
+end_kind ends.Preempt = kinds.Preempt
+end_kind (ends.Call r) = kinds.Call
+end_kind (ends.Fault kind) = kinds.Fault
+end_kind ends.Stuck = kinds.Stuck
+
+-- the kind of an item's record
+abbrev pub item_kind : Item → Kind
+item_kind (items.Opening o) = kinds.Opening
+item_kind (items.Frame f) = end_kind f.end
+item_kind (items.Part p) = kinds.Part
+
+-- ---- how a frame ended
+
+-- the call that it ends in, if it ends in one
+abbrev pub call_in : End → Option CallRecord
+call_in (ends.Call r) = Some r
+call_in ends.Preempt = None
+call_in (ends.Fault kind) = None
+call_in ends.Stuck = None
+
+-- the fault that it ends in, if it ends in one
+abbrev pub fault_in : End → Option FaultKind
+fault_in (ends.Fault kind) = Some kind
+fault_in ends.Preempt = None
+fault_in (ends.Call r) = None
+fault_in ends.Stuck = None
+
+-- whether a frame that ended so has a thread
+abbrev pub has_thread : End → Bool
+has_thread ends.Preempt = true
+has_thread (ends.Call r) = true
+has_thread (ends.Fault kind) = true
+has_thread ends.Stuck = false
+
+-- whether its thread was preempted
+abbrev pub is_preempt : End → Bool
+is_preempt ends.Preempt = true
+is_preempt (ends.Call r) = false
+is_preempt (ends.Fault kind) = false
+is_preempt ends.Stuck = false
+
+-- the guest's end where the frame, and not its call, ends the guest
+abbrev pub guest_end : End → Option GuestEnd
+guest_end ends.Preempt = None
+guest_end (ends.Call r) = None
+guest_end (ends.Fault kind) = Some (guest_ends.Faulted kind)
+guest_end ends.Stuck = Some guest_ends.Stuck
+
+-- ---- how a guest ended
+
+-- the word that is printed of it
+abbrev pub guest_end_name : GuestEnd → List ℕ
+guest_end_name (guest_ends.Exited status) = codes "exited"
+guest_end_name (guest_ends.Faulted kind) = codes "faulted"
+guest_end_name guest_ends.Stuck = codes "stuck"
