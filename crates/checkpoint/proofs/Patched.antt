@@ -167,13 +167,15 @@ patched_by parts s fit =
 pub record LeavesToDo (left all : State → State) (old new : GuestValue) : Type 0 where
   pub state : left (state_of new) ≡ all (state_of old)
   pub keeps : KeepsRest old new
+  pub put : new.put ≡ old.put
 
 -- what is refused of those that are left is refused of all
 pub refused_of_all : {T : Type 0} (left all : State → State) (old mid new : GuestValue) (fault : ApplyFault) → LeavesToDo left all old mid
-    → RefusesPages fault (left (state_of mid)).memory → KeepsRest mid new
+    → RefusesPages fault (left (state_of mid)).memory → KeepsRest mid new → new.put ≡ mid.put
     → BecomesOrRefuses {T = T} (Err fault) (all (state_of old)) old new
-refused_of_all left all old mid new fault to_do refused keeps = record {
+refused_of_all left all old mid new fault to_do refused keeps put = record {
   state = tt;
   refused = subst (RefusesPages fault) (ap (λ (s : State). s.memory) to_do.state) refused;
   keeps = kept_then old mid new to_do.keeps keeps;
+  put = put ∙ to_do.put;
 }

@@ -62,8 +62,10 @@ RefusesPages faults.BadPart m = ⊥
 RefusesPages faults.TooManyPages m = MAX_PAGES < page_count m
 RefusesPages faults.Memory m = Unit {0}
 
--- so it is where the pages are put in, and a refusal is one of the memory that would come of it
+-- so it is where the pages are put in, and all else that shows of the guest is as before; a refusal is one of the memory
+-- that would come of it
 pub record BecomesOrRefuses {T : Type 0} (result : Result T ApplyFault) (after : State) (old new : GuestValue) : Type 0 where
   pub state : OnOk result (state_of new ≡ after)
   pub refused : IfErr result (λ fault. RefusesPages fault after.memory)
   pub keeps : KeepsRest old new
+  pub put : new.put ≡ old.put

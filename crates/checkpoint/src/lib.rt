@@ -13,7 +13,7 @@
 //!   differ from the snapshot's in bytes, in permissions or in being mapped. A page that is mapped has the line mask of its
 //!   bytes against the snapshot's, or against zeros if that has no such page; another one is named as not mapped, with the mask
 //!   0.
-//! - `recorder` makes checkpoints by it, and `replayer` puts them onto a guest. Rows of `replay_cases` and `session_tests` see
+//! - `recorder` makes checkpoints by it, and `replayer` puts them onto a guest. Rows of `replay_cases` and `tools/scenes` see
 //!   both.
 #![tactic(auto)]
 

@@ -1,6 +1,6 @@
 //! Static ELF32 executables for RISC-V: the image that a guest starts from, or why there is none.
 //!
-//! Tests: machine_tests, machine_cases.
+//! Tests: machine_cases.
 //!
 //! # Contracts
 //!

@@ -2,7 +2,7 @@
 
 ghost use Rattle.std.specs.Prelude.{◌≡◌, Some};
 ghost use Rattle.std.specs.Fmt.{WritesOnOk};
-ghost use Rattle.rrv_model.specs.State.{thread_at, AreRegs};
+ghost use Rattle.rrv_model.specs.State.{thread_at};
 ghost use Rattle.guest_calls.specs.Guest.{state_of};
 ghost use Rattle.end_text.specs.Ends.{address_text, cause_text, end_lines, exit_line, fault_line};
 ghost use Rattle.end_text.specs.Ends.{faulting_text, instruction_text, last_text, place_text, wait_line};
@@ -148,7 +148,6 @@ fn write_cause<W: fmt::Write>(
     regs: &Regs,
     word: Option<u32>,
 ) -> fmt::Result
-    requires { AreRegs regs.now }
     ensures { WritesOnOk W.write_str_gives f.old result (cause_text kind regs.now word) f.new }
 {
     write_instruction(f, word)?;

@@ -1,7 +1,7 @@
 //! The instruction that faulted, and the address of its fault.
 
 ghost use Rattle.std.specs.Prelude.{◌≡◌};
-ghost use Rattle.rrv_model.specs.State.{register, AreRegs};
+ghost use Rattle.rrv_model.specs.State.{register};
 ghost use Rattle.rrv_model.specs.WordReader.{read};
 ghost use Rattle.rrv_model.specs.Words.{plus};
 ghost use Rattle.guest_pages.specs.Space.{memory_of};
@@ -47,7 +47,6 @@ fn decoded(word: u32) -> Option<Instr>
 
 /// The address that a fault of this kind is at, with these registers at this instruction.
 pub(crate) fn fault_address(kind: FaultKind, regs: &Regs, instr: Option<Instr>) -> Option<u32>
-    requires { AreRegs regs.now }
     ensures { result ≡ ends.fault_address kind regs.now instr }
 {
     match kind {
@@ -61,7 +60,6 @@ pub(crate) fn fault_address(kind: FaultKind, regs: &Regs, instr: Option<Instr>) 
 /// The address that an instruction loads from or stores to.
 #[tactic(auto, unfolding(crate::specs::Ends::accessed))]
 fn accessed(regs: &Regs, instr: Option<Instr>) -> Option<u32>
-    requires { AreRegs regs.now }
     ensures { result ≡ ends.accessed regs.now instr }
 {
     match instr? {
@@ -78,7 +76,6 @@ fn accessed(regs: &Regs, instr: Option<Instr>) -> Option<u32>
 /// The address that an instruction jumps or branches to.
 #[tactic(auto, unfolding(crate::specs::Ends::target))]
 fn target(regs: &Regs, instr: Option<Instr>) -> Option<u32>
-    requires { AreRegs regs.now }
     ensures { result ≡ ends.target regs.now instr }
 {
     match instr? {
@@ -94,7 +91,6 @@ fn target(regs: &Regs, instr: Option<Instr>) -> Option<u32>
 
 /// A register and an offset.
 fn sum(regs: &Regs, source: Register, offset: Immediate) -> u32
-    requires { AreRegs regs.now }
     ensures { result ≡ plus (register regs.now source) offset }
 {
     register(regs, source).wrapping_add(offset.word())
@@ -102,8 +98,10 @@ fn sum(regs: &Regs, source: Register, offset: Immediate) -> u32
 
 /// The word in a register; x0 holds 0.
 fn register(regs: &Regs, source: Register) -> u32
-    requires { AreRegs regs.now }
     ensures { result ≡ register regs.now source }
 {
-    regs.registers[source.number() as usize]
+    match source.number() {
+        0 => 0,
+        number => regs.registers[number as usize],
+    }
 }

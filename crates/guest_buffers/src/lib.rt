@@ -1,6 +1,6 @@
 //! Lists of buffers in a guest's memory, each a base and a length, as writev(2) has them.
 //!
-//! Tests: machine_tests.
+//! Tests: machine_cases.
 //!
 //! # Contracts
 //!

@@ -1,5 +1,5 @@
 -- What a call leaves, by its row.
-use Rattle.std.specs.Prelude.{◌≡◌, ◌*◌, ℕ, List, [], ◌∷◌, Result, IfOk, OnErr, OnOk}
+use Rattle.std.specs.Prelude.{◌≡◌, ◌*◌, ℕ, Bool, IsTrue, IsFalse, List, [], ◌∷◌, Result, IfOk, OnErr, OnOk}
 use Rattle.rrv_model.specs.declared.machine.Permissions.{Permissions}
 use Rattle.rrv_model.specs.declared.machine.Thread.{Thread}
 use Rattle.rrv_model.specs.declared.record.CallRecord.{CallRecord}
@@ -20,16 +20,36 @@ pub record KeepsRest (old new : GuestValue) : Type 0 where
   pub ran_before_call : new.ran_before_call ≡ old.ran_before_call
   pub snapshots : snapshots_of new.space ≡ snapshots_of old.space
 
--- a guest's state is this now, and its counters and snapshots are as before
+-- a guest's state is this now, and all else that shows of it is as before
 pub record Becomes (after : State) (old new : GuestValue) : Type 0 where
   pub state : state_of new ≡ after
   pub keeps : KeepsRest old new
+  pub put : new.put ≡ old.put
 
 -- so it is unless the change is refused, which changes nothing
 pub record BecomesOrStays {T E : Type 0} (result : Result T E) (after : State) (old new : GuestValue) : Type 0 where
   pub state : OnOk result (state_of new ≡ after)
   pub refused : OnErr result (new ≡ old)
   pub keeps : KeepsRest old new
+  pub put : new.put ≡ old.put
+
+-- so it is if a change of it is done, and else nothing has changed
+pub record BecomesIf (done : Bool) (after : State) (old new : GuestValue) : Type 0 where
+  pub state : IsTrue done → state_of new ≡ after
+  pub refused : IsFalse done → new ≡ old
+  pub keeps : KeepsRest old new
+
+-- over the steps of a thread a guest keeps its snapshots, and what its last call put out
+pub record KeepsOverSteps (old new : GuestValue) : Type 0 where
+  pub snapshots : snapshots_of new.space ≡ snapshots_of old.space
+  pub put : new.put ≡ old.put
+
+-- of all that shows of a guest, only its snapshots change
+pub record KeepsAllButSnapshots (old new : GuestValue) : Type 0 where
+  pub state : state_of new ≡ state_of old
+  pub ran : new.ran ≡ old.ran
+  pub ran_before_call : new.ran_before_call ≡ old.ran_before_call
+  pub put : new.put ≡ old.put
 
 -- the row, which asks nothing, leads from one state to the next, with this record
 pub record Carries (row : Row) (tid : ℕ) (old : State) (r : CallRecord) (new : State) : Type 0 where

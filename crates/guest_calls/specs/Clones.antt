@@ -23,10 +23,14 @@ abbrev pub with_child_at : List ℕ → Thread → State → State
 with_child_at places t s =
     with_memory (stored_at_each places (to_le_bytes w32 s.next_tid) s.memory) (spawned (child_of t) s)
 
--- the thread may have a child, whose tid is written at two places at most
-pub record MayHaveChild (g : GuestValue) (t : Thread) (places : List ℕ) : Type 0 where
+-- a thread that runs
+pub record IsRunningThread (t : Thread) : Type 0 where
   pub fits : IsThread t
   pub running : t.waits_at ≡ None
+
+-- the thread may have a child, whose tid is written at two places at most
+pub record MayHaveChild (g : GuestValue) (t : Thread) (places : List ℕ) : Type 0 where
+  pub parent : IsRunningThread t
   pub room : is_full g.threads ≡ false
   pub few : length places ≤ 2
   pub allowed : all_writable (state_of g).memory places ≡ true

@@ -56,6 +56,12 @@ abbrev pub NamesClock : Thread → Result Request ℕ → Type 0
 NamesClock t (Ok q) = IsClockOf t q.wanted
 NamesClock t (Err errno) = Unit {0}
 
+-- by the row of its call, a thread requests this, or is refused with an error number
+pub record Requests (row_in : State → Thread → Row) (t : Thread) (requested : Result Request ℕ) : Type 0 where
+  pub row : (s : State) → row_in s t ≡ requested_row s requested
+  pub fits : IsRequested requested
+  pub clock : NamesClock t requested
+
 -- the outside gave these bytes where there was so much room, and the call then returns this value
 abbrev pub Takes : {O : Type 0} → (O → Question → Answer → O → Type 0)
     → Wanted → (room value : ℕ) → List ℕ → O → O → Type 0

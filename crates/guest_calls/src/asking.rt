@@ -1,6 +1,6 @@
 //! The calls that ask the outside. All that such a call grows is made before the outside is asked, so no input is lost.
 
-ghost use Rattle.std.specs.Prelude.{◌≡◌, ◌<◌, ◌≤◌, [], All, length, IsTrue, IfOk, OnOk, OnErr};
+ghost use Rattle.std.specs.Prelude.{◌≡◌, ◌<◌, ◌≤◌, [], All, length, IsTrue, IfOk, OnOk};
 ghost use Rattle.rrv_model.specs.Memory.{writable, stored};
 ghost use Rattle.rrv_model.specs.declared.limits.TheConstants.{MAX_TRANSFER};
 ghost use Rattle.rrv_model.specs.declared.machine.Thread.{Thread};
@@ -10,7 +10,7 @@ ghost use Rattle.rrv_model.specs.RecordText.{HasCallText};
 ghost use Rattle.guest_pages.specs.Space.{CanFill};
 ghost use Rattle.guest_calls.specs.Guest.{state_of, chunks_of};
 ghost use Rattle.guest_calls.specs.Asking.{Asks};
-ghost use Rattle.guest_calls.specs.Carries.{ComesTo, KeepsRest};
+ghost use Rattle.guest_calls.specs.Carries.{BecomesOrStays, ComesTo, KeepsRest};
 ghost use Rattle.guest_calls.specs.Requests.{requested_row, IsRequested, NamesClock};
 
 use crate::calls::{BAD_ADDRESS, CallResult, failure};
@@ -59,9 +59,7 @@ impl Guest {
         requires { IsTrue (writable (state_of self.old).memory address count) }
         ensures bytes { IfOk result (λ room. length room.bytes.items ≡ count) }
         ensures ready { OnOk result (CanFill self.new.space address count) }
-        ensures state { state_of self.new ≡ state_of self.old }
-        ensures refused { OnErr result (self.new ≡ self.old) }
-        ensures keeps { KeepsRest self.old self.new }
+        ensures stays { BecomesOrStays result (state_of self.old) self.old self.new }
     {
         let room = Room::new(alloc, count)?;
         match self.space.prepare(address, count as usize) {

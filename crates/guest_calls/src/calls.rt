@@ -1,10 +1,10 @@
 //! A guest's calls, a function a row.
 
 ghost use Rattle.std.specs.Prelude.{◌≡◌, [], ◌∷◌, Some, None, MatchOption, true, IsTrue, IfOk, OnErr, length};
-ghost use Rattle.std.specs.Prelude.{if◌then◌else◌, ◌==◌, ◌+◌, ◌≤◌, ◌^◌};
+ghost use Rattle.std.specs.Prelude.{if◌then◌else◌, ◌==◌, ◌+◌, ◌≤◌, ◌^◌, ⊤};
 ghost use Rattle.rrv_model.specs.declared.syscall.Syscall.TheVariants.{Write};
 ghost use Rattle.rrv_model.specs.Memory.{readable, writable, bytes_at};
-ghost use Rattle.rrv_model.specs.State.{thread_at, IsRunning, IsThread};
+ghost use Rattle.rrv_model.specs.State.{thread_at, IsRunning};
 ghost use Rattle.rrv_model.specs.CallRows.{range, is_output, only_returns, row_of, clears};
 ghost use Rattle.rrv_model.specs.CallRows.{write_row, exit_row, exit_group_row, set_tid_address_row};
 ghost use Rattle.rrv_model.specs.Calls.{call_row};
@@ -13,6 +13,7 @@ ghost use Rattle.rrv_model.specs.Output.{puts, put_out, put_out_by};
 ghost use Rattle.guest_calls.specs.Guest.{state_of, chunks_of};
 ghost use Rattle.guest_calls.specs.Asking.{CallAsks, CallIsAnswered};
 ghost use Rattle.guest_calls.specs.Carries.{CallDoes, ComesTo, KeepsRest, Makes, MakesOrStays, clearing_row};
+ghost use Rattle.guest_calls.specs.Clones.{IsRunningThread};
 ghost use Rattle.guest_calls.specs.Growth.{CallMayGrow, IsQuiet, MayGrow, PutsBytes};
 
 use crate::guest::Guest;
@@ -146,8 +147,7 @@ impl Guest {
         outside: &mut O,
     ) -> CallResult
         requires there { thread_at (state_of self.old) tid ≡ Some thread.now }
-        requires running { thread.now.waits_at ≡ None }
-        requires fits { IsThread thread.now }
+        requires runs { IsRunningThread thread.now }
         ensures { ComesTo O.gives (call_row (state_of self.old) tid thread.now)
             (put_out (state_of self.old).memory thread.now) (CallMayGrow (state_of self.old) tid (Some thread.now))
             tid thread.now self.old result self.new outside.old outside.new }
@@ -169,8 +169,7 @@ impl Guest {
         thread: &Thread,
     ) -> CallResult
         requires there { thread_at (state_of self.old) tid ≡ Some thread.now }
-        requires running { thread.now.waits_at ≡ None }
-        requires fits { IsThread thread.now }
+        requires runs { IsRunningThread thread.now }
         requires quiet { IsQuiet call }
         ensures { MakesOrStays (row_of call tid (state_of self.old) thread.now)
             (puts call (state_of self.old).memory thread.now)
@@ -268,8 +267,7 @@ impl Guest {
     fn exit_clearing(&mut self, alloc: Global, tid: u32, clear: u32, status: u32) -> CallResult
         requires running { IsRunning (thread_at (state_of self.old) tid) }
         requires allowed { IsTrue (writable (state_of self.old).memory clear 4) }
-        ensures makes { IfOk result (λ r. Makes (clearing_row clear tid status) [] tid self.old r self.new) }
-        ensures refused { OnErr result (self.new ≡ self.old) }
+        ensures { MakesOrStays (clearing_row clear tid status) (λ _. []) ⊤ tid self.old result self.new }
     {
         let written = cleared_word(alloc, clear)?;
         self.clear_word(clear)?;

@@ -42,7 +42,8 @@ impl Guest {
 
     /// Sets the clear address.
     pub(crate) fn set_clear(&mut self, tid: u32, address: u32)
-        ensures { Becomes (change_thread tid (λ t. record t { clear = address }) (state_of self.old)) self.old self.new }
+        ensures { Becomes (change_thread tid (λ t. record t { clear = address }) (state_of self.old))
+            self.old self.new }
     {
         self.threads.set_clear(tid, address);
     }

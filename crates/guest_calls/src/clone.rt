@@ -1,17 +1,17 @@
 //! clone: a thread makes another one (Linux man pages, clone(2)).
 
-ghost use Rattle.std.specs.Prelude.{◌≡◌, ◌==◌, ◌∷◌, [], ◌≤◌, None, IfOk, OnErr, true, false, length};
+ghost use Rattle.std.specs.Prelude.{◌≡◌, ◌==◌, ◌∷◌, [], ◌≤◌, IfOk, true, false, length, ⊤};
 ghost use Rattle.std.specs.Prelude.{if◌then◌else◌};
 ghost use Rattle.std.specs.Int.{w32, to_le_bytes};
 ghost use Rattle.std.specs.List.{AllByRecursion};
-ghost use Rattle.rrv_model.specs.State.{State, with_register, AreRegs, IsThread};
+ghost use Rattle.rrv_model.specs.State.{State, with_register, AreRegs};
 ghost use Rattle.rrv_model.specs.CallRows.{argument, all_writable, are_clone_flags, child_of, clone_row, has_flag};
 ghost use Rattle.rrv_model.specs.CallRows.{tid_places};
 ghost use Rattle.rrv_model.specs.RecordText.{HasCallText, HasWrittenText};
 ghost use Rattle.guest_threads.specs.Threads.{is_full, spawned, with_threads};
 ghost use Rattle.guest_calls.specs.Guest.{state_of};
-ghost use Rattle.guest_calls.specs.Carries.{BecomesOrStays, Makes, MakesOrStays};
-ghost use Rattle.guest_calls.specs.Clones.{MayHaveChild, makes_child, with_child_at, words_at};
+ghost use Rattle.guest_calls.specs.Carries.{BecomesOrStays, MakesOrStays};
+ghost use Rattle.guest_calls.specs.Clones.{IsRunningThread, MayHaveChild, makes_child, with_child_at, words_at};
 ghost use Rattle.guest_calls.specs.Growth.{Succeeds};
 
 use crate::calls::{BAD_ADDRESS, CallResult, INVALID, TRY_AGAIN, failure};
@@ -104,11 +104,9 @@ fn clear_address(flags: u32, address: u32) -> u32
 
 /// The child that a thread makes.
 fn child_of(thread: &Thread) -> Thread
-    requires fits { IsThread thread.now }
-    requires running { thread.now.waits_at ≡ None }
+    requires { IsRunningThread thread.now }
     ensures value { result ≡ child_of thread.now }
-    ensures fits { IsThread result }
-    ensures running { result.waits_at ≡ None }
+    ensures runs { IsRunningThread result }
 {
     let registers = &thread.regs.registers;
     let zeroed = with_register(thread.regs, A0, 0);
@@ -150,8 +148,7 @@ fn written_words(alloc: Global, places: &[u32], word: u32) -> Result<Sequence<Wr
 /// The threads with one more, which stands under the next tid.
 fn with_child(alloc: Global, threads: &Threads, child: Thread) -> Result<Threads, Memory>
     requires room { is_full threads.now ≡ false }
-    requires fits { IsThread child }
-    requires runs { child.waits_at ≡ None }
+    requires runs { IsRunningThread child }
     ensures { IfOk result (λ more. (s : State) → with_threads more s ≡ spawned child (with_threads threads.now s)) }
 {
     let mut more = threads.try_clone(alloc)?;
@@ -164,8 +161,7 @@ fn with_child(alloc: Global, threads: &Threads, child: Thread) -> Result<Threads
 impl Guest {
     /// clone(flags, stack, ptid, tls, ctid)
     pub(crate) fn clone_thread(&mut self, alloc: Global, tid: u32, thread: &Thread) -> CallResult
-        requires fits { IsThread thread.now }
-        requires running { thread.now.waits_at ≡ None }
+        requires { IsRunningThread thread.now }
         ensures { MakesOrStays (clone_row (state_of self.old) thread.now) (λ _. [])
             (Succeeds (clone_row (state_of self.old) thread.now)) tid self.old result self.new }
     {
@@ -199,9 +195,8 @@ impl Guest {
     /// Makes a child under the next tid, which is written at the places and answered.
     fn make_child(&mut self, alloc: Global, tid: u32, thread: &Thread, places: &[u32]) -> CallResult
         requires { MayHaveChild self.old thread.now places.now }
-        ensures makes { IfOk result (λ r.
-            Makes (makes_child (state_of self.old) thread.now places.now) [] tid self.old r self.new) }
-        ensures refused { OnErr result (self.new ≡ self.old) }
+        ensures { MakesOrStays (makes_child (state_of self.old) thread.now places.now) (λ _. []) ⊤
+            tid self.old result self.new }
     {
         let record = self.add_child(alloc, thread, places)?;
         self.set_result(tid, record.result);
@@ -213,7 +208,8 @@ impl Guest {
     /// a refusal leaves all as before.
     fn add_child(&mut self, alloc: Global, thread: &Thread, places: &[u32]) -> CallResult
         requires { MayHaveChild self.old thread.now places.now }
-        ensures child { BecomesOrStays result (with_child_at places.now thread.now (state_of self.old)) self.old self.new }
+        ensures child { BecomesOrStays result (with_child_at places.now thread.now (state_of self.old))
+            self.old self.new }
         ensures record_is { IfOk result (λ r. let tid = (state_of self.old).next_tid in
             r ≡ record { result = tid; written = words_at places.now tid }) }
         ensures text { IfOk result HasCallText }

@@ -1,6 +1,6 @@
 //! futex: a thread waits at a word, and others wake it (Linux man pages, futex(2)).
 
-ghost use Rattle.std.specs.Prelude.{◌≡◌, ◌%◌, ◌/◌, ◌*◌, ◌-◌, [], IfOk, OnErr, length};
+ghost use Rattle.std.specs.Prelude.{◌≡◌, ◌%◌, ◌/◌, ◌*◌, ◌-◌, [], length, ⊤};
 ghost use Rattle.rrv_model.specs.State.{thread_at, IsRunning};
 ghost use Rattle.rrv_model.specs.CallRows.{Returns, futex_row, waiters, waits, wakes};
 ghost use Rattle.guest_calls.specs.Guest.{state_of};
@@ -68,8 +68,7 @@ impl Guest {
     /// A running thread waits at an address, last in the waiting order; when it is woken it finds 0.
     fn begin_wait(&mut self, alloc: Global, tid: u32, address: u32) -> CallResult
         requires { IsRunning (thread_at (state_of self.old) tid) }
-        ensures makes { IfOk result (λ r. Makes (Returns 0 [] (waits tid address)) [] tid self.old r self.new) }
-        ensures refused { OnErr result (self.new ≡ self.old) }
+        ensures { MakesOrStays (Returns 0 [] (waits tid address)) (λ _. []) ⊤ tid self.old result self.new }
     {
         self.wait(tid, address)?;
         Ok(self.answer(alloc, tid, 0))

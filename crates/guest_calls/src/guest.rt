@@ -3,8 +3,9 @@
 ghost use Rattle.std.specs.Prelude.{◌≡◌, ◌↔◌, ◌<◌, ◌≤◌, ◌^◌, ℕ, IsTrue, IfSome, IfOk, OnErr, Contains, Some, None};
 ghost use Rattle.std.specs.List.Sorted.{IsStrictlyIncreasing};
 ghost use Rattle.rrv_model.specs.Memory.{page_count, IsMemory};
-ghost use Rattle.rrv_model.specs.State.{thread_at, IsEnd, IsRunning, IsState, IsThread};
-ghost use Rattle.guest_calls.specs.Carries.{KeepsRest};
+ghost use Rattle.rrv_model.specs.State.{thread_at, IsEnd, IsRunning, IsState};
+ghost use Rattle.guest_calls.specs.Carries.{Becomes};
+ghost use Rattle.guest_calls.specs.Clones.{IsRunningThread};
 ghost use Rattle.guest_calls.specs.Snapshots.{guest_snapshots};
 
 use crate::put::Put;
@@ -213,17 +214,14 @@ impl Guest {
     pub(crate) fn running_thread(&self, tid: u32) -> Thread
         requires { IsRunning (thread_at (state_of self.now) tid) }
         ensures there { thread_at (state_of self.now) tid ≡ Some result }
-        ensures running { result.waits_at ≡ None }
-        ensures fits { IsThread result }
+        ensures runs { IsRunningThread result }
     {
         self.threads.get(tid).unwrap()
     }
 
     /// Ends a slice: the reservation is gone, and the guest has ended where an end is given.
     pub fn close_slice(&mut self, end: Option<GuestEnd>)
-        ensures state { state_of self.new ≡ closed_by end (state_of self.old) }
-        ensures keeps { KeepsRest self.old self.new }
-        ensures put { self.new.put ≡ self.old.put }
+        ensures { Becomes (closed_by end (state_of self.old)) self.old self.new }
     {
         self.reservation = None;
         if end.is_some() {

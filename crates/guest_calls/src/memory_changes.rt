@@ -1,11 +1,11 @@
 //! Changes of a guest's memory by whole pages.
 
-ghost use Rattle.std.specs.Prelude.{◌≡◌, ◌+◌, ◌*◌, ◌/◌, ◌%◌, ◌^◌, ◌<◌, ◌≤◌, not, nat_lt, if◌then◌else◌, IsTrue};
-ghost use Rattle.std.specs.Prelude.{IsFalse, IfOk, OnErr};
+ghost use Rattle.std.specs.Prelude.{◌≡◌, ◌+◌, ◌*◌, ◌/◌, ◌^◌, ◌<◌, ◌≤◌, not, nat_lt, IsTrue};
+ghost use Rattle.std.specs.Prelude.{IfOk, OnErr};
 ghost use Rattle.rrv_model.specs.Memory.{all_mapped, unmapped, protected, page_bytes, page_count, pages_for};
 ghost use Rattle.rrv_model.specs.CallRows.{page_limit, permissions_of, with_memory};
 ghost use Rattle.guest_calls.specs.Guest.{state_of};
-ghost use Rattle.guest_calls.specs.Carries.{Becomes, KeepsRest, pages_mapped};
+ghost use Rattle.guest_calls.specs.Carries.{Becomes, BecomesIf, pages_mapped};
 
 use crate::guest::Guest;
 use guest_pages::{AddressSpace, PageFault};
@@ -44,13 +44,12 @@ impl Guest {
         requires readable { IsTrue permissions.write → IsTrue permissions.read }
         ensures limit { IfOk result (λ fits. fits
             ≡ not (nat_lt page_limit (page_count (pages_mapped page count permissions (state_of self.old).memory)))) }
-        ensures state { IfOk result (λ fits. IsTrue fits → state_of self.new
-            ≡ with_memory (pages_mapped page count permissions (state_of self.old).memory) (state_of self.old)) }
-        ensures full { IfOk result (λ fits. IsFalse fits → self.new ≡ self.old) }
+        ensures mapped { IfOk result (λ fits. BecomesIf fits
+            (with_memory (pages_mapped page count permissions (state_of self.old).memory) (state_of self.old))
+            self.old self.new) }
         ensures memory { OnErr result
             (page_count (pages_mapped page count permissions (state_of self.old).memory) ≤ page_limit) }
         ensures refused { OnErr result (self.new ≡ self.old) }
-        ensures keeps { KeepsRest self.old self.new }
     {
         match self.space.map(page, count, permissions) {
             Ok(()) => {
@@ -78,11 +77,9 @@ impl Guest {
         requires low { page + count < 2 ^ 32 }
         requires readable { IsTrue permissions.write → IsTrue permissions.read }
         ensures mapped { result ≡ all_mapped (state_of self.old).memory page count }
-        ensures state { IsTrue result → state_of self.new ≡ with_memory
+        ensures protected { BecomesIf result (with_memory
             (protected (page * page_bytes) (count * page_bytes) permissions (state_of self.old).memory)
-            (state_of self.old) }
-        ensures refused { IsFalse result → self.new ≡ self.old }
-        ensures keeps { KeepsRest self.old self.new }
+            (state_of self.old)) self.old self.new }
     {
         self.space.protect(page, count, permissions).is_ok()
     }

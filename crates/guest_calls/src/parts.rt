@@ -4,7 +4,7 @@ ghost use Rattle.std.specs.Prelude.{◌≡◌, ◌≢◌, ◌↔◌, ℕ, IsTrue
 ghost use Rattle.rrv_model.specs.CallRows.{with_memory};
 ghost use Rattle.guest_pages.specs.WholePages.{with_page, MayHave};
 ghost use Rattle.guest_calls.specs.Guest.{state_of};
-ghost use Rattle.guest_calls.specs.Carries.{KeepsRest};
+ghost use Rattle.guest_calls.specs.Carries.{BecomesOrStays, KeepsAllButSnapshots};
 ghost use Rattle.guest_calls.specs.Parts.{with_rest, MakesState, IsSetPageRefusal, IsSetRestRefusal};
 ghost use Rattle.guest_calls.specs.Snapshots.{guest_snapshots};
 
@@ -28,10 +28,7 @@ impl Guest {
         ensures fresh { IfOk result (λ token. guest_snapshots self.old token ≡ None) }
         ensures others { IfOk result (λ token. (n : ℕ) → n ≢ token →
             guest_snapshots self.new n ≡ guest_snapshots self.old n) }
-        ensures state { state_of self.new ≡ state_of self.old }
-        ensures ran { self.new.ran ≡ self.old.ran }
-        ensures ran_before_call { self.new.ran_before_call ≡ self.old.ran_before_call }
-        ensures put { self.new.put ≡ self.old.put }
+        ensures keeps { KeepsAllButSnapshots self.old self.new }
         ensures err { OnErr result (self.new ≡ self.old) }
     {
         self.space.snapshot()
@@ -43,10 +40,7 @@ impl Guest {
         requires { IsSome (guest_snapshots self.old snapshot) }
         ensures gone { guest_snapshots self.new snapshot ≡ None }
         ensures others { (n : ℕ) → n ≢ snapshot → guest_snapshots self.new n ≡ guest_snapshots self.old n }
-        ensures state { state_of self.new ≡ state_of self.old }
-        ensures ran { self.new.ran ≡ self.old.ran }
-        ensures ran_before_call { self.new.ran_before_call ≡ self.old.ran_before_call }
-        ensures put { self.new.put ≡ self.old.put }
+        ensures keeps { KeepsAllButSnapshots self.old self.new }
     {
         self.space.drop_snapshot(snapshot);
     }
@@ -55,14 +49,11 @@ impl Guest {
     /// where no state has such a page, else with TooManyPages exactly where more than 16,384 pages would be mapped, else with
     /// Memory where a growth is refused, which may be over a mapped page too. To unmap is never refused.
     pub fn set_page(&mut self, number: u32, page: Option<PageView<'_>>) -> Result<(), SetPageFault>
-        ensures state { OnOk result (state_of self.new
-            ≡ with_memory (with_page number page.entry (state_of self.old).memory) (state_of self.old)) }
+        ensures set { BecomesOrStays result
+            (with_memory (with_page number page.entry (state_of self.old).memory) (state_of self.old)) self.old self.new }
         ensures possible { OnOk result (MayHave number page.entry) }
         ensures refused { IfErr result (λ fault. IsSetPageRefusal fault number page.entry (state_of self.old).memory) }
         ensures some { OnErr result (IsSome page.entry) }
-        ensures err { OnErr result (self.new ≡ self.old) }
-        ensures keeps { KeepsRest self.old self.new }
-        ensures put { self.new.put ≡ self.old.put }
     {
         if !may_have(number, page) {
             return Err(SetPageFault::NoState);
@@ -78,12 +69,9 @@ impl Guest {
     /// the reservation and the end are gone. Refused with NoState exactly where its tids don't rise or it makes no
     /// state of the guest's memory and opening break, else with Memory where a growth is refused.
     pub fn set_rest(&mut self, alloc: Global, rest: &CheckpointRest) -> Result<(), SetRestFault>
-        ensures state { OnOk result (state_of self.new ≡ with_rest rest.now (state_of self.old)) }
+        ensures set { BecomesOrStays result (with_rest rest.now (state_of self.old)) self.old self.new }
         ensures possible { OnOk result (MakesState rest.now (state_of self.old)) }
         ensures refused { IfErr result (λ fault. IsSetRestRefusal fault rest.now (state_of self.old)) }
-        ensures err { OnErr result (self.new ≡ self.old) }
-        ensures keeps { KeepsRest self.old self.new }
-        ensures put { self.new.put ≡ self.old.put }
     {
         if rest.program_break < self.opening_break || rest.program_break > HIGHEST_BREAK {
             return Err(SetRestFault::NoState);

@@ -7,7 +7,7 @@ ghost use Rattle.rrv_model.specs.CallRows.{clock_gettime_row, getrandom_row, rea
 ghost use Rattle.rrv_model.specs.Output.{puts};
 ghost use Rattle.guest_calls.specs.Asking.{Asks};
 ghost use Rattle.guest_calls.specs.Growth.{IsQuiet, MayGrow};
-ghost use Rattle.guest_calls.specs.Requests.{requested_row, IsRequested, NamesClock};
+ghost use Rattle.guest_calls.specs.Requests.{requested_row, IsRequested, NamesClock, Requests};
 
 use crate::calls::{BAD_DESCRIPTOR, INVALID};
 use rrv_model::limits::MAX_TRANSFER;
@@ -68,9 +68,7 @@ pub(crate) fn request_of(call: Syscall, thread: &Thread) -> Option<Result<Reques
 
 /// read(fd, buf, len)
 fn read_request(thread: &Thread) -> Result<Request, u32>
-    ensures row { (s : State) → read_row s thread.now ≡ requested_row s result }
-    ensures fits { IsRequested result }
-    ensures clock { NamesClock thread.now result }
+    ensures { Requests read_row thread.now result }
 {
     if thread.regs.registers[10] != 0 {
         return Err(BAD_DESCRIPTOR);
@@ -84,9 +82,7 @@ fn read_request(thread: &Thread) -> Result<Request, u32>
 
 /// getrandom(buf, len, flags)
 fn random_request(thread: &Thread) -> Result<Request, u32>
-    ensures row { (s : State) → getrandom_row s thread.now ≡ requested_row s result }
-    ensures fits { IsRequested result }
-    ensures clock { NamesClock thread.now result }
+    ensures { Requests getrandom_row thread.now result }
 {
     if MAX_FLAGS < thread.regs.registers[12] {
         return Err(INVALID);
@@ -100,9 +96,7 @@ fn random_request(thread: &Thread) -> Result<Request, u32>
 
 /// clock_gettime(id, ts)
 fn clock_request(thread: &Thread) -> Result<Request, u32>
-    ensures row { (s : State) → clock_gettime_row s thread.now ≡ requested_row s result }
-    ensures fits { IsRequested result }
-    ensures clock { NamesClock thread.now result }
+    ensures { Requests clock_gettime_row thread.now result }
 {
     let clock = thread.regs.registers[10];
     if MONOTONIC < clock {

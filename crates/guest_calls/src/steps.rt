@@ -3,9 +3,8 @@
 ghost use Rattle.std.specs.Prelude.{◌≡◌, ◌-◌, IfOk, OnOk, OnErr};
 ghost use Rattle.rrv_model.specs.State.{thread_at, IsRunning};
 ghost use Rattle.rrv_model.specs.Step.{ThreadMayStore};
-ghost use Rattle.guest_pages.specs.Space.{snapshots_of};
 ghost use Rattle.guest_calls.specs.Guest.{state_of, counted};
-ghost use Rattle.guest_calls.specs.Carries.{KeepsRest};
+ghost use Rattle.guest_calls.specs.Carries.{KeepsOverSteps, KeepsRest};
 ghost use Rattle.guest_calls.specs.Runs.{Runs, StepDoes, before_call};
 
 use crate::guest::Guest;
@@ -19,10 +18,9 @@ impl Guest {
         requires { IsRunning (thread_at (state_of self.old) tid) }
         ensures runs { Runs limit tid (state_of self.old) result (state_of self.new) }
         ensures ran { self.new.ran ≡ counted self.old.ran result.count }
-        ensures snapshots { snapshots_of self.new.space ≡ snapshots_of self.old.space }
         ensures ran_before_call { result.end ≡ RunEnd.Call
             → self.new.ran_before_call ≡ counted self.old.ran (result.count - 1) }
-        ensures put { self.new.put ≡ self.old.put }
+        ensures keeps { KeepsOverSteps self.old self.new }
     {
         let run = self.run_uncounted(tid, limit);
         if let RunEnd::Call = run.end {
@@ -54,13 +52,12 @@ impl Guest {
         requires { IsRunning (thread_at (state_of self.old) tid) }
         ensures step { IfOk result (λ stepped. StepDoes stepped tid (state_of self.old) (state_of self.new)) }
         ensures ran { OnOk result (self.new.ran ≡ counted self.old.ran 1) }
-        ensures snapshots { snapshots_of self.new.space ≡ snapshots_of self.old.space }
         ensures ran_before_call { IfOk result (λ stepped.
             stepped ≡ Stepped.Call → self.new.ran_before_call ≡ self.old.ran) }
         ensures refused { OnErr result (state_of self.new ≡ state_of self.old) }
         ensures refused_ran { OnErr result (self.new.ran ≡ self.old.ran) }
         ensures takes { OnErr result (ThreadMayStore (state_of self.old) tid) }
-        ensures put { self.new.put ≡ self.old.put }
+        ensures keeps { KeepsOverSteps self.old self.new }
     {
         // the proof opens the guest here: that the count lies below 2^64 is a rule of it
         let _ran = self.ran;
@@ -78,8 +75,7 @@ impl Guest {
         requires { IsRunning (thread_at (state_of self.old) tid) }
         ensures state { state_of self.new ≡ before_call tid (state_of self.old) }
         ensures ran { self.new.ran ≡ self.old.ran_before_call }
-        ensures snapshots { snapshots_of self.new.space ≡ snapshots_of self.old.space }
-        ensures put { self.new.put ≡ self.old.put }
+        ensures keeps { KeepsOverSteps self.old self.new }
     {
         let mut regs = self.running_thread(tid).regs;
         regs.pc = regs.pc.wrapping_sub(4);

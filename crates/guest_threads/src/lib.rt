@@ -1,6 +1,6 @@
 //! The threads of a guest: by tid, with the waiting order and the next tid.
 //!
-//! Tests: machine_tests.
+//! Tests: machine_cases.
 //!
 //! # Contracts
 //!

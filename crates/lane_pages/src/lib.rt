@@ -1,7 +1,7 @@
 //! The lines of a page, 64 bytes each, by vectors of as many lanes: which of them differ from another page's, whether all are
 //! zero, and those that a mask names, replaced. None of these takes memory.
 //!
-//! Tests: machine_tests.
+//! Tests: machine_cases.
 //!
 //! # Contracts
 //!
@@ -9,7 +9,7 @@
 //! - `is_zero`: whether all bytes are zero.
 //! - `merge`: the lines of the set bits are replaced, in order, and no other byte. That there are as many lines as set bits is
 //!   the caller's condition.
-//! - `checkpoint` stands on `changed` and `merge`. Rows of `machine_tests` see all three.
+//! - `checkpoint` stands on `changed` and `merge`. Rows of `machine_cases` see all three.
 #![tactic(auto)]
 
 ghost use Rattle.std.specs.Prelude.{◌≡◌, ◌↔◌, ◌+◌, ◌*◌, ◌<◌, ◌≤◌, ℕ, IsTrue, count_ones, length, slice_index};

@@ -21,11 +21,15 @@ fn refusal_of(alloc: Global, elf: &[u8]) -> Option<u32> {
     }
 }
 
-/// Puts bytes at a place of a file, where the file has that place.
-fn put_bytes(elf: &mut [u8], place: usize, bytes: &[u8]) {
+/// Puts bytes at a place of a file; None where the file has no room for them there.
+fn put_bytes(elf: &mut [u8], place: usize, bytes: &[u8]) -> Option<()> {
+    if elf.len() < place || elf.len() - place < bytes.len() {
+        return None;
+    }
     for (byte, value) in elf.iter_mut().skip(place).zip(bytes) {
         *byte = *value;
     }
+    Some(())
 }
 
 /// What an image tells of itself: entry, address and count of its program headers, opening break, count of its PT_LOADs.
@@ -92,6 +96,7 @@ impl Subject {
             "words" => self.add_words(&numbers(alloc, rest)?).ok()?,
             "length" => self.set_length(number(rest)? as usize).ok()?,
             "put" => self.put(alloc, rest)?,
+            "series" => self.add_series(alloc, rest)?,
             "header" => self.put_header(&numbers(alloc, rest)?)?,
             "keep" => self.kept = self.elf.clone().ok()?,
             "again" => self.elf = self.kept.clone().ok()?,
@@ -105,6 +110,20 @@ impl Subject {
             self.elf.extend_from_slice(&word.to_le_bytes())?;
         }
         Ok(())
+    }
+
+    /// Adds words so many times, of which the one at a place is less by 1 each time.
+    fn add_series(&mut self, alloc: Global, rest: &str) -> Option<()> {
+        let (count, rest) = rest.split_once(' ')?;
+        let (place, words) = rest.split_once(' ')?;
+        let place = number(place)? as usize;
+        let mut words = numbers(alloc, words)?;
+        for _ in 0..number(count)? {
+            self.add_words(&words).ok()?;
+            let word = words.get_mut(place)?;
+            *word = word.wrapping_sub(1);
+        }
+        Some(())
     }
 
     fn set_length(&mut self, len: usize) -> Result<(), AllocError> {
@@ -121,8 +140,7 @@ impl Subject {
             &mut self.elf,
             number(place)? as usize,
             &bytes(alloc, values)?,
-        );
-        Some(())
+        )
     }
 
     /// Puts a program header behind those that the file has.
@@ -131,25 +149,28 @@ impl Subject {
         let table = FILE_HEADER_BYTES + HEADER_BYTES * count as usize;
         for (index, word) in words.iter().enumerate() {
             let place = table.wrapping_add(index.wrapping_mul(4));
-            put_bytes(&mut self.elf, place, &word.to_le_bytes());
+            put_bytes(&mut self.elf, place, &word.to_le_bytes())?;
         }
-        put_bytes(&mut self.elf, E_PHNUM, &[count.wrapping_add(1)]);
-        Some(())
+        put_bytes(&mut self.elf, E_PHNUM, &[count.wrapping_add(1)])
     }
 
     fn patch(&self, alloc: Global, rest: &str) -> Option<bool> {
         let (patch, refusal) = rest.split_once(" refusal ")?;
         let (place, values) = patch.split_once(' ')?;
         let mut copy = self.elf.clone().ok()?;
-        put_bytes(&mut copy, number(place)? as usize, &bytes(alloc, values)?);
+        put_bytes(&mut copy, number(place)? as usize, &bytes(alloc, values)?)?;
         Some(refusal_of(alloc, &copy) == number_or_none(refusal)?)
     }
 
     fn cut(&self, alloc: Global, rest: &str) -> Option<bool> {
         let (range, refusal) = rest.split_once(" refusal ")?;
         let (first, last) = range.split_once(' ')?;
+        let (first, last) = (number(first)?, number(last)?);
         let wanted = number_or_none(refusal)?;
-        for len in number(first)?..number(last)?.checked_add(1)? {
+        if last < first {
+            return None;
+        }
+        for len in first..last.checked_add(1)? {
             let beginning = self.elf.get(..len as usize)?;
             if refusal_of(alloc, beginning) != wanted {
                 return Some(false);
@@ -182,6 +203,10 @@ impl Subject {
 
     fn mutate(&self, alloc: Global, rest: &str) -> Option<bool> {
         let (copies, seed) = rest.split_once(' ')?;
-        all_answered(alloc, &self.elf, number(copies)?, number(seed)?)
+        let copies = number(copies)?;
+        if copies == 0 {
+            return None;
+        }
+        all_answered(alloc, &self.elf, copies, number(seed)?)
     }
 }

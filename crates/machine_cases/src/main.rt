@@ -1,6 +1,7 @@
-//! Goes through cases of instructions and of ELF files, which come as lines of text. Prints each line that isn't understood or does
-//! not hold, and last how many lines there were. A number is written as code writes it, as 17 or 0x11; what stands in brackets may be
-//! left out; an empty line, one that begins with `#`, and what stands behind ` # ` say nothing.
+//! Goes through cases of instructions, of ELF files, and of address spaces, code that changes, threads and lines of pages, which come as
+//! lines of text. Prints each line that isn't understood or does not hold, and last how many lines there were. A number is written as
+//! code writes it, as 17 or 0x11; what stands in brackets may be left out; an empty line, one that begins with `#`, and what stands
+//! behind ` # ` say nothing.
 //!
 //! Instructions:
 //! - `word WORD [NAME=VALUE ..] gives [NAME=VALUE ..]`: one step of this instruction. It stands at 0x10000, in a page that may be read,
@@ -24,8 +25,28 @@
 //! - `image ENTRY HEADERS COUNT END LOADS`: what it is as an image: its entry, the address of its program headers and their count, the
 //!   opening break, and the count of its PT_LOADs, whose image keeps the bytes of the file.
 //! - `load INDEX KIND OFFSET ADDRESS FILE MEMORY FLAGS`: one of these.
+//! - `series COUNT PLACE WORD ..`: adds these words so many times, of which the one at a place is less by 1 each time.
 //! - `mutate COPIES SEED`: this many copies with wrong bytes are each an image, or refused by the fault that a plain reading of them
 //!   finds.
+//!
+//! Lines that ask, as `KIND PART ; PART = FOUND, FOUND`: what the parts find stands behind ` = `, and what is done finds nothing if it
+//! isn't refused, else the refusal. `none` is what isn't there.
+//! - `refusals space`, `threads`, `parts`, `elf`: the refusals of these, each with its text.
+//! - `space`: an address space, with permissions as `rw-`, pages by their numbers, and bytes as hex digits, as `07*5000`. `new` is one
+//!   with nothing mapped, `open` that of the program that exits with 5, with its entry and its stack pointer; `swap` goes on with the other
+//!   one, and `same` compares both. It is changed by `map PAGE COUNT rw-`, `cover PAGE rw-`, `protect PAGE COUNT rw-`, `unmap PAGE COUNT`,
+//!   `clear PAGE`, `set PAGE rw- BYTES BYTE` (its first bytes, of which the last fills it, and its last byte), `store-byte ADDRESS BYTE`,
+//!   `store-half ADDRESS HALF`, `store-word ADDRESS WORD`, `store ADDRESS BYTES`, `prepare ADDRESS COUNT`, `fill ADDRESS BYTES`. Asked are
+//!   `byte`, `half`, `word` and `fetch` of an address, `load` of 4,999 bytes behind the first of 5,000 nines, `page` of a number, `pages`,
+//!   `readable` and `writable` of an address and a count, `mapped` and `free` of a page and a count, `highest-free` up to a page for a
+//!   count, and `buffers` of a list's address and count.
+//! - `code`: such a space with pages that are kept decoded. `new`, the changes above of words and whole pages, and
+//!   `run LIMIT PC A0 A1 A2`: how many instructions run, why no more do, a0 and the next `pc`.
+//! - `threads`: `new` is one thread, `parts NEXT-TID PART .. | TID ..` are those of a checkpoint, with the waiting order (`2@8` waits at
+//!   8, and `!` puts 1 into x0). `spawn`, `wait TID ADDRESS`, `exit TID`, `wake ADDRESS COUNT`, `stands TID PC`, `clears TID ADDRESS`,
+//!   `waiting`, `all-running`, `running TID`, `has-running`, `live`, `full`, `empty`, `next-tid`, `thread TID`; `swap` and `same` as above.
+//! - `lanes`: pages of one byte, or `0/63/128` of zeros but for 128 at 63. `changed PAGE PAGE`: which lines differ. `zero PAGE`: whether
+//!   all bytes are zero. `merged MASK BYTE ..`: the ends of the first two lines and of the last, with lines of these bytes merged into zeros.
 //!
 //! # What they show
 //!
@@ -34,12 +55,19 @@
 //! - ELF files: cut, changed byte by byte, and ten thousand mutated ones against a plain restatement of the refusals.
 #![tactic(auto)]
 
+mod answers;
+mod asked;
+mod code;
 mod files;
 mod instructions;
+mod lanes;
 mod lines;
 mod mutations;
+mod pages;
 mod plain;
+mod threads;
 
+use asked::Subjects;
 use files::Subject;
 use std::alloc::Global;
 use std::io;
@@ -49,8 +77,10 @@ use std::process::ExitCode;
 #[derive(Drop)]
 struct Run {
     subject: Subject,
+    subjects: Subjects,
     instructions: u32,
     files: u32,
+    asked: u32,
     wrong: u32,
 }
 
@@ -58,8 +88,10 @@ impl Run {
     fn new(alloc: Global) -> Run {
         Run {
             subject: Subject::new(alloc),
+            subjects: Subjects::new(alloc),
             instructions: 0,
             files: 0,
+            asked: 0,
             wrong: 0,
         }
     }
@@ -79,6 +111,10 @@ impl Run {
             "decodes" => {
                 self.instructions = self.instructions.saturating_add(1);
                 instructions::decodes(alloc, rest)
+            }
+            "space" | "code" | "threads" | "lanes" | "refusals" => {
+                self.asked = self.asked.saturating_add(1);
+                self.subjects.holds(alloc, first, rest)
             }
             _ => {
                 self.files = self.files.saturating_add(1);
@@ -101,8 +137,8 @@ fn main(rt: HostRuntime) -> io::Result<ExitCode> {
         println!(rt; "{verdict}: {}", line.as_str())?;
     }
     println!(rt;
-        "{} lines of instructions, {} lines of files, {} wrong",
-        run.instructions, run.files, run.wrong
+        "{} lines of instructions, {} lines of files, {} lines that ask, {} wrong",
+        run.instructions, run.files, run.asked, run.wrong
     )?;
     if run.wrong == 0 {
         Ok(ExitCode::SUCCESS)

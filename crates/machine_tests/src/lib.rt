@@ -1,5 +1,5 @@
-//! Tests of instructions, pages, threads, buffers, files and openings, through what their crates tell. They stand apart from these, so
-//! that each is proved once. Cases that are lines of text are those of `machine_cases`.
+//! Tests of what no line can say: the calls on snapshots, of which a proof knows which live; growths that are refused; and laws. They
+//! stand apart from the crates that they test, so that each is proved once. All else are lines of `machine_cases`.
 #![tactic(auto)]
 
 #[cfg(test)]

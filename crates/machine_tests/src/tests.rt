@@ -1,18 +1,10 @@
 //! What the tests share.
 
-mod buffers;
 mod code_space;
-mod decoding;
-mod files;
-mod hart;
-mod lines;
+mod laws;
 mod memory;
 mod opening;
-mod pages;
-mod rows;
 mod snapshots;
-mod texts;
-mod threads;
 
 use std::fmt::Debug;
 use std::process::Abort;

@@ -1,10 +1,10 @@
 //! Pages of a guest under two-level tables that share them: a page is counted, and a shared one is copied before it is written.
 //!
-//! Tests: machine_tests, through guest_pages.
+//! Tests: machine_tests, machine_cases, through guest_pages.
 //!
 //! # Contracts
 //!
-//! A guest's pages and those of its live snapshots, which share them. guest_pages stands on it, and rows of `machine_tests` run
+//! A guest's pages and those of its live snapshots, which share them. guest_pages stands on it, and rows of `machine_cases` run
 //! both. In every value a key stands in a table only at its page's own number, a page's count is the number of tables that have
 //! it there, and none is 0. Each page has 4,096 bytes.
 //!

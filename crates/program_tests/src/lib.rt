@@ -1,9 +1,10 @@
-//! Tests of the program's lines, of what it records and replays, of what its guests get from the host, and of what it
-//! prints. They stand apart from its crates, so that these are proved without them.
+//! Tests of what no line of the built program comes to: refusals that no store or guest brings about, clocks and streams that are made up,
+//! and a want of memory. They stand apart from its crates, so that these are proved without them.
 //!
 //! # What they show
 //!
-//! - The program: its printed lines, ends, refusals and exit statuses.
+//! - The program: the texts of its refusals; what guests get from clocks and streams that fail; what verifying and a cursor leave where no
+//!   memory is found, and which record is named where one isn't given. Its lines are tried by `tools/program_lines` and `tools/scenes`.
 #![tactic(auto)]
 
 #[cfg(test)]

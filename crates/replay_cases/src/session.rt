@@ -10,7 +10,7 @@ use replayer::{Verified, verify};
 use reverse_step::Cursor;
 use rrv_model::record::Record;
 use std::alloc::Global;
-use std::fs;
+use std::fs::{self, File};
 use std::rt::Files;
 use test_guests::cases::Answers;
 
@@ -162,7 +162,7 @@ impl Session {
 }
 
 impl Answers for Session {
-    fn answer<R: Files + AllocGlobal>(
+    fn answer<R: Files<File = File> + AllocGlobal>(
         &mut self,
         rt: &R,
         asked: &str,

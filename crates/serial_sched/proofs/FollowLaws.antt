@@ -11,13 +11,12 @@ use Rattle.rrv_model.specs.declared.record.End.TheVariants as frame_ends
 use Rattle.rrv_model.specs.declared.record.Frame.{Frame}
 use Rattle.rrv_model.specs.State.{State, thread_at}
 use Rattle.rrv_model.specs.Calls.{Answer, Calls}
-use Rattle.rrv_model.specs.Ends.{call_in}
+use Rattle.rrv_model.specs.Ends.{call_in, has_thread}
 use Rattle.rrv_model.specs.FrameStep.{Steps, FrameStep, FrameStepBy, EndsInCall, EndsInFault, closed}
-use Rattle.rrv_model.specs.Output.{CallPutsAt, Chunk, FramePuts, put_out_by}
-use Rattle.rrv_model.proofs.Ends.{call_is}
-use Rattle.outcomes.proofs.Results.{OnOk-from}
+use Rattle.rrv_model.specs.Output.{CallPutsAt, Chunk, put_out_by}
 use Rattle.rv_machine.specs.declared.run.RunEnd.{RunEnd}
 use Rattle.rv_machine.specs.declared.run.RunEnd.TheVariants as ends
+use Rattle.guest_calls.specs.declared.put.Put.{Put}
 use Rattle.guest_calls.specs.Asking.{Question, CallIsAnswered}
 use Rattle.guest_calls.specs.Growth.{CallMayGrow}
 use Rattle.guest_calls.specs.Runs.{RunsTo, RunsToCall}
@@ -25,7 +24,7 @@ use Rattle.serial_sched.specs.Answered.{answered, Recalls}
 use Rattle.serial_sched.specs.declared.fault.FollowFault.{FollowFault}
 use Rattle.serial_sched.specs.declared.fault.FollowFault.TheVariants as faults
 use Rattle.serial_sched.specs.Follows.{CallMeetsNoMemory, EndMeetsNoMemory, Follows, FrameMeetsNoMemory, Reaches, ReachesCall, ReachesFault}
-use Rattle.serial_sched.specs.Slices.{CallPuts}
+use Rattle.serial_sched.specs.Slices.{KeepsPut}
 use Rattle.serial_sched.proofs.OneStep.{call_reached, reached, one_run_end, one_called}
 use Rattle.serial_sched.proofs.RecordedAnswers.{told_again}
 use Rattle.serial_sched.proofs.SliceLaws.{call_puts, ends_in_call}
@@ -103,13 +102,19 @@ call_put tid count q r answer old called after chunks e run calls puts =
     subst (λ (t : CallRecord). CallPutsAt old tid count t.result chunks) e
     (call_puts count tid count old called after answer q chunks run calls puts)
 
--- an end that is no call puts nothing out
-pub puts_none : {T E : Type 0} (r : Result T E) (end : End) (old : State) (f : Frame) (chunks : List Chunk) →
-    ((told : CallRecord) → end ≢ frame_ends.Call told) → OnOk r (CallPuts end old f chunks)
-puts_none r end old f chunks other = OnOk-from r (by (call_in end) refl) where
-  by : (call : Option CallRecord) → call_in end ≡ call → IfSome call (λ told. FramePuts old f (frame_ends.Call told) chunks)
-  by None none = tt
-  by (Some told) called = absurd (other told (call_is end told called))
+-- an end of no thread is no call
+pub without_call : (end : End) (P : CallRecord → Type 0) → has_thread end ≡ false → IfSome (call_in end) P
+without_call frame_ends.Preempt P none = tt
+without_call (frame_ends.Call told) P none = absurd (false≢true (sym none))
+without_call (frame_ends.Fault kind) P none = tt
+without_call frame_ends.Stuck P none = tt
+
+-- what was put out may stay at any end
+pub kept : {old new : Option Put} (end : End) → new ≡ old → KeepsPut end old new
+kept frame_ends.Preempt same = same
+kept (frame_ends.Call told) same = tt
+kept (frame_ends.Fault kind) same = same
+kept frame_ends.Stuck same = same
 
 -- ---- a frame by its end
 

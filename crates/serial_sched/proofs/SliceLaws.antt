@@ -19,6 +19,7 @@ use Rattle.rrv_model.specs.FrameStep.{EndsInCall, FrameStep, Steps, closed, clos
 use Rattle.rrv_model.specs.Ends.{call_in}
 use Rattle.rrv_model.specs.Output.{CallPutsAt, Chunk, put_out_by, puts}
 use Rattle.rrv_model.specs.RecordText.{HasCallText, HasFrameText, HasTidAndCount}
+use Rattle.guest_calls.specs.Carries.{Becomes, BecomesOrStays, KeepsRest}
 use Rattle.guest_calls.specs.Guest.{GuestValue, chunks_of, counted, state_of}
 use Rattle.guest_calls.specs.Snapshots.{guest_snapshots}
 use Rattle.guest_calls.specs.Runs.{RunsToCall, RunsToFault, before_call}
@@ -144,6 +145,16 @@ counted_none n low = omega arith
 
 module _ {O : Type 0} (gives : Gives O) (old new : GuestValue) (choice : Choice) (before after : O)
     (can : CanRun (state_of old) choice) where
+  -- so of a guest whose slice is closed
+  still_counts : (count : ℕ) (mid : GuestValue) → KeepsRest mid new → new.put ≡ mid.put → Counts old count mid before after →
+      Counts old count new before after
+  still_counts count mid keeps put counts = record {
+    ran = keeps.ran ∙ counts.ran;
+    put = put ∙ counts.put;
+    snapshots = keeps.snapshots ∙ counts.snapshots;
+    environment = counts.environment;
+  }
+
   counted_text : (count : ℕ) → 1 ≤ count → count ≤ choice.quantum → HasTidAndCount choice.tid count
   counted_text count some within =
       let most = can.quantum.1 in record { tid_low = can.tid.0; tid_high = can.tid.1; count_low = some; count_high = omega arith }
@@ -158,75 +169,78 @@ module _ {O : Type 0} (gives : Gives O) (old new : GuestValue) (choice : Choice)
       (counted_text count some within, tt) (refl, whole) counts
 
   -- the whole quantum
-  pub limit_slice : (f : Frame) (count : ℕ) (last : State) → f ≡ preempt choice count → count ≡ choice.quantum →
-      Steps choice.quantum choice.tid (state_of old) last → state_of new ≡ closed last → Counts old count new before after →
-      IsSliceOf gives old choice f new before after
-  limit_slice f count last is e steps closes counts =
+  pub limit_slice : (f : Frame) (count : ℕ) (mid : GuestValue) → f ≡ preempt choice count → count ≡ choice.quantum →
+      Steps choice.quantum choice.tid (state_of old) (state_of mid) → Becomes (closed (state_of mid)) mid new →
+      Counts old count mid before after → IsSliceOf gives old choice f new before after
+  limit_slice f count mid is e steps closes counts =
       let least = can.quantum.0 in
       same_frame gives old new choice before after (preempt choice count) f is
-      (preempted count last (omega arith) (omega arith) (subst (λ n. Steps n choice.tid (state_of old) last) (sym e) steps) (inl e) closes
-      counts)
+      (preempted count (state_of mid) (omega arith) (omega arith)
+      (subst (λ n. Steps n choice.tid (state_of old) (state_of mid)) (sym e) steps) (inl e) closes.state
+      (still_counts count mid closes.keeps closes.put counts))
 
   -- less, since there was no memory
-  pub stops_short : {E : Type 0} (r : Result Frame E) (count : ℕ) (last : State) → old.ran < 2 ^ 64 → count < choice.quantum →
-      Steps count choice.tid (state_of old) last → NextMayGrow last choice.tid → OnOk r (1 ≤ count) →
-      IfOk r (λ f. f ≡ preempt choice count) →
-      OnOk r (state_of new ≡ closed last) → OnErr r (count ≡ 0) → OnErr r (state_of new ≡ last) → Counts old count new before after →
-      StopsShort gives old new choice before after r
-  stops_short (Ok f) count last low within steps grows some frame closes none same counts =
+  pub stops_short : {E : Type 0} (r : Result Frame E) (count : ℕ) (mid : GuestValue) → old.ran < 2 ^ 64 → count < choice.quantum →
+      Steps count choice.tid (state_of old) (state_of mid) → NextMayGrow (state_of mid) choice.tid → OnOk r (1 ≤ count) →
+      IfOk r (λ f. f ≡ preempt choice count) → OnErr r (count ≡ 0) → BecomesOrStays r (closed (state_of mid)) mid new →
+      Counts old count mid before after → StopsShort gives old new choice before after r
+  stops_short (Ok f) count mid low within steps grows some frame none closes counts =
+      let last = state_of mid in
       let takes : ThreadMayTakeMemory last choice.tid = grow_may_take last choice.tid grows in
       let slice : IsSliceOf gives old choice (preempt choice count) new before after =
       preempted count last some (omega arith) steps
-      (inr (within, record { last = last; steps = steps; takes = takes; grows = grows })) closes counts in
+      (inr (within, record { last = last; steps = steps; takes = takes; grows = grows })) closes.state
+      (still_counts count mid closes.keeps closes.put counts) in
       record {
         slice = same_frame gives old new choice before after (preempt choice count) f frame slice;
         memory = tt;
         grows = tt;
         refused = tt;
       }
-  stops_short (Err x) count last low within steps grows some frame closes none same counts =
-      let stays : last ≡ state_of old = subst (λ (n : ℕ). Steps n choice.tid (state_of old) last) none steps in
+  stops_short (Err x) count mid low within steps grows some frame none closes counts =
+      let stays : state_of mid ≡ state_of old = subst (λ (n : ℕ). Steps n choice.tid (state_of old) (state_of mid)) none steps in
+      let held = still_counts count mid closes.keeps closes.put counts in
       let first : NextMayGrow (state_of old) choice.tid = subst (λ (s : State). NextMayGrow s choice.tid) stays grows in
       record {
         slice = tt;
         memory = grow_may_take (state_of old) choice.tid first;
         grows = first;
         refused = record {
-          state = same ∙ stays;
-          ran = counts.ran ∙ ap (counted old.ran) none ∙ counted_none old.ran low;
-          put = counts.put;
-          snapshots = counts.snapshots;
-          environment = counts.environment;
+          state = ap state_of closes.refused ∙ stays;
+          ran = held.ran ∙ ap (counted old.ran) none ∙ counted_none old.ran low;
+          put = held.put;
+          snapshots = held.snapshots;
+          environment = held.environment;
         };
       }
 
   -- the ECALL is taken back
-  pub call_stops_short : {E : Type 0} (r : Result Frame E) (count : ℕ) (called back : State) → old.ran < 2 ^ 64 →
+  pub call_stops_short : {E : Type 0} (r : Result Frame E) (count : ℕ) (called : State) (back : GuestValue) → old.ran < 2 ^ 64 →
       RunsToCall choice.quantum choice.tid count (state_of old) called → CallMayGrow called choice.tid (thread_at called choice.tid) →
-      back ≡ before_call choice.tid called → OnOk r (1 ≤ count - 1) → IfOk r (λ f. f ≡ preempt choice (count - 1)) →
-      OnOk r (state_of new ≡ closed back) → OnErr r (count - 1 ≡ 0) → OnErr r (state_of new ≡ back) →
-      Counts old (count - 1) new before after →
+      state_of back ≡ before_call choice.tid called → OnOk r (1 ≤ count - 1) → IfOk r (λ f. f ≡ preempt choice (count - 1)) →
+      OnErr r (count - 1 ≡ 0) → BecomesOrStays r (closed (state_of back)) back new → Counts old (count - 1) back before after →
       StopsShort gives old new choice before after r
-  call_stops_short r count called back low p grows e some frame closes none same counts =
+  call_stops_short r count called back low p grows e some frame none closes counts =
       let least = p.some in let within = p.within in
-      let at : back ≡ p.before = e ∙ p.back in
+      let at : state_of back ≡ p.before = e ∙ p.back in
       stops_short r (count - 1) back low (omega arith)
       (subst (λ (x : State). Steps (count - 1) choice.tid (state_of old) x) (sym at) p.steps)
       (subst (λ (x : State). NextMayGrow x choice.tid) (sym at) (inr (record { called = called; calls = p.calls; grows = grows })))
-      some frame closes none same counts
+      some frame none closes counts
 
-  pub fault_slice : (count : ℕ) (kind : FaultKind) (last : State) → RunsToFault choice.quantum choice.tid count kind (state_of old) last →
-      state_of new ≡ closed_at_end (guest_ends.Faulted kind) last → Counts old count new before after →
+  pub fault_slice : (count : ℕ) (kind : FaultKind) (mid : GuestValue) →
+      RunsToFault choice.quantum choice.tid count kind (state_of old) (state_of mid) →
+      Becomes (closed_at_end (guest_ends.Faulted kind) (state_of mid)) mid new → Counts old count mid before after →
       IsSliceOf gives old choice (record { tid = choice.tid; count = count; end = ends.Fault kind }) new before after
-  fault_slice count kind last p closes counts =
+  fault_slice count kind mid p closes counts =
       let most = can.quantum.1 in let some = p.some in let within = p.within in
       quiet_slice gives old new choice before after (record { tid = choice.tid; count = count; end = ends.Fault kind }) refl
       (record {
         runs = can.runs;
         limit = omega arith;
-        goes = record { some = p.some; before = last; steps = p.steps; faults = p.faults; new_is = closes };
+        goes = record { some = p.some; before = state_of mid; steps = p.steps; faults = p.faults; new_is = closes.state };
       })
-      (counted_text count p.some p.within, tt) (refl, p.within) counts
+      (counted_text count p.some p.within, tt) (refl, p.within) (still_counts count mid closes.keeps closes.put counts)
 
   pub call_slice : (f : Frame) (count : ℕ) (called after_call : State) (answer : Answer) (r : CallRecord) →
       f ≡ record { tid = choice.tid; count = count; end = ends.Call r } → RunsToCall choice.quantum choice.tid count (state_of old) called →

@@ -1,16 +1,16 @@
 //! Frames that are followed from a state on.
 
-ghost use Rattle.std.specs.Prelude.{◌≡◌, ◌≤◌, ◌⊎◌, false, None, IfOk, OnOk, IsErrOf};
+ghost use Rattle.std.specs.Prelude.{◌≡◌, false, None, IfOk, OnOk, IsErrOf};
 ghost use Rattle.rrv_model.specs.State.{State};
 ghost use Rattle.rrv_model.specs.Ends.{has_thread};
 ghost use Rattle.rrv_model.specs.FrameStep.{FrameStep, Steps};
-ghost use Rattle.rrv_model.specs.Output.{CallPutsAt};
 ghost use Rattle.rv_machine.specs.declared.run.RunEnd.{RunEnd};
 ghost use Rattle.guest_calls.specs.Snapshots.{guest_snapshots};
 ghost use Rattle.guest_calls.specs.Guest.{state_of, counted, chunks_of};
 ghost use Rattle.guest_calls.specs.Runs.{RunsTo};
 ghost use Rattle.serial_sched.specs.Slices.{CallPuts, KeepsPut};
-ghost use Rattle.serial_sched.specs.Follows.{Follows, FrameMeetsNoMemory, MeetsNoMemory, Reaches};
+ghost use Rattle.serial_sched.specs.Following.{CountsSteps, FollowsEnd};
+ghost use Rattle.serial_sched.specs.Follows.{FrameMeetsNoMemory, MeetsNoMemory, Reaches};
 
 use crate::comparison::is_same_call;
 use crate::fault::FollowFault;
@@ -44,12 +44,7 @@ pub fn follow(alloc: Global, guest: &mut Guest, frame: &Frame) -> Result<(), Fol
 
 fn follow_to_end(alloc: Global, guest: &mut Guest, frame: &Frame) -> Result<(), FollowFault>
     requires { (state_of guest.old).ended ≡ None }
-    ensures follows { Follows frame.now.end (state_of guest.old) frame.now.tid frame.now.count result
-        (state_of guest.new) }
-    ensures puts { OnOk result (CallPuts frame.now.end (state_of guest.old) frame.now (chunks_of guest.new.put)) }
-    ensures keeps { OnOk result (KeepsPut frame.now.end guest.old.put guest.new.put) }
-    ensures ran { OnOk result (guest.new.ran ≡ counted guest.old.ran frame.now.count) }
-    ensures snapshots { guest_snapshots guest.new ≡ guest_snapshots guest.old }
+    ensures { FollowsEnd frame.now.end guest.old frame.now.tid frame.now.count result guest.new }
 {
     match &frame.end {
         End::Preempt => follow_preempt(guest, frame.tid, frame.count),
@@ -62,9 +57,7 @@ fn follow_to_end(alloc: Global, guest: &mut Guest, frame: &Frame) -> Result<(), 
 /// Runs just so many plain steps of a thread. After a refusal the guest is fit only to be dropped.
 pub fn steps(guest: &mut Guest, tid: u32, count: u32) -> Result<(), FollowFault>
     ensures follows { OnOk result (Steps count tid (state_of guest.old) (state_of guest.new)) }
-    ensures ran { OnOk result (guest.new.ran ≡ counted guest.old.ran count) }
-    ensures snapshots { guest_snapshots guest.new ≡ guest_snapshots guest.old }
-    ensures put { OnOk result (guest.new.put ≡ guest.old.put) }
+    ensures counts { CountsSteps result count guest.old guest.new }
     ensures nowhere { IsErrOf result FollowFault.GoesNowhere
         → (new : State) → Steps count tid (state_of guest.old) new → ⊥ }
     ensures memory { IsErrOf result FollowFault.Memory → MeetsNoMemory (state_of guest.old) tid count }
@@ -76,10 +69,7 @@ pub fn steps(guest: &mut Guest, tid: u32, count: u32) -> Result<(), FollowFault>
 }
 
 fn follow_preempt(guest: &mut Guest, tid: u32, count: u32) -> Result<(), FollowFault>
-    ensures follows { Follows End.Preempt (state_of guest.old) tid count result (state_of guest.new) }
-    ensures ran { OnOk result (guest.new.ran ≡ counted guest.old.ran count) }
-    ensures snapshots { guest_snapshots guest.new ≡ guest_snapshots guest.old }
-    ensures put { OnOk result (guest.new.put ≡ guest.old.put) }
+    ensures { FollowsEnd End.Preempt guest.old tid count result guest.new }
 {
     if count == 0 {
         return Err(FollowFault::GoesNowhere);
@@ -92,10 +82,7 @@ fn follow_preempt(guest: &mut Guest, tid: u32, count: u32) -> Result<(), FollowF
 /// Follows a frame of no thread, which ends a guest of which no thread runs.
 fn follow_threadless(guest: &mut Guest, end: &End, tid: u32, count: u32) -> Result<(), FollowFault>
     requires { has_thread end.now ≡ false }
-    ensures follows { Follows end.now (state_of guest.old) tid count result (state_of guest.new) }
-    ensures ran { OnOk result (guest.new.ran ≡ counted guest.old.ran count) }
-    ensures snapshots { guest_snapshots guest.new ≡ guest_snapshots guest.old }
-    ensures put { OnOk result (guest.new.put ≡ guest.old.put) }
+    ensures { FollowsEnd end.now guest.old tid count result guest.new }
 {
     // No instruction is counted; the count fits 64 bits, which this line tells the proof.
     let _ran = guest.ran();
@@ -114,10 +101,7 @@ fn follow_call(
     told: &CallRecord,
 ) -> Result<(), FollowFault>
     requires { (state_of guest.old).ended ≡ None }
-    ensures follows { Follows (End.Call told.now) (state_of guest.old) tid count result (state_of guest.new) }
-    ensures puts { OnOk result (CallPutsAt (state_of guest.old) tid count told.now.result (chunks_of guest.new.put)) }
-    ensures ran { OnOk result (guest.new.ran ≡ counted guest.old.ran count) }
-    ensures snapshots { guest_snapshots guest.new ≡ guest_snapshots guest.old }
+    ensures { FollowsEnd (End.Call told.now) guest.old tid count result guest.new }
 {
     match run_whole(guest, tid, count)? {
         RunEnd::Call => {
@@ -134,10 +118,7 @@ fn follow_call(
 }
 
 fn follow_fault(guest: &mut Guest, tid: u32, count: u32, kind: FaultKind) -> Result<(), FollowFault>
-    ensures follows { Follows (End.Fault kind) (state_of guest.old) tid count result (state_of guest.new) }
-    ensures ran { OnOk result (guest.new.ran ≡ counted guest.old.ran count) }
-    ensures snapshots { guest_snapshots guest.new ≡ guest_snapshots guest.old }
-    ensures put { OnOk result (guest.new.put ≡ guest.old.put) }
+    ensures { FollowsEnd (End.Fault kind) guest.old tid count result guest.new }
 {
     match run_whole(guest, tid, count)? {
         RunEnd::Fault(found) => {
@@ -154,9 +135,7 @@ fn follow_fault(guest: &mut Guest, tid: u32, count: u32, kind: FaultKind) -> Res
 /// Runs just so many instructions of a thread, of which only the last may be a call or a fault.
 fn run_whole(guest: &mut Guest, tid: u32, count: u32) -> Result<RunEnd, FollowFault>
     ensures runs { IfOk result (λ end. RunsTo end count tid count (state_of guest.old) (state_of guest.new)) }
-    ensures ran { OnOk result (guest.new.ran ≡ counted guest.old.ran count) }
-    ensures snapshots { guest_snapshots guest.new ≡ guest_snapshots guest.old }
-    ensures put { OnOk result (guest.new.put ≡ guest.old.put) }
+    ensures counts { CountsSteps result count guest.old guest.new }
     ensures nowhere { IsErrOf result FollowFault.GoesNowhere
         → (end : RunEnd) (new : State) → Reaches end count tid (state_of guest.old) new → ⊥ }
     ensures memory { IsErrOf result FollowFault.Memory → MeetsNoMemory (state_of guest.old) tid count }

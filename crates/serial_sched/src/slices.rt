@@ -1,10 +1,10 @@
 //! The slice of a choice.
 
-ghost use Rattle.std.specs.Prelude.{◌≡◌, ◌↔◌, ◌≤◌, ◌<◌, ◌⊎◌, None, IsSome, IfOk, OnOk, OnErr, IsErrOf, IsOkAnd};
+ghost use Rattle.std.specs.Prelude.{◌≡◌, ◌↔◌, ◌≤◌, None, IsSome, IfOk, OnOk, OnErr, IsErrOf, IsOkAnd};
 ghost use Rattle.rrv_model.specs.State.{thread_at, IsRunning};
 ghost use Rattle.rrv_model.specs.Step.{ThreadMayTakeMemory};
-ghost use Rattle.rrv_model.specs.FrameStep.{FrameStep, closed};
-ghost use Rattle.guest_calls.specs.Snapshots.{guest_snapshots};
+ghost use Rattle.rrv_model.specs.FrameStep.{FrameStep, closed, closed_at_end};
+ghost use Rattle.guest_calls.specs.Carries.{Becomes, BecomesOrStays};
 ghost use Rattle.guest_calls.specs.Guest.{state_of, counted, HasRunning};
 ghost use Rattle.serial_sched.specs.Slices.{CanRun, IsLive, IsQuantum, IsSliceOf, IsUntouched, NextMayGrow};
 
@@ -60,8 +60,7 @@ fn get_stuck(guest: &mut Guest) -> Frame
     ensures stuck { result ≡ record { tid = 0; count = 0; end = End.Stuck } }
     ensures frame { FrameStep (state_of guest.old) result (state_of guest.new) }
     ensures ran { guest.new.ran ≡ counted guest.old.ran 0 }
-    ensures snapshots { guest_snapshots guest.new ≡ guest_snapshots guest.old }
-    ensures put { guest.new.put ≡ guest.old.put }
+    ensures closes { Becomes (closed_at_end GuestEnd.Stuck (state_of guest.old)) guest.old guest.new }
 {
     // No instruction is counted; the count fits 64 bits, which this line tells the proof.
     let _ran = guest.ran();
@@ -115,12 +114,8 @@ fn run_slice<O: Outside>(
 fn stop_short(guest: &mut Guest, tid: u32, count: u32) -> Result<Frame, Memory>
     ensures some { OnOk result (1 ≤ count) }
     ensures frame { IfOk result (λ f. f ≡ record { tid = tid; count = count; end = End.Preempt }) }
-    ensures closes { OnOk result (state_of guest.new ≡ closed (state_of guest.old)) }
     ensures none { OnErr result (count ≡ 0) }
-    ensures refused { OnErr result (state_of guest.new ≡ state_of guest.old) }
-    ensures ran { guest.new.ran ≡ guest.old.ran }
-    ensures snapshots { guest_snapshots guest.new ≡ guest_snapshots guest.old }
-    ensures put { guest.new.put ≡ guest.old.put }
+    ensures closes { BecomesOrStays result (closed (state_of guest.old)) guest.old guest.new }
 {
     if count == 0 {
         return Err(Memory);
@@ -131,10 +126,7 @@ fn stop_short(guest: &mut Guest, tid: u32, count: u32) -> Result<Frame, Memory>
 /// Ends a slice that doesn't itself end the guest.
 fn closed_frame(guest: &mut Guest, tid: u32, count: u32, end: End) -> Frame
     ensures frame { result ≡ record { tid = tid; count = count; end = end } }
-    ensures closes { state_of guest.new ≡ closed (state_of guest.old) }
-    ensures ran { guest.new.ran ≡ guest.old.ran }
-    ensures snapshots { guest_snapshots guest.new ≡ guest_snapshots guest.old }
-    ensures put { guest.new.put ≡ guest.old.put }
+    ensures closes { Becomes (closed (state_of guest.old)) guest.old guest.new }
 {
     guest.close_slice(None);
     Frame { tid, count, end }

@@ -4,18 +4,15 @@ use std::fmt::Debug;
 use std::process::Abort;
 
 mod at_once;
-mod checkpoints;
 mod fail_sink;
-mod failing;
-mod four;
 mod gates;
 mod jobs;
+mod listed;
 mod many;
 mod memory;
-mod programs;
+mod numbers;
 mod recorders;
 mod refused;
-mod stops;
 mod store;
 mod whole;
 

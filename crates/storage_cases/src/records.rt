@@ -1,6 +1,6 @@
 //! Records as text.
 
-use frames::{RecordFault, read_record, write_record};
+use frames::{read_record, write_record};
 use rrv_model::machine::Permissions;
 use rrv_model::record::{
     CallRecord, CheckpointRest, Frame, Item, Opening, PagePart, Part, Record, ThreadPart,
@@ -115,7 +115,7 @@ fn write_part(alloc: Global, text: &mut String, part: &Part) -> Result<(), Alloc
 }
 
 /// What a record tells.
-fn description(alloc: Global, record: &Record) -> Result<String, AllocError> {
+pub fn description(alloc: Global, record: &Record) -> Result<String, AllocError> {
     let Record { guest, index, item } = record;
     let mut text = format!(in alloc; "guest {guest} index {index}")?;
     match item {
@@ -144,20 +144,12 @@ pub fn record_text(alloc: Global, bytes: &[u8]) -> Option<String> {
     description(alloc, &record).ok()
 }
 
-/// The text of a refusal of reading. None where none has that name.
-pub fn refusal_text(alloc: Global, name: &str) -> Option<String> {
-    let fault = match name {
-        "Short" => RecordFault::Short,
-        "BadKind" => RecordFault::BadKind,
-        "BadPayload" => RecordFault::BadPayload,
-        "Memory" => RecordFault::Memory,
-        _ => return None,
-    };
-    format!(in alloc; "{fault}").ok()
-}
-
-/// What is wanted where `record_text` finds it of each beginning of the bytes that isn't all of them; else what it finds first.
+/// What is wanted where `record_text` finds it of each beginning of the bytes that isn't all of them; else what it finds first. None
+/// where there are no bytes.
 pub fn beginnings_text(alloc: Global, bytes: &[u8], want: &str) -> Option<String> {
+    if bytes.is_empty() {
+        return None;
+    }
     for len in 0..bytes.len() {
         let found = record_text(alloc, &bytes[..len])?;
         if found.as_str() != want {

@@ -6,7 +6,7 @@ use std::alloc::Global;
 use trace_disk::{Disk, MemDisk};
 
 /// All the bytes.
-fn bytes_on(alloc: Global, disk: &mut MemDisk) -> Option<Vec<u8>> {
+pub fn bytes_on(alloc: Global, disk: &mut MemDisk) -> Option<Vec<u8>> {
     let mut bytes = Vec::new(alloc);
     bytes.resize(disk.len() as usize, 0).ok()?;
     disk.read_at(0, &mut bytes).ok()?;
@@ -14,7 +14,7 @@ fn bytes_on(alloc: Global, disk: &mut MemDisk) -> Option<Vec<u8>> {
 }
 
 /// A disk with these bytes, all synced.
-fn disk_of(alloc: Global, bytes: &[u8]) -> Option<MemDisk> {
+pub fn disk_of(alloc: Global, bytes: &[u8]) -> Option<MemDisk> {
     let mut disk = MemDisk::new(alloc);
     disk.write_at(0, bytes).ok()?;
     disk.sync().ok()?;
@@ -60,7 +60,7 @@ fn read_text(alloc: Global, bytes: &[u8]) -> Option<String> {
 }
 
 /// What opening the bytes gives, if reading them gives the same.
-fn store_text(alloc: Global, bytes: &[u8]) -> Option<String> {
+pub fn store_text(alloc: Global, bytes: &[u8]) -> Option<String> {
     let opened = match open(alloc, disk_of(alloc, bytes)?) {
         Ok((log, lists)) => opened_text(alloc, log.close(), &lists)?,
         Err((disk, fault)) => refused_text(alloc, disk, fault, bytes)?,
@@ -72,13 +72,16 @@ fn store_text(alloc: Global, bytes: &[u8]) -> Option<String> {
     Some(opened)
 }
 
-/// What is wanted where opening the bytes gives it after each of the changes; else what it gives first.
+/// What is wanted where opening the bytes gives it after each of the changes; else what it gives first. None where there are none.
 pub fn changed_stores_text(
     alloc: Global,
     bytes: &[u8],
     changes: &[Change],
     want: &str,
 ) -> Option<String> {
+    if changes.is_empty() {
+        return None;
+    }
     for change in changes {
         let changed = change.of(alloc, bytes)?;
         let found = store_text(alloc, &changed)?;

@@ -1,6 +1,7 @@
 //! Cases that are lines of text, `ASKED = WANT`. An empty line and one that begins with `#` ask nothing.
 
 use std::alloc::AllocError;
+use std::fs::File;
 use std::io;
 use std::process::ExitCode;
 use std::rt::Files;
@@ -8,11 +9,16 @@ use std::rt::Files;
 /// What answers such lines.
 pub trait Answers {
     /// What is found where a line asks this and wants that; None where it asks nothing, or no memory is left.
-    fn answer<R: Files + AllocGlobal>(&mut self, rt: &R, asked: &str, want: &str) -> Option<String>;
+    fn answer<R: Files<File = File> + AllocGlobal>(
+        &mut self,
+        rt: &R,
+        asked: &str,
+        want: &str,
+    ) -> Option<String>;
 }
 
 /// What a line finds in place of what it wants; None where it finds that.
-fn failure<R: Files + AllocGlobal, A: Answers>(
+fn failure<R: Files<File = File> + AllocGlobal, A: Answers>(
     rt: &R,
     answers: &mut A,
     line: &str,

@@ -2,8 +2,6 @@
 
 /// `ecall`
 pub const ECALL: u32 = 0x0000_0073;
-/// `ebreak`
-pub const EBREAK: u32 = 0x0010_0073;
 /// `nop`
 pub const NO_OP: u32 = 0x0000_0013;
 /// `lui a1, 0x10`: where the small files are loaded.
@@ -18,11 +16,6 @@ pub const STORE_CONDITIONAL: u32 = 0x18D5_A62F;
 /// `li a0, n`, for n below 2,048.
 pub fn a0(n: u32) -> u32 {
     n.wrapping_shl(20) | 0x513
-}
-
-/// `li a1, n`, for n below 2,048.
-pub fn a1(n: u32) -> u32 {
-    n.wrapping_shl(20) | 0x593
 }
 
 /// `li a2, n`, for n below 2,048.

@@ -1,6 +1,6 @@
 //! Disks as the log sees them: what a read gives, and what a crash may leave.
 //!
-//! Tests: storage_tests, storage_cases.
+//! Tests: storage_cases.
 //!
 //! # Contracts
 //!

@@ -1,6 +1,6 @@
 //! The lines that are printed of records and of states, and the digest of a memory.
 //!
-//! Tests: program_tests, replay_cases.
+//! Tests: replay_cases; `tools/scenes` and `tools/program_lines` run it.
 //!
 //! # Contracts
 //!

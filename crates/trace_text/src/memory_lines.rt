@@ -14,6 +14,15 @@ use std::fmt;
 /// Bytes of a line.
 const LINE: u64 = 16;
 
+/// The bytes of one line: so many from an address on.
+#[derive(Clone, Copy)]
+struct Span {
+    address: u64,
+    count: u64,
+    ghost within: { address < 8589934592 },
+    ghost few: { count ≤ 16 },
+}
+
 /// The lines of the bytes of a memory from an address on, whatever their permissions: 16 a line, as `hexdump -C` prints them, with
 /// `--` for a byte that isn't mapped. Each line ends with a newline.
 #[derive(Drop)]
@@ -42,12 +51,7 @@ impl<'a> fmt::Display for MemoryLines<'a> {
     ghost output = { λ lines. Some (memory_lines (memory_of lines.space.now) lines.address lines.length) };
 
     fn fmt<W: fmt::Write>(&self, f: &mut fmt::Formatter<W>) -> fmt::Result {
-        write_lines(
-            f,
-            self.space,
-            u64::from(self.address),
-            u64::from(self.length),
-        )
+        write_lines(f, self.space, self.address, self.length)
     }
 }
 
@@ -56,14 +60,12 @@ impl<'a> fmt::Display for MemoryLines<'a> {
 fn write_lines<W: fmt::Write>(
     f: &mut fmt::Formatter<W>,
     space: &Space,
-    address: u64,
-    length: u64,
+    address: u32,
+    length: u32,
 ) -> fmt::Result
-    requires low { address < 4294967296 }
-    requires short { length < 4294967296 }
     ensures { WritesOnOk W.write_str_gives f.old result (memory_lines (memory_of space.now) address length) f.new }
 {
-    for line in 0..(length + 15) / LINE {
+    for line in 0..(u64::from(length) + 15) / LINE {
         write_line_from(f, space, address, length, line)?;
     }
     Ok(())
@@ -73,35 +75,31 @@ fn write_lines<W: fmt::Write>(
 fn write_line_from<W: fmt::Write>(
     f: &mut fmt::Formatter<W>,
     space: &Space,
-    address: u64,
-    length: u64,
+    address: u32,
+    length: u32,
     line: u64,
 ) -> fmt::Result
-    requires low { address < 4294967296 }
-    requires short { length < 4294967296 }
-    requires begins { 16 * line < length }
+    requires { 16 * line < length }
     ensures { WritesOnOk W.write_str_gives f.old result (line_from (memory_of space.now) address length line) f.new }
 {
     let done = LINE * line;
-    write_line(f, space, address + done, LINE.min(length - done))
+    let span = Span {
+        address: u64::from(address) + done,
+        count: LINE.min(u64::from(length) - done),
+    };
+    write_line(f, space, span)
 }
 
-/// The line of some bytes from an address on.
+/// A line of bytes.
 #[tactic(auto, unfolding(crate::specs::MemoryText::memory_line))]
-fn write_line<W: fmt::Write>(
-    f: &mut fmt::Formatter<W>,
-    space: &Space,
-    address: u64,
-    count: u64,
-) -> fmt::Result
-    requires within { address < 8589934592 }
-    requires few { count ≤ 16 }
-    ensures { WritesOnOk W.write_str_gives f.old result (memory_line (memory_of space.now) address count) f.new }
+fn write_line<W: fmt::Write>(f: &mut fmt::Formatter<W>, space: &Space, span: Span) -> fmt::Result
+    ensures { WritesOnOk W.write_str_gives f.old result
+        (memory_line (memory_of space.now) span.address span.count) f.new }
 {
-    write_address(f, address)?;
-    write_columns(f, space, address, count)?;
+    write_address(f, span.address)?;
+    write_columns(f, space, span)?;
     f.write_str("  |")?;
-    write_characters(f, space, address, count)?;
+    write_characters(f, space, span)?;
     f.write_str("|")?;
     f.write_str("\n")
 }
@@ -114,18 +112,12 @@ fn write_address<W: fmt::Write>(f: &mut fmt::Formatter<W>, address: u64) -> fmt:
 }
 
 /// The bytes of a line in their columns.
-fn write_columns<W: fmt::Write>(
-    f: &mut fmt::Formatter<W>,
-    space: &Space,
-    address: u64,
-    count: u64,
-) -> fmt::Result
-    requires within { address < 8589934592 }
+fn write_columns<W: fmt::Write>(f: &mut fmt::Formatter<W>, space: &Space, span: Span) -> fmt::Result
     ensures { WritesOnOk W.write_str_gives f.old result
-        (each_below (column (memory_of space.now) address count) 16) f.new }
+        (each_below (column (memory_of space.now) span.address span.count) 16) f.new }
 {
     for k in 0..LINE {
-        write_column(f, space, address, count, k)?;
+        write_column(f, space, span, k)?;
     }
     Ok(())
 }
@@ -135,17 +127,16 @@ fn write_columns<W: fmt::Write>(
 fn write_column<W: fmt::Write>(
     f: &mut fmt::Formatter<W>,
     space: &Space,
-    address: u64,
-    count: u64,
+    span: Span,
     k: u64,
 ) -> fmt::Result
-    requires within { address < 8589934592 }
-    requires place { k < 16 }
-    ensures { WritesOnOk W.write_str_gives f.old result (column (memory_of space.now) address count k) f.new }
+    requires { k < 16 }
+    ensures { WritesOnOk W.write_str_gives f.old result
+        (column (memory_of space.now) span.address span.count k) f.new }
 {
     write_gap(f, k)?;
-    if k < count {
-        write_cell(f, space, address + k)
+    if k < span.count {
+        write_cell(f, space, span.address + k)
     } else {
         f.write_str("  ")
     }
@@ -177,16 +168,13 @@ fn write_cell<W: fmt::Write>(f: &mut fmt::Formatter<W>, space: &Space, address: 
 fn write_characters<W: fmt::Write>(
     f: &mut fmt::Formatter<W>,
     space: &Space,
-    address: u64,
-    count: u64,
+    span: Span,
 ) -> fmt::Result
-    requires within { address < 8589934592 }
-    requires few { count ≤ 16 }
     ensures { WritesOnOk W.write_str_gives f.old result
-        (each_below (λ k. encode_utf8 (character (memory_of space.now (address + k)))) count) f.new }
+        (each_below (λ k. encode_utf8 (character (memory_of space.now (span.address + k)))) span.count) f.new }
 {
-    for k in 0..count {
-        write_character(f, space, address + k)?;
+    for k in 0..span.count {
+        write_character(f, space, span.address + k)?;
     }
     Ok(())
 }

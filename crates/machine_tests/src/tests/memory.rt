@@ -1,7 +1,6 @@
 //! Growths that may be refused, as under `rt try --test --fail-alloc N`.
 
 use super::code_space::{answers, space_of_code};
-use super::rows::{Row, play_on};
 use super::{same, same_numbers};
 use guest_pages::{AddressSpace, PageFault, Space};
 use rrv_model::refusal::Memory;
@@ -19,8 +18,9 @@ fn a_refused_mapping_leaves_all_as_before(rt: HostRuntime) -> Result<(), Fail> {
     space.store_word(0x3FFC, 0x0403_0201)?;
     if let Err(fault) = space.map(3, 3, CODE) {
         same(&rt, &"the second", fault, PageFault::Memory);
-        let rows = [Row::Pages(3), Row::Word(0x3FFC, Some(0x0403_0201))];
-        play_on(&rt, &mut space, &rows);
+        same(&rt, &"three pages", space.page_count(), 3);
+        let word = space.load_word(0x3FFC);
+        same(&rt, &"the word as it was", word, Some(0x0403_0201));
         space.map(3, 3, CODE)?;
     }
     if let Err(fault) = space.cover(6, DATA) {

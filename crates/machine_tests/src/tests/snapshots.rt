@@ -1,12 +1,18 @@
-//! Snapshots, with changes between them. The proofs know which snapshots live, so these tests are no rows.
+//! Snapshots, with changes between them.
 
-use super::rows::{DONE, Deed, Edges, does, edges};
 use super::{same, same_numbers};
-use guest_pages::{AddressSpace, Space};
-use std::alloc::Global;
-use std::process::Abort;
+use guest_pages::{AddressSpace, PageView, Space};
+use rrv_model::machine::Permissions;
 use std::test::Fail;
 use test_guests::permissions::{CODE, CONSTANTS, DATA};
+
+/// A page by its permissions, its first byte and its last.
+type Edges = (Permissions, u8, u8);
+
+/// The edges of a page that is there.
+fn edges(page: Option<PageView<'_>>) -> Option<Edges> {
+    page.map(|page| (page.permissions, page.bytes[0], page.bytes[4095]))
+}
 
 /// A page of data with these bytes at its edges.
 fn data(first: u8, last: u8) -> Option<Edges> {
@@ -16,15 +22,15 @@ fn data(first: u8, last: u8) -> Option<Edges> {
 #[test]
 fn two_snapshots_keep_their_memory(rt: HostRuntime) -> Result<(), Fail> {
     let mut space = Space::new(rt.alloc());
-    does(&rt, &mut space, Deed::Map(1, 3, DATA), DONE);
-    does(&rt, &mut space, Deed::StoreByte(0x1000, 1), DONE);
+    space.map(1, 3, DATA)?;
+    space.store_byte(0x1000, 1)?;
     let first = space.snapshot()?;
-    does(&rt, &mut space, Deed::StoreByte(0x1000, 2), DONE);
-    does(&rt, &mut space, Deed::Unmap(2, 1), DONE);
+    space.store_byte(0x1000, 2)?;
+    space.unmap(2, 1);
     let second = space.snapshot()?;
-    does(&rt, &mut space, Deed::Protect(3, 1, CONSTANTS), DONE);
-    does(&rt, &mut space, Deed::Map(5, 1, CODE), DONE);
-    does(&rt, &mut space, Deed::StoreByte(0x1FFF, 9), DONE);
+    space.protect(3, 1, CONSTANTS)?;
+    space.map(5, 1, CODE)?;
+    space.store_byte(0x1FFF, 9)?;
 
     let page = edges(space.snapshot_page(&first, 1));
     same(&rt, &"the first's page 1", page, data(1, 0));
@@ -47,12 +53,12 @@ fn two_snapshots_keep_their_memory(rt: HostRuntime) -> Result<(), Fail> {
 #[test]
 fn a_dropped_snapshot_leaves_the_others(rt: HostRuntime) -> Result<(), Fail> {
     let mut space = Space::new(rt.alloc());
-    does(&rt, &mut space, Deed::Map(1, 1, DATA), DONE);
+    space.map(1, 1, DATA)?;
     let first = space.snapshot()?;
-    does(&rt, &mut space, Deed::StoreByte(0x1000, 1), DONE);
+    space.store_byte(0x1000, 1)?;
     let second = space.snapshot()?;
     space.drop_snapshot(first);
-    does(&rt, &mut space, Deed::Map(1, 1, DATA), DONE);
+    space.map(1, 1, DATA)?;
     let third = space.snapshot()?;
     let changed = space.changed_since(&second)?;
     same_numbers(&rt, &"since the second", &changed, &[1]);
@@ -65,36 +71,25 @@ fn a_dropped_snapshot_leaves_the_others(rt: HostRuntime) -> Result<(), Fail> {
     Ok(())
 }
 
-/// The pages that changed, one behind another.
-fn changed_by(rt: &impl Abort, alloc: Global, deeds: &[Deed]) -> Result<Vec<u32>, Fail> {
-    let mut space = Space::new(alloc);
-    does(rt, &mut space, Deed::Map(1, 4, DATA), DONE);
-    let before = space.snapshot()?;
-    for deed in deeds {
-        does(rt, &mut space, *deed, DONE);
-    }
-    Ok(space.changed_since(&before)?)
-}
-
 #[test]
 fn each_kind_of_change(rt: HostRuntime) -> Result<(), Fail> {
-    let changes = [
-        Deed::StoreByte(0x1FFF, 1),
-        Deed::Protect(2, 1, CONSTANTS),
-        Deed::Unmap(3, 1),
-        Deed::Map(4, 1, DATA),
-        Deed::Map(0x7_FFFF, 1, CODE),
-        // and all of it back
-        Deed::StoreByte(0x1FFF, 0),
-        Deed::Protect(2, 1, DATA),
-        Deed::Map(3, 1, DATA),
-        Deed::Unmap(0x7_FFFF, 1),
-    ];
-    let changed = changed_by(&rt, rt.alloc(), &[])?;
+    let mut space = Space::new(rt.alloc());
+    space.map(1, 4, DATA)?;
+    let before = space.snapshot()?;
+    let changed = space.changed_since(&before)?;
     same_numbers(&rt, &"none", &changed, &[]);
-    let changed = changed_by(&rt, rt.alloc(), &changes[..5])?;
+    space.store_byte(0x1FFF, 1)?;
+    space.protect(2, 1, CONSTANTS)?;
+    space.unmap(3, 1);
+    space.map(4, 1, DATA)?;
+    space.map(0x7_FFFF, 1, CODE)?;
+    let changed = space.changed_since(&before)?;
     same_numbers(&rt, &"each kind", &changed, &[1, 2, 3, 0x7_FFFF]);
-    let changed = changed_by(&rt, rt.alloc(), &changes)?;
+    space.store_byte(0x1FFF, 0)?;
+    space.protect(2, 1, DATA)?;
+    space.map(3, 1, DATA)?;
+    space.unmap(0x7_FFFF, 1);
+    let changed = space.changed_since(&before)?;
     same_numbers(&rt, &"all back", &changed, &[]);
     Ok(())
 }
@@ -102,12 +97,16 @@ fn each_kind_of_change(rt: HostRuntime) -> Result<(), Fail> {
 #[test]
 fn a_snapshot_stays_while_pages_are_put(rt: HostRuntime) -> Result<(), Fail> {
     let mut space = Space::new(rt.alloc());
-    does(&rt, &mut space, Deed::Map(1, 3, DATA), DONE);
-    does(&rt, &mut space, Deed::StoreByte(0x2FFF, 5), DONE);
+    space.map(1, 3, DATA)?;
+    space.store_byte(0x2FFF, 5)?;
     let before = space.snapshot()?;
-    does(&rt, &mut space, Deed::Set(2, Some((CODE, 3, 3))), DONE);
-    does(&rt, &mut space, Deed::Set(3, None), DONE);
-    does(&rt, &mut space, Deed::Set(4, None), DONE);
+    let page = PageView {
+        permissions: CODE,
+        bytes: &[3; 4096],
+    };
+    space.set_page(2, Some(page))?;
+    space.set_page(3, None)?;
+    space.set_page(4, None)?;
     let page = edges(space.snapshot_page(&before, 2));
     same(&rt, &"page 2 as it was", page, data(0, 5));
     let changed = space.changed_since(&before)?;

@@ -1,10 +1,10 @@
-//! What guests get from the host: random bytes, a shared input, shared streams, and clocks and writers that fail.
+//! What guests get from the host: clocks, shared streams, and clocks and writers that fail.
 
 ghost use Rattle.std.specs.Prelude.{◌≤◌, length};
 
-use super::kit::same;
+use super::same;
 use guest_calls::Outside;
-use host::{HostOutside, Patient, StreamSink, Streams, opening_random};
+use host::{HostOutside, Patient, StreamSink, Streams};
 use rrv_model::sink::{Sink, SinkError};
 use std::io;
 use std::io::{ErrorKind, Write};
@@ -71,13 +71,6 @@ impl Write for Slow {
     }
 }
 
-/// Reads four bytes at most. `Drop + Send` is what a session asks of an environment.
-fn read_four<O: Outside + Drop + Send>(rt: &impl Abort, outside: &mut O, want: &[u8]) {
-    let mut into = [0u8; 4];
-    let len = outside.read(&mut into);
-    same(rt, &"read", &into[..len], want);
-}
-
 fn put<S: Sink + Drop + Send, R: Abort + Wait>(
     rt: &R,
     sink: &mut S,
@@ -90,52 +83,6 @@ fn put<S: Sink + Drop + Send, R: Abort + Wait>(
 {
     same(rt, &descriptor, sink.put(rt, descriptor, bytes), want);
     same(rt, &"failures", sink.failures(), failures);
-}
-
-// python3 -c 'import hashlib, struct
-// digest = lambda guest, counter: hashlib.sha256(bytes(16) + struct.pack("<II", guest, counter)).digest()
-// print((digest(0, 0) + digest(0, 1))[:40].hex(), *(digest(guest, 0xffffffff)[:16].hex() for guest in (0, 1)))'
-const FIRST_BYTES: [u8; 40] = [
-    0x9d, 0x90, 0x8e, 0xcf, 0xb6, 0xb2, 0x56, 0xde, 0xf8, 0xb4, 0x9a, 0x7c, 0x50, 0x4e, 0x6c, 0x88,
-    0x9c, 0x4b, 0x0e, 0x41, 0xfe, 0x6c, 0xe3, 0xe0, 0x18, 0x63, 0xdd, 0x7b, 0x61, 0xa2, 0x0a, 0xa0,
-    0x64, 0x0e, 0x49, 0x4d, 0xd3, 0x1e, 0xdb, 0x66,
-];
-
-const OPENING_OF_0: [u8; 16] = [
-    0xcd, 0x97, 0x23, 0xab, 0xb2, 0xa6, 0x24, 0x00, 0xb1, 0x00, 0xa4, 0x60, 0xed, 0x1b, 0x5b, 0x11,
-];
-
-const OPENING_OF_1: [u8; 16] = [
-    0xbb, 0x7e, 0xad, 0x7c, 0x63, 0x96, 0x71, 0xbb, 0x53, 0x9b, 0xa9, 0xac, 0x91, 0xa3, 0xed, 0x09,
-];
-
-#[test]
-fn random_bytes_go_on_from_call_to_call(rt: HostRuntime) -> Result<(), Fail> {
-    let start = Instant::now(&rt)?;
-    let mut machine = HostOutside::new(&rt, start, &[], &[0; 16], 0);
-    let (mut first, mut second, mut third) = ([0; 5], [0; 30], [0; 5]);
-    machine.random(&mut first);
-    machine.random(&mut second);
-    machine.random(&mut third);
-    same(&rt, &"first", first.as_slice(), &FIRST_BYTES[..5]);
-    same(&rt, &"second", second.as_slice(), &FIRST_BYTES[5..35]);
-    same(&rt, &"third", third.as_slice(), &FIRST_BYTES[35..]);
-    same(&rt, &"guest 0", opening_random(&[0; 16], 0), OPENING_OF_0);
-    same(&rt, &"guest 1", opening_random(&[0; 16], 1), OPENING_OF_1);
-    Ok(())
-}
-
-#[test]
-fn each_guest_reads_the_input_from_its_start(rt: HostRuntime) -> Result<(), Fail> {
-    let start = Instant::now(&rt)?;
-    let input = b"0123456789";
-    let mut first = HostOutside::new(&rt, start, input, &[0; 16], 0);
-    let mut second = HostOutside::new(&rt, start, input, &[0; 16], 1);
-    for piece in ["0123", "4567", "89", "", ""] {
-        read_four(&rt, &mut first, piece.as_bytes());
-        read_four(&rt, &mut second, piece.as_bytes());
-    }
-    Ok(())
 }
 
 #[test]

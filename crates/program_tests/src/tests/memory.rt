@@ -1,7 +1,7 @@
 //! Verifying and seeking with refused growths, over a recording that is written by hand.
 
-use super::kit::same;
-use super::recordings::verified_of;
+use super::given::verified_of;
+use super::same;
 use recover::ReadFault;
 use replayer::{Verified, VerifyFault, verify};
 use reverse_step::{Cursor, SeekFault};
@@ -74,10 +74,10 @@ fn part_at(alloc: Global, at: u32) -> Result<Item, AllocError> {
     }))
 }
 
-/// Its opening.
-fn opening(alloc: Global) -> Result<Item, AllocError> {
-    let elf = file_of(alloc, &COUNT_UP)?;
-    let name = Vec::from_slice(alloc, b"a")?;
+/// The opening of a guest of these instructions.
+pub(super) fn opening(alloc: Global, program: &[u32], name: &[u8]) -> Result<Item, AllocError> {
+    let elf = file_of(alloc, program)?;
+    let name = Vec::from_slice(alloc, name)?;
     Ok(Item::Opening(Opening {
         elf: Sequence::from_vec(elf),
         name: Sequence::from_vec(name),
@@ -94,7 +94,8 @@ fn frame() -> Item {
     })
 }
 
-fn push(records: &mut Vec<Record>, item: Item) -> Result<(), Fail> {
+/// Adds an item as the next record of guest 0.
+pub(super) fn push(records: &mut Vec<Record>, item: Item) -> Result<(), Fail> {
     let index = u32::try_from(records.len())?;
     records.push(Record {
         guest: 0,
@@ -107,7 +108,7 @@ fn push(records: &mut Vec<Record>, item: Item) -> Result<(), Fail> {
 /// Its recording: four frames, with a checkpoint after the second and the fourth.
 fn recording(alloc: Global) -> Result<Vec<Record>, Fail> {
     let mut records = Vec::new(alloc);
-    push(&mut records, opening(alloc)?)?;
+    push(&mut records, opening(alloc, &COUNT_UP, b"a")?)?;
     for at in [128, 256] {
         push(&mut records, frame())?;
         push(&mut records, frame())?;

@@ -1,8 +1,8 @@
 //! How refusals are told: each has its text, and those of the layers below become the program's.
 
-use super::kit::shows;
+use super::{same, shows};
 use command_line::BadSeed;
-use commands::Refusal;
+use commands::{Refusal, report, report_unread};
 use elf_load::ElfFault;
 use guest_calls::{SetPageFault, SetRestFault};
 use recover::{OpenFault, ReadFault};
@@ -10,7 +10,9 @@ use replayer::{OutputFault, VerifyFault};
 use reverse_step::SeekFault;
 use serial_sched::{FollowFault, SliceFault};
 use session::SessionFault;
+use std::alloc::AllocError;
 use std::fmt::Display;
+use std::io::{self, ErrorKind};
 use std::process::Abort;
 use std::test::Fail;
 use trace_disk::CannotOpen;
@@ -179,4 +181,35 @@ fn refusals_of_parts_of_a_checkpoint(rt: HostRuntime) -> Result<(), Fail> {
             (SetRestFault::Memory, "out of memory"),
         ],
     )
+}
+
+#[test]
+fn words_that_find_no_memory_are_told(rt: HostRuntime) {
+    let want: &[u8] = b"rrv: out of memory\n";
+    let mut err = Vec::new(rt.alloc());
+    let status = report_unread(
+        rt.alloc(),
+        &io::Error::from(ErrorKind::OutOfMemory),
+        &mut err,
+    );
+    same(&rt, &want, (status, err.as_slice()), (1, want));
+}
+
+#[test]
+fn a_parser_that_is_out_of_memory_is_told(rt: HostRuntime) {
+    let want: &[u8] = b"rrv: out of memory\n";
+    let mut out = Vec::new(rt.alloc());
+    let mut err = Vec::new(rt.alloc());
+    let status = report(
+        rt.alloc(),
+        &clap::Error::from(AllocError),
+        &mut out,
+        &mut err,
+    );
+    same(
+        &rt,
+        &want,
+        (status, out.is_empty(), err.as_slice()),
+        (1, true, want),
+    );
 }

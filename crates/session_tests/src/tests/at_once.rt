@@ -5,15 +5,13 @@ use super::same;
 use super::whole::whole_session;
 use std::test::Fail;
 
-// A session that ran the first guest to its end before the second would answer that the first is held.
+// A session that ran the first guest to its end before the second would answer that the first is held, and so of the second.
 #[test]
-fn the_first_waits_for_the_second(rt: HostRuntime) -> Result<(), Fail> {
-    whole_session(&rt, 2, 20, &Behind::holding(0))
-}
-
-#[test]
-fn the_second_waits_for_the_first(rt: HostRuntime) -> Result<(), Fail> {
-    whole_session(&rt, 2, 20, &Behind::holding(1))
+fn each_waits_for_the_other(rt: HostRuntime) -> Result<(), Fail> {
+    for held in 0..2 {
+        whole_session(&rt, 2, 20, &Behind::holding(held, 3))?;
+    }
+    Ok(())
 }
 
 // Each is inside its first question until the other asks too.

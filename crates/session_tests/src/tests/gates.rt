@@ -3,18 +3,20 @@
 use session::Gate;
 use std::sync::atomic::{AtomicBool, AtomicU32, Ordering};
 
-/// Holds one guest until another has sent three frames.
+/// Holds one guest until another has sent so many frames.
 #[derive(Drop)]
 pub(super) struct Behind {
     held: u32,
+    least: u32,
     frames: AtomicU32,
 }
 
 impl Behind {
-    /// It holds this guest until one of the others has sent three frames.
-    pub(super) fn holding(guest: u32) -> Behind {
+    /// It holds this guest until one of the others has sent so many frames.
+    pub(super) fn holding(guest: u32, least: u32) -> Behind {
         Behind {
             held: guest,
+            least,
             frames: AtomicU32::new(0),
         }
     }
@@ -22,7 +24,7 @@ impl Behind {
 
 impl Gate for Behind {
     fn may_step(&self, guest: u32) -> bool {
-        guest != self.held || 3 <= self.frames.load(Ordering::SeqCst)
+        guest != self.held || self.least <= self.frames.load(Ordering::SeqCst)
     }
 
     fn submitted(&self, guest: u32, frames: u32) {
@@ -30,27 +32,6 @@ impl Gate for Behind {
             self.frames.store(frames, Ordering::SeqCst);
         }
     }
-}
-
-/// Lets one guest never step.
-#[derive(Clone, Copy, Debug, Drop)]
-pub(super) struct Holding {
-    held: u32,
-}
-
-impl Holding {
-    /// It holds this guest.
-    pub(super) fn guest(held: u32) -> Holding {
-        Holding { held }
-    }
-}
-
-impl Gate for Holding {
-    fn may_step(&self, guest: u32) -> bool {
-        guest != self.held
-    }
-
-    fn submitted(&self, _guest: u32, _frames: u32) {}
 }
 
 /// How often a guest looks for the other before it gives up.

@@ -1,7 +1,7 @@
 //! Sessions that are refused before a guest starts, or by a full store.
 
-use super::four::{Ended, listed_jobs, recorded};
-use super::jobs::{MemJob, jobs};
+use super::jobs::MemJob;
+use super::listed::listed_jobs;
 use super::same;
 use super::store::{Store, contents};
 use recorder::MemSink;
@@ -14,45 +14,8 @@ use std::test::Fail;
 use std::thread::Threads;
 use test_guests::files::{EXIT_FIVE, HELLO, file_of};
 use test_guests::outsides::Nothing;
-use trace_disk::{Disk, FailOnce, MemDisk};
+use trace_disk::{Disk, MemDisk};
 use trace_log::Log;
-
-// All jobs come back.
-#[test]
-fn seventeen_guests_are_too_many(rt: HostRuntime) -> Result<(), Fail> {
-    let alloc = rt.alloc();
-    let log = Log::create(MemDisk::new(alloc)).ok().ok_or("not made")?;
-    let (_, back, result) = record_all(&rt, alloc, log, jobs(alloc, 17, 1)?, &OpenGate);
-    same(&rt, &"back", back.len(), 17);
-    same(
-        &rt,
-        &"many",
-        result.err(),
-        Some(SessionFault::TooManyGuests),
-    );
-    Ok(())
-}
-
-// The third job's file is cut short: it is told by its place, and nothing is recorded.
-#[test]
-fn a_job_that_starts_no_guest(rt: HostRuntime) -> Result<(), Fail> {
-    let alloc = rt.alloc();
-    let log = Log::create(MemDisk::new(alloc)).ok().ok_or("not made")?;
-    let mut all = jobs(alloc, 3, 1)?;
-    if let Some(job) = all.last_mut() {
-        job.elf.truncate(40);
-    }
-    let (log, _, result) = record_all(&rt, alloc, log, all, &OpenGate);
-    same(
-        &rt,
-        &"bad",
-        result.err(),
-        Some(SessionFault::BadOpening { guest: 2 }),
-    );
-    let store = Store::of(alloc, log.close())?;
-    same(&rt, &"guests", store.guests(), 0);
-    Ok(())
-}
 
 /// A store with no bodies.
 const NO_BODIES: [u8; 17] = [
@@ -91,8 +54,8 @@ fn is_untouched(rt: &impl Abort, found: &MemJob, want: &MemJob) {
     same(rt, &"puts", found.sink.puts().len(), 0);
 }
 
-/// A session of such jobs is refused for the one at this place, and leaves its log and its jobs as they were.
-fn is_refused_for<R>(rt: &R, names: &[&[u8]], cut_from: usize, guest: u32) -> Result<(), Fail>
+/// A session of such jobs is refused so, and leaves its log and its jobs as they were.
+fn is_refused<R>(rt: &R, names: &[&[u8]], cut_from: usize, want: SessionFault) -> Result<(), Fail>
 where
     R: Abort + AllocGlobal + Threads + Wait + Sync,
 {
@@ -101,36 +64,48 @@ where
     log.raise_guest(7);
     let given = named_jobs(alloc, names, cut_from)?;
     let (log, back, result) = record_all(rt, alloc, log, given, &OpenGate);
-    let want = Some(SessionFault::BadOpening { guest });
-    same(rt, &guest, result.err(), want);
-    same(rt, &guest, back.len(), names.len());
+    same(rt, &want, result.err(), Some(want));
+    same(rt, &want, back.len(), names.len());
     let jobs = named_jobs(alloc, names, cut_from)?;
     for (found, want) in back.iter().zip(&jobs) {
         is_untouched(rt, found, want);
     }
-    same(rt, &guest, log.next_guest(), 7);
-    let bytes = contents(alloc, &mut log.close())?;
-    same(rt, &guest, bytes.as_slice(), &NO_BODIES as &[u8]);
+    same(rt, &want, log.next_guest(), 7);
+    let mut disk = log.close();
+    let bytes = contents(alloc, &mut disk)?;
+    same(rt, &want, bytes.as_slice(), &NO_BODIES as &[u8]);
+    same(rt, &want, Store::of(alloc, disk)?.guests(), 0);
     Ok(())
 }
 
-// A name has 1 to 32 bytes, each from 0x21 to 0x7E. The first bad job is told, whether its name is bad or its file.
+// A name has 1 to 32 bytes, each from 0x21 to 0x7E. The first bad job is told, whether its name is bad or its file. Seventeen guests are
+// too many.
 #[test]
-fn a_job_of_a_bad_name(rt: HostRuntime) -> Result<(), Fail> {
-    let rows: &[(&[&[u8]], usize, u32)] = &[
-        (&[b""], 1, 0),
-        (&[b"a b"], 1, 0),
-        (&[&[0x61; 33]], 1, 0),
-        (&[&[0x7F]], 1, 0),
-        (&[b"a", b""], 2, 1),
-        (&[b"a", b"b\n"], 2, 1),
-        (&[b"", b" "], 2, 0),
-        (&[b"", b"b"], 1, 0),
-        (&[b"a", b" ", b"c"], 2, 1),
-        (&[b"a", b"b", b""], 1, 1),
+fn sessions_that_start_no_guest(rt: HostRuntime) -> Result<(), Fail> {
+    let rows: &[(&[&[u8]], usize, SessionFault)] = &[
+        (&[b""], 1, SessionFault::BadOpening { guest: 0 }),
+        (&[b"a b"], 1, SessionFault::BadOpening { guest: 0 }),
+        (&[&[0x61; 33]], 1, SessionFault::BadOpening { guest: 0 }),
+        (&[&[0x7F]], 1, SessionFault::BadOpening { guest: 0 }),
+        (&[b"a", b""], 2, SessionFault::BadOpening { guest: 1 }),
+        (&[b"a", b"b\n"], 2, SessionFault::BadOpening { guest: 1 }),
+        (&[b"", b" "], 2, SessionFault::BadOpening { guest: 0 }),
+        (&[b"", b"b"], 1, SessionFault::BadOpening { guest: 0 }),
+        (
+            &[b"a", b" ", b"c"],
+            2,
+            SessionFault::BadOpening { guest: 1 },
+        ),
+        (&[b"a", b"b", b""], 1, SessionFault::BadOpening { guest: 1 }),
+        (
+            &[b"a", b"b", b"c"],
+            2,
+            SessionFault::BadOpening { guest: 2 },
+        ),
+        (&[b"a" as &[u8]; 17], 17, SessionFault::TooManyGuests),
     ];
-    for (names, cut_from, guest) in rows {
-        is_refused_for(&rt, names, *cut_from, *guest)?;
+    for (names, cut_from, want) in rows {
+        is_refused(&rt, names, *cut_from, *want)?;
     }
     Ok(())
 }
@@ -139,23 +114,20 @@ fn a_job_of_a_bad_name(rt: HostRuntime) -> Result<(), Fail> {
 #[test]
 fn a_full_store(rt: HostRuntime) -> Result<(), Fail> {
     let alloc = rt.alloc();
-    let made = Log::create(FailOnce::new(MemDisk::new(alloc), 0));
+    let made = Log::create(MemDisk::new(alloc));
     let disk = made.ok().ok_or("not made")?.close();
     if disk.len() != 17 {
         return Err(Fail::new("no empty store"));
     }
     let log = Log::adopt(disk, 16, u32::MAX);
-    let jobs = listed_jobs(alloc, &[&HELLO, &EXIT_FIVE], 10)?;
-    let Ended {
-        mut disk,
-        jobs,
-        fault,
-    } = recorded(&rt, log, jobs, &OpenGate);
-    same(&rt, &"fault", fault, Some(SessionFault::StoreFull));
+    let jobs = listed_jobs(alloc, &[&HELLO, &EXIT_FIVE])?;
+    let (log, jobs, result) = record_all(&rt, alloc, log, jobs, &OpenGate);
+    same(&rt, &"fault", result.err(), Some(SessionFault::StoreFull));
     same(&rt, &"jobs", jobs.len(), 2);
     for job in &jobs {
         same(&rt, &"puts", job.sink.puts().len(), 0);
     }
+    let mut disk = log.close();
     let bytes = contents(alloc, &mut disk)?;
     same(&rt, &"bytes", bytes.as_slice(), &NO_BODIES as &[u8]);
     Ok(())

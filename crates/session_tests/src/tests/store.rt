@@ -10,26 +10,18 @@ use std::sync::Wait;
 use std::test::Fail;
 use trace_disk::{Disk, MemDisk};
 
-/// What a record is: its kind, and how many bytes of a file, instructions or pages it has.
+/// What a record is: its kind, and how many bytes of a file or instructions it has.
 pub(super) type Kind = (&'static str, usize);
 
 /// What a record is.
-pub(super) fn kind_of(record: &Record) -> Kind {
+fn kind_of(record: &Record) -> Kind {
     match &record.item {
         Item::Opening(opening) => ("opening", opening.elf.as_slice().len()),
         Item::Frame(frame) => match frame.end {
             End::Preempt => ("preempt", frame.count as usize),
             _ => ("end", frame.count as usize),
         },
-        Item::Part(part) => {
-            let pages = part.pages.as_slice().len();
-            let kind = if part.rest.is_some() {
-                "last part"
-            } else {
-                "part"
-            };
-            (kind, pages)
-        }
+        Item::Part(_) => ("part", 0),
     }
 }
 
@@ -81,8 +73,18 @@ impl Store {
     }
 
     /// The records of a guest.
-    pub(super) fn records(&mut self, alloc: Global, guest: u32) -> Result<Vec<Record>, Fail> {
+    fn records(&mut self, alloc: Global, guest: u32) -> Result<Vec<Record>, Fail> {
         records_of(alloc, &self.lists, &mut self.disk, guest)
+    }
+
+    /// What the records of a guest are.
+    pub(super) fn kinds(&mut self, alloc: Global, guest: u32) -> Result<Vec<Kind>, Fail> {
+        let records = self.records(alloc, guest)?;
+        let mut kinds = Vec::new(alloc);
+        for record in &records {
+            kinds.push(kind_of(record))?;
+        }
+        Ok(kinds)
     }
 
     /// How many guests it has.
@@ -90,7 +92,7 @@ impl Store {
         self.lists.guests().len()
     }
 
-    /// Replays a guest to the end of its records, from the first on. Where it has no records there is nothing to replay.
+    /// Replays a guest to the end of its records, from the first on.
     pub(super) fn replayed<R: AllocGlobal + Wait>(
         &mut self,
         rt: &R,
@@ -99,13 +101,6 @@ impl Store {
         let alloc = rt.alloc();
         let records = self.records(alloc, guest)?;
         let mut output = MemSink::new(alloc);
-        if records.is_empty() {
-            return Ok(Kept {
-                records: 0,
-                output,
-                end: None,
-            });
-        }
         let verified = verify(alloc, &records)?;
         verified.output(alloc, rt, &mut output)?;
         let last = verified.state_at(alloc, verified.total())?;

@@ -34,7 +34,7 @@ returns-in_err-set_parts-clause-refused c =
     let fault = c.in_err-set_parts.field-0.0 in
     let parts = c.args.parts.now in
     let e : state_of c.clear_parts.new.guest ≡ with_parts_cleared parts (with_rest c.in-Some.rest.now (state_of c.args.guest.now)) =
-    c.clear_parts.ensures.state ∙ ap (with_parts_cleared parts) c.in_ok-set_rest.ensures.state in
+    c.clear_parts.ensures.state ∙ ap (with_parts_cleared parts) c.in_ok-set_rest.ensures.set.state in
     if_err _ c.from_residual-in_err-set_parts.result p.0 fault p.1 p.2
     (refused_pages fault (state_of c.args.guest.now) parts c.in-Some.rest.now c.in-Some.ensures
     (c.parts_fit.ensures.fits.0 c.if-not-parts_fit.false)
@@ -45,7 +45,7 @@ pub returns-clause-applied : goal.returns-clause-applied
 returns-clause-applied c =
     let parts = c.args.parts.now in
     let e : state_of c.clear_parts.new.guest ≡ with_parts_cleared parts (with_rest c.in-Some.rest.now (state_of c.args.guest.now)) =
-    c.clear_parts.ensures.state ∙ ap (with_parts_cleared parts) c.in_ok-set_rest.ensures.state in
+    c.clear_parts.ensures.state ∙ ap (with_parts_cleared parts) c.in_ok-set_rest.ensures.set.state in
     applied (state_of c.args.guest.now) (state_of c.set_parts.new.guest) parts c.in-Some.rest.now c.in-Some.ensures
     (c.parts_fit.ensures.fits.0 c.if-not-parts_fit.false)
     (c.parts_fit.ensures.bytes c.if-not-parts_fit.false) c.in_ok-set_rest.ensures.possible

@@ -9,4 +9,5 @@ returns-in_err-set_pages c =
     let fault = c.in_err-set_pages.field-0.0 in
     let refused = refuses_part fault c.loop-left.left.now c.first-item.result (state_of c.loop-left.guest) c.as_slice.result.now
     c.in-len1-up.len_at_least c.first-item.is c.as_slice.ensures c.in_err-set_pages.ensures.refused in
-    rw (p.1, p.2) (refused_of_all _ _ _ _ _ fault c.loop-left.invariant.0 refused c.set_pages.ensures.keeps)
+    rw (p.1, p.2) (refused_of_all _ _ _ _ _ fault c.loop-left.invariant.0 refused c.set_pages.ensures.keeps
+    c.set_pages.ensures.put)

@@ -1,11 +1,9 @@
-use Rattle.std.proofs.Common.{◌+◌}
-use Rattle.std.specs.Char.{encode_utf8}
 use Rattle.std.specs.Fmt.{HasWritten, IsPlainFormatter}
 use Rattle.guest_pages.specs.Space.{memory_of}
-use Rattle.trace_text.specs.MemoryText.{character, column, each_below, line_from}
+use Rattle.trace_text.specs.MemoryText.{column, each_below}
 use Rattle.trace_text.proofs.memory_lines.write_columns.Given as goal
 
 abbrev pub invariant-loop-k : goal.invariant-loop-k
 invariant-loop-k g l =
     IsPlainFormatter l.initial.f →
-    HasWritten g.W.Write.write_str_gives l.initial.f (each_below (column (memory_of l.space) l.address l.count) l.k) l.f
+    HasWritten g.W.Write.write_str_gives l.initial.f (each_below (column (memory_of l.space) l.span.address l.span.count) l.k) l.f

@@ -30,6 +30,7 @@ returns-clause-child c =
           ∙ ap (λ (g : GuestValue). with_child_at c.args.places.now t (state_of g)) c.self.view_is;
       refused = search rules;
       keeps = search rules;
+      put = search rules;
     }
 
 pub returns-clause-record_is : goal.returns-clause-record_is

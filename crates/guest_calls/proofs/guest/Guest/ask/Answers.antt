@@ -33,7 +33,7 @@ returns g c t named =
     (answered_as g.O.Outside.gives t q.address q.count value bytes c.write_answer.result c.args.outside.now c.take-value.new.outside
     q.wanted clock c.write_answer.ensures.record c.write_answer.ensures.bytes taken)
     (leaves_range c.args.tid value q.address bytes s (state_of c.write_answer.new.self) c.write_answer.result c.write_answer.ensures.record
-    (at_room c.args.tid value q.address bytes s _ (state_of c.write_answer.new.self) c.make_room.ensures.state
+    (at_room c.args.tid value q.address bytes s _ (state_of c.write_answer.new.self) c.in_ok-room.ensures.stays.state
     c.write_answer.ensures.state))
     (c.write_answer.ensures.text (omega (arith, within, request.most))) c.write_answer.ensures.puts
-    (kept_then _ _ _ c.make_room.ensures.keeps c.write_answer.ensures.keeps)
+    (kept_then _ _ _ c.make_room.ensures.stays.keeps c.write_answer.ensures.keeps)

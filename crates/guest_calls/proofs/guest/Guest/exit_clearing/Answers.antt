@@ -8,18 +8,22 @@ use Rattle.guest_calls.proofs.CallParts.{text_cleared, carries_clearing, memory_
 use Rattle.rrv_model.proofs.ThreadRules.{wakes_running}
 use Rattle.guest_calls.proofs.guest.Guest.exit_clearing.Goals as goal
 
-pub returns-clause-makes : goal.returns-clause-makes
-returns-clause-makes c =
+pub returns : goal.returns
+returns c =
     let made : List Written → CallRecord = λ written. record { result = 0; written = written } in
     let old = state_of c.args.self.now in
     record {
-      carries = carries_clearing c.args.clear c.args.tid c.args.status (0 ∷ 0 ∷ 0 ∷ 0 ∷ []) old (state_of c.clear_word.new.self) _ _
-          (ap made c.in_ok-written.ensures) c.in_ok-clear_word.ensures.state
-          (ap state_of c.self.view_is ∙ c.leave.ensures.state ∙ ap (leaves c.args.tid c.args.status) c.wake.ensures.wakes.state)
-          (memory_kept c.args.clear c.args.tid c.args.status old);
-      text = text_cleared c.args.clear c.in_ok-written.written (omega arith) c.in_ok-written.ensures;
-      puts = refl;
-      keeps = search rules;
+      makes = record {
+        carries = carries_clearing c.args.clear c.args.tid c.args.status (0 ∷ 0 ∷ 0 ∷ 0 ∷ []) old (state_of c.clear_word.new.self) _ _
+            (ap made c.in_ok-written.ensures) c.in_ok-clear_word.ensures.state
+            (ap state_of c.self.view_is ∙ c.leave.ensures.state ∙ ap (leaves c.args.tid c.args.status) c.wake.ensures.wakes.state)
+            (memory_kept c.args.clear c.args.tid c.args.status old);
+        text = text_cleared c.args.clear c.in_ok-written.written (omega arith) c.in_ok-written.ensures;
+        puts = refl;
+        keeps = search rules;
+      };
+      memory = search rules;
+      refused = search rules;
     }
 
 pub leave-requires : goal.leave-requires

@@ -16,6 +16,7 @@ returns-then-is_empty c =
           (c.is_empty.ensures.0 c.if-is_empty.true)
           ∙ ap (λ (v : GuestValue). leaves c.args.tid c.args.status (state_of v)) c.self.view_is;
       keeps = search rules;
+      put = search rules;
     }
 
 pub returns-else-is_empty : goal.returns-else-is_empty
@@ -26,4 +27,5 @@ returns-else-is_empty c =
           (λ e. false≢true (sym c.if-is_empty.false ∙ c.is_empty.ensures.1 e))
           ∙ ap (λ (v : GuestValue). leaves c.args.tid c.args.status (state_of v)) c.self.view_is;
       keeps = search rules;
+      put = search rules;
     }

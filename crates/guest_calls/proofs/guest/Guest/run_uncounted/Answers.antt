@@ -18,7 +18,7 @@ returns-clause-runs c =
     ap (λ (v : GuestValue). thread_at (state_of v) c.args.tid) c.self.view_is ∙ c.running_thread-thread.ensures.there in
     let h = hart c.run_hart-run.new.regs (memory_of c.run_hart-run.new.space) c.run_hart-run.new.reservation in
     let runs : Runs c.args.limit c.args.tid (state_of g) c.run_hart-run.result (with_hart c.args.tid t h (state_of g)) =
-    lifted_run c.args.tid (state_of g) t there c.running_thread-thread.ensures.running c.args.limit c.run_hart-run.result h
+    lifted_run c.args.tid (state_of g) t there c.running_thread-thread.ensures.runs.running c.args.limit c.run_hart-run.result h
     c.run_hart-run.ensures.runs in
     let base : State = record (state_of g) { memory = h.memory; reservation = h.reservation } in
     let new : State = with_threads c.set_regs.new.self base in

@@ -10,4 +10,5 @@ returns c =
       state = c.set_clear.ensures (state_of (the_view c.self.inside))
           ∙ ap (λ (v : GuestValue). change_thread c.args.tid (λ t. record t { clear = c.args.address }) (state_of v)) c.self.view_is;
       keeps = search rules;
+      put = search rules;
     }

@@ -1,4 +1,4 @@
-use Rattle.std.proofs.Common.{ℕ, List, None, ◌∙◌, ap}
+use Rattle.std.proofs.Common.{ℕ, List, None, ◌∙◌, ap, rules}
 use Rattle.rrv_model.specs.declared.record.ThreadPart.{ThreadPart}
 use Rattle.rrv_model.specs.State.{State}
 use Rattle.guest_pages.specs.Space.{memory_of}
@@ -8,8 +8,8 @@ use Rattle.guest_calls.specs.Guest.{GuestValue, state_of}
 use Rattle.guest_calls.specs.Parts.{with_rest}
 use Rattle.guest_calls.proofs.guest.Guest.set_rest.Goals as goal
 
-pub returns-in-Ok-clause-state : goal.returns-in-Ok-clause-state
-returns-in-Ok-clause-state c =
+pub returns-in-Ok-clause-set : goal.returns-in-Ok-clause-set
+returns-in-Ok-clause-set c =
     let rest = c.args.rest.now in
     let s : State = record {
       memory = memory_of c.self.inside.space;
@@ -21,7 +21,12 @@ returns-in-Ok-clause-state c =
       reservation = None;
       ended = None;
     } in
-    c.in-Ok.ensures.made s
-    ∙ ap (λ (parts : List ThreadPart). with_parts parts c.as_slice-waiting.result.now rest.next_tid s) c.as_slice-threads.ensures
-    ∙ ap (λ (order : List ℕ). with_parts rest.threads order rest.next_tid s) c.as_slice-waiting.ensures
-    ∙ ap (λ (g : GuestValue). with_rest rest (state_of g)) c.self.view_is
+    record {
+      state = c.in-Ok.ensures.made s
+          ∙ ap (λ (parts : List ThreadPart). with_parts parts c.as_slice-waiting.result.now rest.next_tid s) c.as_slice-threads.ensures
+          ∙ ap (λ (order : List ℕ). with_parts rest.threads order rest.next_tid s) c.as_slice-waiting.ensures
+          ∙ ap (λ (g : GuestValue). with_rest rest (state_of g)) c.self.view_is;
+      refused = search rules;
+      keeps = search rules;
+      put = search rules;
+    }

@@ -20,6 +20,7 @@ returns-in-Some c =
           (ap (λ (r : Regs). let u : Thread = record t { regs = r } in u) c.with_register.ensures.value)
           ∙ ap (λ (v : GuestValue). results c.args.tid c.args.value (state_of v)) c.self.view_is;
       keeps = search rules;
+      put = search rules;
     }
 
 pub returns-in_default : goal.returns-in_default
@@ -28,4 +29,5 @@ returns-in_default c =
       state = sym (changed_nowhere c.args.tid (set_register 10 c.args.value) (state_of c.args.self.now)
           (ap (λ (v : GuestValue). thread_at (state_of v) c.args.tid) (sym c.self.view_is) ∙ sym c.get.ensures.value ∙ c.in_default.is));
       keeps = search rules;
+      put = search rules;
     }

@@ -10,4 +10,5 @@ returns c = record {
       ∙ ap (λ (v : GuestValue). waits c.args.tid c.args.address (state_of v)) c.self.view_is;
   refused = search rules;
   keeps = search rules;
+  put = search rules;
 }

@@ -14,4 +14,5 @@ returns-clause-wakes c = record {
   state = c.wake.ensures.wakes (state_of (the_view c.self.inside))
       ∙ ap (λ (v : GuestValue). wakes c.args.address c.args.count (state_of v)) c.self.view_is;
   keeps = search rules;
+  put = search rules;
 }
