@@ -1,9 +1,10 @@
 //! Pages of a checkpoint, put into a guest's memory.
 
-ghost use Rattle.std.specs.Prelude.{◌≡◌, ℕ, ◌+◌, ◌*◌, ◌<◌, [], ◌∷◌, count_ones, length, slice_index};
+ghost use Rattle.std.specs.Prelude.{◌≡◌, ℕ, ◌+◌, ◌*◌, ◌<◌, ◌≤◌, [], ◌∷◌, IsErrOf, count_ones, length, slice_index};
 ghost use Rattle.std.specs.List.{AllByRecursion};
 ghost use Rattle.rrv_model.specs.Checkpoint.{patched_byte};
-ghost use Rattle.rrv_model.specs.Memory.{page_bytes};
+ghost use Rattle.rrv_model.specs.Memory.{page_bytes, page_count};
+ghost use Rattle.rrv_model.specs.declared.limits.TheConstants.{MAX_PAGES};
 ghost use Rattle.guest_calls.specs.Carries.{Becomes};
 ghost use Rattle.guest_calls.specs.Guest.{state_of};
 ghost use Rattle.checkpoint.specs.Fitting.{Fits};
@@ -51,7 +52,9 @@ fn clear_page(guest: &mut Guest, page: &PagePart)
 /// Puts a page into the memory where the checkpoint maps it.
 fn set_page(guest: &mut Guest, page: &PagePart) -> Result<(), ApplyFault>
     requires { Fits page.now }
-    ensures { BecomesOrRefuses result (with_all_set (page.now ∷ []) (state_of guest.old)) guest.old guest.new }
+    ensures becomes { BecomesOrRefuses result (with_all_set (page.now ∷ []) (state_of guest.old)) guest.old guest.new }
+    ensures memory { IsErrOf result ApplyFault.Memory
+        → page_count (with_all_set (page.now ∷ []) (state_of guest.old)).memory ≤ MAX_PAGES }
 {
     let Some(permissions) = page.permissions else {
         return Ok(());

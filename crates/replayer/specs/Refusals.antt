@@ -1,5 +1,5 @@
 -- What a refused verification says.
-use Rattle.std.specs.Prelude.{◌≡◌, ℕ, ◌+◌, ◌<◌, List, [], ◌∷◌, ◌++◌, length, take, slice_get, IsSomeAnd, IsSome}
+use Rattle.std.specs.Prelude.{◌≡◌, ◌⊎◌, ℕ, ◌+◌, ◌<◌, List, [], ◌∷◌, ◌++◌, length, take, slice_get, IsSomeAnd, IsSome}
 use Rattle.rrv_model.specs.declared.record.Part.{Part}
 use Rattle.rrv_model.specs.declared.record.Item.{Item}
 use Rattle.rrv_model.specs.declared.record.Item.TheVariants as items
@@ -10,6 +10,7 @@ use Rattle.rrv_model.specs.Recording.{IsNumbered, IsRecording, ItemsFollow, Part
 use Rattle.rrv_model.specs.FrameStep.{FrameStep}
 use Rattle.rrv_model.specs.Checkpoint.{Describes}
 use Rattle.rrv_model.specs.declared.record.Frame.{Frame}
+use Rattle.serial_sched.specs.Follows.{FrameMeetsNoMemory}
 use Rattle.guest_calls.specs.Openings.{RefusesOpening}
 use Rattle.guest_calls.specs.declared.fault.OpeningFault.{OpeningFault}
 use Rattle.guest_calls.specs.declared.fault.OpeningFault.TheVariants as opening_faults
@@ -43,13 +44,14 @@ IsLastPart (items.Frame f) = ⊥
 abbrev pub Fails : Item → State → List Part → State → Type 0
 Fails item base row s = ItemsFollow base row s (item ∷ []) → ⊥
 
--- why a frame, a part, and the parts of a complete checkpoint aren't followed
+-- why a frame, a part, and the parts of a complete checkpoint aren't followed; memory is told of a frame only if it leads on, or
+-- if its thread meets no memory
 abbrev pub FrameRefused : VerifyFault → ℕ → Frame → State → Type 0
 FrameRefused (faults.Mismatch place) index f s = (place ≡ index) × ((new : State) → FrameStep s f new → ⊥)
 FrameRefused (faults.BadCheckpoint place) index f s = ⊥
 FrameRefused faults.BadOpening index f s = ⊥
 FrameRefused (faults.Unreadable place) index f s = ⊥
-FrameRefused faults.Memory index f s = Unit {0}
+FrameRefused faults.Memory index f s = ((new : State) × FrameStep s f new) ⊎ FrameMeetsNoMemory s f
 
 abbrev pub CheckpointRefused : VerifyFault → ℕ → State → List Part → State → Type 0
 CheckpointRefused (faults.Mismatch place) index base parts s = ⊥

@@ -78,7 +78,7 @@ use std::rt::Files;
 use stores::changed_stores_text;
 use test_guests::bytes::bytes_of;
 use test_guests::cases::{Answers, go_through};
-use words::bytes_from;
+use words::bytes_said;
 
 /// What a line about a store finds; None where it asks nothing.
 fn store_answer<R: Files + AllocGlobal>(rt: &R, asked: &str, want: &str) -> Option<String> {
@@ -105,10 +105,7 @@ impl Answers for Session {
             "beginnings" => beginnings_text(alloc, &bytes_of(alloc, rest)?, want),
             "refusals" => refusals_text(alloc, rest),
             "store" => store_answer(rt, rest, want),
-            "no-memory" => {
-                let words: Vec<&str> = rest.split_whitespace().collect(alloc).ok()?;
-                text_at_last(alloc, &bytes_from(alloc, &words, 0)?)
-            }
+            "no-memory" => text_at_last(alloc, &bytes_said(alloc, rest)?),
             _ => self.go_through(rt, asked),
         }
     }

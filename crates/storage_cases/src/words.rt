@@ -28,16 +28,30 @@ pub fn byte(words: &[&str], place: usize) -> Option<u8> {
     u8::from_str_radix(words.get(place)?, 16).ok()
 }
 
-/// The bytes that words from a place on say: `opening` and `call` are those records.
+/// Puts the bytes that a word says behind others: `opening` and `call` are those records.
+fn put_word(alloc: Global, bytes: &mut Vec<u8>, word: &str) -> Option<()> {
+    let digits = match word {
+        "opening" => OPENING,
+        "call" => CALL,
+        other => other,
+    };
+    bytes.extend_from_slice(&bytes_of(alloc, digits)?).ok()
+}
+
+/// The bytes that words from a place on say.
 pub fn bytes_from(alloc: Global, words: &[&str], place: usize) -> Option<Vec<u8>> {
     let mut bytes = Vec::new(alloc);
     for word in words.get(place..)? {
-        let digits = match *word {
-            "opening" => OPENING,
-            "call" => CALL,
-            other => other,
-        };
-        bytes.extend_from_slice(&bytes_of(alloc, digits)?).ok()?;
+        put_word(alloc, &mut bytes, word)?;
+    }
+    Some(bytes)
+}
+
+/// The bytes that the words of a text say. It keeps no list of them, whose growth may be refused and then done by less.
+pub fn bytes_said(alloc: Global, text: &str) -> Option<Vec<u8>> {
+    let mut bytes = Vec::new(alloc);
+    for word in text.split_whitespace() {
+        put_word(alloc, &mut bytes, word)?;
     }
     Some(bytes)
 }

@@ -198,6 +198,8 @@ impl FileDisk {
     pub fn has_grown(&mut self) -> Result<bool, DiskFailed>
         ensures size { self.new.size ≡ self.old.size }
         ensures counted { IsCounted result self.old.faults self.new.faults }
+        ensures broken { self.new.is_broken ≡ self.old.is_broken }
+        ensures access { self.new.is_read_only ≡ self.old.is_read_only }
     {
         match self.file.metadata() {
             Ok(metadata) => Ok(metadata.len() > self.state.size),

@@ -1,5 +1,7 @@
-use Rattle.std.proofs.Common.{rules, arith, [], ◌∷◌, ◌++◌, ap, sym, ◌+◌, ◌∙◌}
+use Rattle.std.proofs.Common.{rules, arith, [], ◌∷◌, ◌++◌, ap, sym, inl, ◌+◌, ◌∙◌}
 use Rattle.std.proofs.lemmas.Bool.{false≢true}
+use Rattle.std.proofs.lemmas.Result.{err_from_is_err_and}
+use Rattle.guest_calls.specs.Guest.{state_of}
 use Rattle.replayer.specs.declared.walk.Walk.{Walk}
 use Rattle.replayer.proofs.walk.follow_frame.Goals.{then-walk+in_ok-copied_frame+in_ok-push, else-walk}
 use Rattle.replayer.proofs.walk.follow_frame.Goals as goal
@@ -14,3 +16,14 @@ returns-clause-keeps c = λ on. elim c.if-walk.branch [
   )
   | else-walk w ↦ absurd (false≢true (sym w.if-walk.false ∙ on))
 ]
+
+-- the frame leads on, and it is to keep it that finds no memory
+pub returns-in_err-copied_frame-clause-refused : goal.returns-in_err-copied_frame-clause-refused
+returns-in_err-copied_frame-clause-refused c =
+    let p = err_from_is_err_and c.from_residual.result c.from_residual.ensures.1 in
+    rw (p.1, p.2, c.in_err-copied_frame.ensures.memory) (inl (state_of c.follow.new.guest, c.in-Ok.ensures.follows))
+
+pub returns-in_err-push-clause-refused : goal.returns-in_err-push-clause-refused
+returns-in_err-push-clause-refused c =
+    let p = err_from_is_err_and c.from_residual-in_err-push.result c.from_residual-in_err-push.ensures.1 in
+    rw (p.1, p.2) (inl (state_of c.follow.new.guest, c.in-Ok.ensures.follows))
