@@ -38,7 +38,7 @@ fn masked_lines(alloc: Global, bytes: &[u8; 4096], mask: u64) -> Result<Sequence
     ensures lines { IfOk result (AreLinesOf bytes.now mask) }
     ensures texts { IfOk result (AllByRecursion HasLineText) }
 {
-    let mut lines = Vec::new(alloc);
+    let mut lines = Vec::with_capacity(alloc, mask.count_ones() as usize)?;
     for line in 0..64usize {
         if (mask >> line) & 1 == 1 {
             let Ok(()) = lines.push(line_at(bytes, line)) else {

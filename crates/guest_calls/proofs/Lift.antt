@@ -14,7 +14,8 @@ use Rattle.rv_machine.specs.declared.run.Run.{Run}
 use Rattle.rv_machine.specs.declared.run.RunEnd.{RunEnd}
 use Rattle.rv_machine.specs.declared.run.RunEnd.TheVariants as ends
 use Rattle.rv_machine.specs.HartRuns.{HartSteps, HartRuns, HartRunsTo, HartRunsToCall, HartRunsToFault, HartRunsToMemory}
-use Rattle.guest_calls.specs.Runs.{Runs, RunsTo, RunsToCall, RunsToFault, RunsToMemory, before_call}
+use Rattle.rv_machine.specs.Watching.{HartWatched, WatchedSteps}
+use Rattle.guest_calls.specs.Runs.{Runs, RunsTo, RunsToCall, RunsToFault, RunsToMemory, Watched, before_call}
 use Rattle.guest_calls.proofs.Ecalls.{called_hart}
 use Rattle.rrv_model.proofs.ThreadRules.{same_tid}
 
@@ -79,6 +80,14 @@ module _ (tid : ℕ) (s : State) (t : Thread) (there : thread_at s tid ≡ Some 
       ap (λ (h : Hart). with_hart tid t h s) e
       ∙ ap (λ (m : FinMap nat_cmp Thread). record s { threads = m }) (insert_same s.threads tid t there)
   lifted (suc n) h p = steps_then n tid s (with_hart tid t p.0 s) (with_hart tid t h s) (lifted n p.0 p.1) (one_step p.0 h p.2)
+
+  -- so are steps over which a byte is watched
+  pub lifted_watched : (a n changed : ℕ) (h : Hart) → HartWatched a n (hart_of s t) changed h →
+      Watched a n tid s changed (with_hart tid t h s)
+  unfolding WatchedSteps HartSteps
+  lifted_watched a zero changed h p = (p.0, lifted zero h p.1)
+  lifted_watched a (suc n) changed h p =
+      (with_hart tid t p.0 s, p.1, lifted_watched a n p.1 p.0 p.2, one_step p.0 h p.3, p.4)
 
   back_to : (n : ℕ) → n < 2 ^ 32 → minus (plus n 4) 4 ≡ n
   back_to n fits = omega arith

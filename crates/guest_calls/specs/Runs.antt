@@ -11,6 +11,7 @@ use Rattle.rv_machine.specs.declared.Stepped.TheVariants as stepped
 use Rattle.rv_machine.specs.declared.run.Run.{Run}
 use Rattle.rv_machine.specs.declared.run.RunEnd.{RunEnd}
 use Rattle.rv_machine.specs.declared.run.RunEnd.TheVariants.{Limit, Call, Fault, Memory}
+use Rattle.rv_machine.specs.Watching.{WatchedSteps, byte_of}
 
 -- the thread stands at its last instruction again
 abbrev pub before_call : ℕ → State → State
@@ -53,3 +54,8 @@ abbrev pub StepDoes : Stepped → ℕ → State → State → Type 0
 StepDoes stepped.Next tid old new = StepsTo old tid new
 StepDoes stepped.Call tid old new = CallsFrom old tid new × (before_call tid new ≡ old)
 StepDoes (stepped.Fault kind) tid old new = FaultsFrom old tid kind × (new ≡ old)
+
+-- so many plain steps of the thread, and how many of them there are up to the last that changes the byte at an address
+abbrev pub Watched : ℕ → ℕ → ℕ → State → ℕ → State → Type 0
+Watched a n tid old changed new =
+    WatchedSteps (λ s later. StepsTo s tid later) (λ s. byte_of s.memory a) n old changed new

@@ -5,11 +5,11 @@ ghost use Rattle.rrv_model.specs.State.{thread_at, IsRunning};
 ghost use Rattle.rrv_model.specs.Step.{ThreadMayStore};
 ghost use Rattle.guest_calls.specs.Guest.{state_of, counted};
 ghost use Rattle.guest_calls.specs.Carries.{KeepsOverSteps, KeepsRest};
-ghost use Rattle.guest_calls.specs.Runs.{Runs, StepDoes, before_call};
+ghost use Rattle.guest_calls.specs.Runs.{Runs, StepDoes, Watched, before_call};
 
 use crate::guest::Guest;
 use rrv_model::refusal::Memory;
-use rv_machine::{Run, RunEnd, Stepped, run_hart};
+use rv_machine::{Run, RunEnd, Stepped, WatchedRun, run_hart, run_watched};
 
 impl Guest {
     /// Runs up to `limit` instructions of a running thread. It stops after a call's ECALL; at a fault, which is counted and where `pc`
@@ -45,6 +45,29 @@ impl Guest {
         );
         self.threads.set_regs(tid, thread.regs);
         run
+    }
+
+    /// Runs up to `limit` instructions of a running thread as [`Guest::run_thread`] does, and tells how many plain steps there are up
+    /// to the last that changes the byte at an address; 0 if none does.
+    pub fn watch_thread(&mut self, tid: u32, limit: u32, address: u32) -> WatchedRun
+        requires { IsRunning (thread_at (state_of self.old) tid) }
+        ensures runs { Runs limit tid (state_of self.old) result.run (state_of self.new) }
+        ensures watched { result.run.end ≡ RunEnd.Limit
+            → Watched address limit tid (state_of self.old) result.changed (state_of self.new) }
+        ensures ran { self.new.ran ≡ counted self.old.ran result.run.count }
+        ensures keeps { KeepsOverSteps self.old self.new }
+    {
+        let mut thread = self.running_thread(tid);
+        let watched = run_watched(
+            &mut thread.regs,
+            &mut self.space,
+            &mut self.reservation,
+            limit,
+            address,
+        );
+        self.threads.set_regs(tid, thread.regs);
+        self.ran = self.ran.saturating_add(u64::from(watched.run.count));
+        watched
     }
 
     /// Runs one instruction of a running thread. Where it finds no memory, all is as before.

@@ -8,3 +8,5 @@ pub mod Placed
 pub mod Last
 pub mod Putting
 pub mod Behind
+pub mod Changed
+pub mod Watched

@@ -4,6 +4,7 @@ pub mod Walks
 pub mod Verified
 pub mod Kept
 pub mod Places
+pub mod Changes
 pub mod Puts
 pub mod LastThread
 pub mod Following

@@ -1,16 +1,18 @@
 //! A guest that goes forward along frames that are known to be its own.
 
-ghost use Rattle.std.specs.Prelude.{◌≡◌, ◌<◌, ◌^◌, IfOk, OnOk};
+ghost use Rattle.std.specs.Prelude.{◌≡◌, ◌↔◌, ◌<◌, ◌^◌, IfOk, IsTrue, OnOk};
 ghost use Rattle.rrv_model.specs.FrameStep.{FrameStep, Steps};
 ghost use Rattle.rrv_model.specs.State.{State};
 ghost use Rattle.guest_calls.specs.Guest.{chunks_of, counted, state_of};
+ghost use Rattle.guest_calls.specs.Runs.{Watched};
 ghost use Rattle.serial_sched.specs.Slices.{CallPuts};
+ghost use Rattle.replayer.specs.Changes.{byte_at};
 ghost use Rattle.replayer.specs.Places.{with_count};
 
 use guest_calls::Guest;
 use rrv_model::record::Frame;
 use rrv_model::refusal::Memory;
-use serial_sched::{follow, steps};
+use serial_sched::{follow, steps, watched_steps};
 use std::alloc::Global;
 
 /// Runs so many plain steps, which the thread can take.
@@ -24,6 +26,39 @@ pub(crate) fn run_plain(guest: &mut Guest, tid: u32, count: u32) -> Result<(), M
         return Err(Memory);
     };
     Ok(())
+}
+
+/// Runs so many plain steps, which the thread can take, and tells how many there are up to the last that changes the byte at an
+/// address; 0 if none does.
+pub(crate) fn watch_plain(
+    guest: &mut Guest,
+    tid: u32,
+    count: u32,
+    address: u32,
+) -> Result<u32, Memory>
+    requires { (new : State) × Steps count tid (state_of guest.old) new }
+    ensures watched { IfOk result (λ changed.
+        Watched address count tid (state_of guest.old) changed (state_of guest.new)) }
+    ensures ran { OnOk result (guest.new.ran ≡ counted guest.old.ran count) }
+{
+    // The thread can take them, so only memory can be short.
+    let Ok(changed) = watched_steps(guest, tid, count, address) else {
+        return Err(Memory);
+    };
+    Ok(changed)
+}
+
+/// The byte at an address, if there is one.
+pub(crate) fn byte_of(guest: &Guest, address: u32) -> Option<u8>
+    ensures { result ≡ byte_at (state_of guest.now) address }
+{
+    guest.space().byte(u64::from(address))
+}
+
+pub(crate) fn is_same(one: Option<u8>, other: Option<u8>) -> bool
+    ensures { IsTrue result ↔ (one ≡ other) }
+{
+    one == other
 }
 
 /// Follows a frame, which leads on.

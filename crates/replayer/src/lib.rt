@@ -37,6 +37,7 @@
 //! - `Following` follows records one at a time: those that it followed are a recording (`IsBehind`), which ends in its guest's
 //!   state and has as many instructions as its total. A record that is refused is refused as `verify` refuses the list up to
 //!   it. `VerifiedEnd::last` is the thread that ran last.
+//! - `Place::watch` goes on by instructions of one frame, and tells of the last that changes the byte at an address.
 //! - `verify` on the line calls `verify_source_end`, and `dump --places` and `--trace-events` use `Following`. Each other command
 //!   that replays a guest calls `verify_source_watched` first.
 #![tactic(auto)]

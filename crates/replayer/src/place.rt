@@ -3,6 +3,7 @@
 ghost use Rattle.std.specs.Prelude.{◌≡◌, ◌≤◌, ◌<◌, ◌+◌, IfOk};
 ghost use Rattle.rrv_model.specs.StateAt.{StateAt, total};
 ghost use Rattle.guest_calls.specs.Guest.{state_of};
+ghost use Rattle.replayer.specs.Changes.{IsLastIn};
 ghost use Rattle.replayer.specs.Verified.{RanFromLast};
 
 use crate::position::Position;
@@ -68,6 +69,30 @@ impl<'a> Place<'a> {
         let next = position.at + 1;
         verified.track.go_on(alloc, &mut position, next)?;
         Ok(Place { verified, position })
+    }
+
+    /// A place further on, one instruction at least and no further than `end`, and the last place on the way whose instruction
+    /// changes the byte at an address, or whether there is one. `Memory` where a growth is refused; the place is then gone.
+    pub fn watch(
+        self,
+        alloc: Global,
+        end: u64,
+        address: u32,
+    ) -> Result<(Place<'a>, Option<u64>), Memory>
+        requires low { self.at < end }
+        requires high { end ≤ total self.verified.frames }
+        ensures verified { IfOk result (λ on. on.0.verified ≡ self.entry.verified) }
+        ensures on { IfOk result (λ on. self.entry.at < on.0.at) }
+        ensures within { IfOk result (λ on. on.0.at ≤ end) }
+        ensures change { IfOk result (λ on. IsLastIn self.entry.verified.opening self.entry.verified.frames address
+            self.entry.at on.0.at on.1) }
+    {
+        let Place {
+            verified,
+            mut position,
+        } = self;
+        let changed = verified.track.watch_on(alloc, &mut position, end, address)?;
+        Ok((Place { verified, position }, changed))
     }
 
     /// The place at t, which isn't before this one. A copy of the guest goes on from here if no complete checkpoint lies in between;

@@ -1,18 +1,31 @@
 //! The way along a track, to its state at each count of instructions.
 
-ghost use Rattle.std.specs.Prelude.{◌≡◌, ◌≤◌, ◌<◌, ◌+◌, IfOk, OnOk, drop, length};
+ghost use Rattle.std.specs.Prelude.{◌≡◌, ◌≤◌, ◌<◌, ◌+◌, ◌^◌, IfOk, OnOk, drop, length};
 ghost use Rattle.rrv_model.specs.StateAt.{total};
 ghost use Rattle.guest_calls.specs.Guest.{state_of};
+ghost use Rattle.replayer.specs.Changes.{IsLastIn, place_after};
 ghost use Rattle.replayer.specs.Kept.{AreKept, last_place};
 ghost use Rattle.replayer.specs.Places.{BeginsAt, GoesOn, StandsAt};
 
-use crate::forward::{count_of, follow_whole, rest_of, run_plain};
+use crate::forward::{byte_of, count_of, follow_whole, is_same, rest_of, run_plain, watch_plain};
 use crate::opened::put_parts;
 use crate::position::Position;
 use crate::recording::Track;
 use guest_calls::Guest;
 use rrv_model::refusal::Memory;
 use std::alloc::Global;
+
+/// The place of the last of some instructions from a place on that changes something, of which so many there are up to it.
+fn place_of(from: u64, changed: u32) -> Option<u64>
+    requires { from + changed < 2 ^ 64 }
+    ensures { result ≡ place_after from changed }
+{
+    if changed == 0 {
+        None
+    } else {
+        Some(from + u64::from(changed - 1))
+    }
+}
 
 impl Track {
     /// The guest at its start.
@@ -118,6 +131,64 @@ impl Track {
         position.steps = 0;
         position.at += u64::from(left);
         self.run_to(alloc, position, t)
+    }
+
+    /// Goes on by one instruction, and tells whether it changes the byte at an address. After a refusal the position is fit only to
+    /// be dropped.
+    fn watch_one(
+        &self,
+        alloc: Global,
+        position: &mut Position,
+        address: u32,
+    ) -> Result<Option<u64>, Memory>
+        requires stands { StandsAt self.now.opening self.now.frames position.old }
+        requires high { position.old.at < total self.now.frames }
+        requires room { position.old.at + 1 < 2 ^ 64 }
+        ensures stands { OnOk result (StandsAt self.now.opening self.now.frames position.new) }
+        ensures at { OnOk result (position.new.at ≡ position.old.at + 1) }
+        ensures change { IfOk result
+            (IsLastIn self.now.opening self.now.frames address position.old.at (position.old.at + 1)) }
+    {
+        let t = position.at;
+        let before = byte_of(&position.guest, address);
+        self.go_on(alloc, position, t + 1)?;
+        let after = byte_of(&position.guest, address);
+        if is_same(before, after) {
+            Ok(None)
+        } else {
+            Ok(Some(t))
+        }
+    }
+
+    /// Goes on by one instruction at least, and no further than `end`, and tells of the last on the way that changes the byte at an
+    /// address. After a refusal the position is fit only to be dropped.
+    pub(crate) fn watch_on(
+        &self,
+        alloc: Global,
+        position: &mut Position,
+        end: u64,
+        address: u32,
+    ) -> Result<Option<u64>, Memory>
+        requires stands { StandsAt self.now.opening self.now.frames position.old }
+        requires low { position.old.at < end }
+        requires high { end ≤ total self.now.frames }
+        ensures stands { OnOk result (StandsAt self.now.opening self.now.frames position.new) }
+        ensures on { OnOk result (position.old.at < position.new.at) }
+        ensures within { OnOk result (position.new.at ≤ end) }
+        ensures change { IfOk result
+            (IsLastIn self.now.opening self.now.frames address position.old.at position.new.at) }
+    {
+        let frame = &self.frames.as_slice()[position.frames];
+        let ahead = count_of(frame) - position.steps;
+        let some = u64::from(ahead - 1).min(end - position.at) as u32;
+        if some == 0 {
+            return self.watch_one(alloc, position, address);
+        }
+        let from = position.at;
+        let changed = watch_plain(&mut position.guest, frame.tid, some, address)?;
+        position.steps += some;
+        position.at += u64::from(some);
+        Ok(place_of(from, changed))
     }
 
     /// The guest at t, run from the last complete checkpoint at or before it, else from its start.

@@ -1,11 +1,10 @@
 -- Decoded pages stay those of the memory, whatever instructions run.
 use Rattle.std.proofs.Common.{◌≡◌, ℕ, zero, suc, ◌+◌, ◌*◌, ◌/◌, ◌%◌, ◌<◌, ◌≤◌, ◌==◌, Bool, true, false, List, ◌∷◌, length, Option, Some, None, IfSome, refl, sym, subst, ap, ◌∙◌, arith, slice_index_or, slice_index, ◌-◌, if◌then◌else◌, Result, Ok, Err}
 use Rattle.std.proofs.lemmas.Bool.{false≢true, cases_lt, and_parts}
-use Rattle.std.proofs.lemmas.List.{get_or_append_left}
+use Rattle.std.proofs.lemmas.List.{get_or_append_left, get_or_default}
 use Rattle.std.proofs.Math.Seq.{get_or-append_seam}
 use Rattle.std.proofs.Common.{inl, inr, ◌++◌, [], slice_set, ◌⊎◌}
 use Rattle.std.proofs.lemmas.Bool.Decides.{nat_tests}
-use Rattle.std.proofs.lemmas.Result.{IfOk-weaker, on_err_weaker}
 use Rattle.std.specs.Int.{w8, w16, w32, to_le_bytes}
 use Rattle.rrv_model.specs.Memory.{Memory, Cell, can_write, can_execute, AlikeCells, IsMemory, executable, readable, writable, all_cells, bytes_at, stored, is_within, with_byte}
 use Rattle.rrv_model.specs.Step.{Hart, Outcome, Next, Called, Faulted, HartStep, executed, word_at, jumps, branches, is_reserved, stores, store_len, load_len, amo_value, sets, MayStore, StepOfWord, fetched, atomic}
@@ -22,8 +21,13 @@ use Rattle.rrv_model.specs.declared.instr.Instr.TheVariants as instrs
 use Rattle.rrv_model.specs.declared.instr.StoreKind.{StoreKind}
 use Rattle.rrv_model.specs.declared.instr.StoreKind.TheVariants.{Sb, Sh, Sw}
 use Rattle.rv_machine.specs.declared.Stepped.{Stepped}
+use Rattle.rv_machine.specs.declared.Stepped.TheVariants as stepped
 use Rattle.rv_machine.specs.declared.decoded.Decoded.{Decoded}
 use Rattle.rv_machine.specs.declared.decoded_pages.DecodedPage.{DecodedPage}
+use Rattle.rv_machine.specs.declared.flow.Flow.{Flow}
+use Rattle.rv_machine.specs.declared.flow.Flow.TheVariants as flows
+use Rattle.rv_machine.specs.declared.decoded.Decoded.TheVariants.{NoInstruction}
+use Rattle.rv_machine.specs.Flows.{hart_at, stepped_of, place_after, answer_of, place_of}
 use Rattle.rv_machine.specs.Decoded.{instr_of}
 use Rattle.rv_machine.specs.Outcome.{outcome_of, KeepsAtFault}
 use Rattle.rv_machine.specs.declared.run.RunEnd.{RunEnd}
@@ -209,10 +213,6 @@ no_word_step h aligned none =
     let fetches : fetched h.memory h.regs.pc ≡ Err faults.Fetch = rw (aligned, none) refl in
     subst (λ (r : Result ℕ FaultKind). StepOfWord r h (Faulted faults.Fetch)) (sym fetches) refl
 
-pub performs_step : (h new : Hart) (decoded : Decoded) (answer : Stepped) → h.regs.pc % 4 ≡ 0 → IsDecodedAt h.memory h.regs.pc decoded →
-    Performs (instr_of decoded) answer h new → HartStep h (outcome_of answer new)
-performs_step h new decoded answer aligned are does = word_step h new (instr_of decoded) answer aligned are.fetches are.decodes does
-
 pub performs_fault : (i : Option Instr) (answer : Stepped) (old new : Hart) → Performs i answer old new → KeepsAtFault answer old new
 performs_fault None answer old new h = h.1
 performs_fault (Some i) answer old new h = h.fault
@@ -229,38 +229,79 @@ word_stores h (Some i) aligned fetches d t = record {
   goes = t.1;
 }
 
-pub stores_may : (h : Hart) (decoded : Decoded) → h.regs.pc % 4 ≡ 0 → IsDecodedAt h.memory h.regs.pc decoded →
-    StoresWithoutFault (instr_of decoded) h → MayStore h
-stores_may h decoded aligned are takes = word_stores h (instr_of decoded) aligned are.fetches are.decodes takes
-
--- the instruction where a hart stands, which has come there by steps, in a page that was decoded before
--- so an instruction of a decoded page is one step
-page_step : (old new : Hart) (decoded : Decoded) (result : Result Stepped Refusal) (space later : SpaceValue) → old.regs.pc % 4 ≡ 0 →
-    IsDecodedAt old.memory old.regs.pc decoded → Does (instr_of decoded) result old new space later → StepsOnce result old new
-page_step old new decoded result space later aligned are does = record {
-  step = IfOk-weaker result _ _ (λ answer performs. performs_step old new decoded answer aligned are performs) does.performs;
-  fault = IfOk-weaker result _ _ (λ answer performs. performs_fault (instr_of decoded) answer old new performs) does.performs;
-  refused = does.refused;
-  takes = on_err_weaker result (λ stores. stores_may old decoded aligned are stores) does.takes;
+-- so a word that is fetched at pc and done is one step
+pub word_once : (pc : ℕ) (old new : Hart) (i : Option Instr) (flow : Result Flow Refusal) {space later : SpaceValue} → pc % 4 ≡ 0 →
+    executable old.memory pc 4 ≡ true → Decodes (word_at old.memory pc) i → Does pc i flow old new space later →
+    StepsOnce (answer_of flow) (hart_at pc old) (hart_at (place_of pc flow) new)
+word_once pc old new i (Ok flow) aligned fetches decodes does = record {
+  step = word_step (hart_at pc old) (hart_at (place_after pc flow) new) i (stepped_of flow) aligned fetches decodes does.performs;
+  fault = performs_fault i (stepped_of flow) (hart_at pc old) (hart_at (place_after pc flow) new) does.performs;
+  refused = tt;
+  takes = tt;
+}
+word_once pc old new i (Err refusal) aligned fetches decodes does = record {
+  step = tt;
+  fault = tt;
+  refused = ap (hart_at pc) does.refused;
+  takes = word_stores (hart_at pc old) i aligned fetches decodes does.takes;
 }
 
-decoded_there : (n : ℕ) (first old : Hart) (page : DecodedPage) (decoded : Decoded) → IsDecodedPage first.memory page →
-    HartSteps n first old →
-    old.regs.pc / 4096 ≡ page.number → old.regs.pc % 4 ≡ 0 → decoded ≡ slice_index_or page.instrs.items (old.regs.pc % 4096 / 4) decoded →
-    IsDecodedAt old.memory old.regs.pc decoded
-decoded_there n first old page decoded are steps place aligned is =
-    let here : page.number * 4096 + old.regs.pc % 4096 / 4 * 4 ≡ old.regs.pc = omega arith in
-    let low : old.regs.pc % 4096 / 4 < 1024 = omega arith in
-    subst (λ (a : ℕ). IsDecodedAt old.memory a decoded) here
-    (page_kept first.memory old.memory page (steps_keep n first old steps) are (old.regs.pc % 4096 / 4) decoded low is)
+-- behind the last instruction of a page stands none
+end_is_none : (page : DecodedPage) (at : ℕ) (decoded : Decoded) → 1024 ≤ at → at ≤ 1024 →
+    decoded ≡ slice_index_or page.instrs.items at decoded → decoded ≡ NoInstruction
+end_is_none page at decoded low high is =
+    let here : at ≡ 1024 = omega arith in
+    let within : 1024 < length page.instrs.items = omega (arith, page.full) in
+    is ∙ ap (λ (i : ℕ). slice_index_or page.instrs.items i decoded) here
+    ∙ get_or_default page.instrs.items 1024 decoded NoInstruction within ∙ page.end
 
--- an instruction of a decoded page is done after some steps
-pub page_once : (n : ℕ) (first old new : Hart) (page : DecodedPage) (decoded : Decoded) {result : Result Stepped Refusal}
+-- which never goes on
+none_ends : (pc : ℕ) (flow : Flow) (old new : Hart) {space later : SpaceValue} → stepped_of flow ≡ stepped.Next →
+    Does pc None (Ok flow) old new space later → ⊥
+none_ends pc flows.Next old new e does = let other = does.performs.0 in absurd (cc)
+none_ends pc (flows.Jump target) old new e does = let other = does.performs.0 in absurd (cc)
+none_ends pc flows.Call old new e does = absurd (cc)
+none_ends pc (flows.Fault kind) old new e does = absurd (cc)
+
+-- so what goes on is one of the page's instructions
+pub goes_on_within : (page : DecodedPage) (at : ℕ) (decoded : Decoded) (flow : Flow) (result : Result Flow Refusal) (old new : Hart)
+    {pc : ℕ} {space later : SpaceValue} → at ≤ 1024 → decoded ≡ slice_index_or page.instrs.items at decoded → result ≡ Ok flow →
+    stepped_of flow ≡ stepped.Next → Does pc (instr_of decoded) result old new space later → at < 1024
+goes_on_within page at decoded flow result old new {pc = pc} {space = space} {later = later} high is told next does =
+    elim (cases_lt at 1024) [
+      | inl w ↦ w
+      | inr w ↦
+          let none : instr_of decoded ≡ None = ap instr_of (end_is_none page at decoded w high is) in
+          absurd (none_ends pc flow old new {space = space} {later = later} next
+          (subst (λ (r : Result Flow Refusal). Does pc None r old new space later) told
+          (subst (λ (i : Option Instr). Does pc i result old new space later) none does)))
+    ]
+
+-- and so is the instruction at an index of a page that was decoded some steps before
+pub page_once : (n at : ℕ) (first old new : Hart) (page : DecodedPage) (decoded : Decoded) (flow : Result Flow Refusal)
+    {space later : SpaceValue} → IsDecodedPage first.memory page → HartSteps n first (hart_at (page.number * 4096 + at * 4) old) →
+    at < 1024 → decoded ≡ slice_index_or page.instrs.items at decoded →
+    Does (page.number * 4096 + at * 4) (instr_of decoded) flow old new space later →
+    StepsOnce (answer_of flow) (hart_at (page.number * 4096 + at * 4) old) (hart_at (place_of (page.number * 4096 + at * 4) flow) new)
+page_once n at first old new page decoded flow {space = space} {later = later} are steps low is does =
+    let pc : ℕ = page.number * 4096 + at * 4 in
+    let aligned : pc % 4 ≡ 0 = omega arith in
+    let here : IsDecodedAt old.memory pc decoded =
+    page_kept first.memory old.memory page (steps_keep n first (hart_at pc old) steps) are at decoded low is in
+    word_once pc old new (instr_of decoded) flow {space = space} {later = later} aligned here.fetches here.decodes does
+
+-- so is the one where a hart stands, which has come there by steps, in a page that was decoded before
+pub page_step : (n : ℕ) (first old new : Hart) (page : DecodedPage) (decoded : Decoded) (flow : Result Flow Refusal)
     {space later : SpaceValue} → IsDecodedPage first.memory page → HartSteps n first old → old.regs.pc / 4096 ≡ page.number →
     old.regs.pc % 4 ≡ 0 → decoded ≡ slice_index_or page.instrs.items (old.regs.pc % 4096 / 4) decoded →
-    Does (instr_of decoded) result old new space later → StepsOnce result old new
-page_once n first old new page decoded {result = result} {space = space} {later = later} are steps place aligned is does =
-    page_step old new decoded result space later aligned (decoded_there n first old page decoded are steps place aligned is) does
+    Does old.regs.pc (instr_of decoded) flow old new space later →
+    StepsOnce (answer_of flow) old (hart_at (place_of old.regs.pc flow) new)
+page_step n first old new page decoded flow {space = space} {later = later} are steps place aligned is does =
+    let there : page.number * 4096 + old.regs.pc % 4096 / 4 * 4 ≡ old.regs.pc = omega arith in
+    let low : old.regs.pc % 4096 / 4 < 1024 = omega arith in
+    let here : IsDecodedAt old.memory old.regs.pc decoded = subst (λ (a : ℕ). IsDecodedAt old.memory a decoded) there
+    (page_kept first.memory old.memory page (steps_keep n first old steps) are (old.regs.pc % 4096 / 4) decoded low is) in
+    word_once old.regs.pc old new (instr_of decoded) flow {space = space} {later = later} aligned here.fetches here.decodes does
 
 -- whatever ran, it left what no store may change
 pub run_keeps : (end : RunEnd) (limit count : ℕ) (old new : Hart) → HartRunsAtMost end limit count old new →

@@ -7,14 +7,16 @@
 //!
 //! - `step`: the plain step of RV32I, Zifencei, M and A on every input. A fault leaves registers, memory and reservation as
 //!   they were.
-//! - `run_hart`: n of these steps, and what ended them.
+//! - `run_hart`: n of these steps, and what ended them. `run_watched`: the same, and how many of n plain steps there are up to
+//!   the last that changes the byte at an address.
 //! - `CodeSpace`: an address space (`AddressSpace`) that keeps pages of instructions decoded. Contracts see the space alone.
 //!   Its invariant: a decoded page has 1,024 instructions, each decoded from the word that stands there, in bytes that may be
 //!   executed and that no store may change. What maps, protects, unmaps or puts in pages lets their decoded pages go; a `fill`
 //!   of bytes that no store may change lets all go.
 //!
-//! An instruction is taken from a decoded page (`run_decoded`) or is fetched and decoded where it stands (`step`). Both go on in
-//! `perform`, and it in `compute`, `memory` and `atomic`.
+//! The instructions of a decoded page run in stretches from jump to jump (`run_page`); another one is fetched and decoded where it
+//! stands (`step`). Both go on in `perform`, which is given the instruction's address and tells where the hart goes on (`Flow`), and it
+//! in `compute`, `memory` and `atomic`.
 #![tactic(auto)]
 
 mod access;
@@ -24,6 +26,7 @@ mod code_space_calls;
 mod compute;
 mod decoded;
 mod decoded_pages;
+mod flow;
 mod hart;
 mod memory;
 mod page_decoding;
@@ -31,11 +34,13 @@ mod page_slots;
 mod registers;
 mod run;
 mod values;
+mod watching;
 
 pub use code_space::CodeSpace;
 pub use hart::step;
 use rrv_model::machine::FaultKind;
 pub use run::{Run, RunEnd, run_hart};
+pub use watching::{WatchedRun, run_watched};
 
 /// What one instruction came to.
 #[derive(Clone, Copy, Debug, PartialEq, Eq)]

@@ -4,14 +4,17 @@ ghost use Rattle.std.specs.Prelude.{◌≡◌, ◌+◌, ◌<◌, ◌≤◌, ◌/
 ghost use Rattle.rrv_model.specs.State.{AreRegs};
 ghost use Rattle.guest_pages.specs.Space.{memory_of};
 ghost use Rattle.rv_machine.specs.Outcome.{hart};
-ghost use Rattle.rv_machine.specs.HartRuns.{Runs, RunsAtMost, stop};
+ghost use Rattle.rv_machine.specs.HartRuns.{Runs, RunsAtMost, run_of, stop};
+ghost use Rattle.rv_machine.specs.Flows.{answer_of, place_of};
 ghost use Rattle.rv_machine.specs.DecodedPages.{IsDecodedPage};
 
 use crate::Stepped;
 use crate::code_space::CodeSpace;
-use crate::decoded::{FROM_PAGE, perform};
+use crate::decoded::perform;
 use crate::decoded_pages::DecodedPage;
+use crate::flow::{Flow, go_on};
 use crate::hart::step;
+use crate::page_decoding::PAGE_INSTRS;
 use guest_pages::Space;
 use rrv_model::machine::{FaultKind, Regs, Reservation};
 use rrv_model::refusal::Memory;
@@ -41,7 +44,7 @@ pub struct Run {
 
 /// What a run comes to that has done so many instructions and then this one; None where it goes on.
 #[inline(always)]
-fn stopped(count: u32, stepped: Result<Stepped, Memory>) -> Option<Run>
+pub(crate) fn stopped(count: u32, stepped: Result<Stepped, Memory>) -> Option<Run>
     requires { count + 1 < 2 ^ 32 }
     ensures { result ≡ stop count stepped }
 {
@@ -96,6 +99,71 @@ fn run_undecoded(
     run_steps(regs, space, reservation, limit.min(UNDECODED_STEPS))
 }
 
+/// What a run comes to that has done so many instructions and ends with this one, which is at `pc`.
+#[inline(always)]
+fn leave(regs: &mut Regs, pc: u32, count: u32, flow: Result<Flow, Memory>) -> Run
+    requires regs { AreRegs regs.old }
+    requires count { count + 1 < 2 ^ 32 }
+    ensures run { result ≡ run_of count (answer_of flow) }
+    ensures place { regs.new ≡ record regs.old { pc = place_of pc flow } }
+    ensures regs { AreRegs regs.new }
+{
+    let stepped = go_on(regs, pc, flow);
+    stopped(count, stepped).unwrap_or(Run {
+        count: count + 1,
+        end: RunEnd::Limit,
+    })
+}
+
+/// Some instructions, at least one, of a decoded page: straight on to a jump, and from there again, as long as that leads into the page and
+/// so many may still run at least. As many as the page has need not be counted on the way.
+#[inline(always)]
+fn run_page<const LEAST: usize>(
+    regs: &mut Regs,
+    space: &mut Space,
+    reservation: &mut Reservation,
+    page: &DecodedPage,
+    limit: u32,
+) -> Run
+    requires regs { AreRegs regs.old }
+    requires decoded { IsDecodedPage (memory_of space.old) page.now }
+    requires place { regs.old.pc / 4096 ≡ page.now.number }
+    requires aligned { regs.old.pc % 4 ≡ 0 }
+    requires some { 1 ≤ LEAST }
+    requires limit { LEAST ≤ limit }
+    ensures { RunsAtMost limit result (hart regs.old (memory_of space.old) reservation.old)
+        (hart regs.new (memory_of space.new) reservation.new) space.old space.new }
+{
+    let base = page.number * 4096;
+    let instrs = page.instrs.as_slice();
+    let mut first = (regs.pc % 4096 / 4) as usize;
+    let mut at = first;
+    // so many may run from the first one on
+    let mut left = limit as usize;
+    let mut end = (first + left).min(PAGE_INSTRS);
+    while LEAST == PAGE_INSTRS || at < end {
+        let pc = (base as usize + at * 4) as u32;
+        let flow = perform::<LEAST>(regs, space, reservation, &instrs[at], pc);
+        match flow {
+            Ok(Flow::Next) => at += 1,
+            Ok(Flow::Jump(target))
+                if target.wrapping_sub(base) < 4096 && first + left - at > LEAST => {
+                left -= at + 1 - first;
+                first = (target.wrapping_sub(base) / 4) as usize;
+                at = first;
+                end = (first + left).min(PAGE_INSTRS);
+            }
+            _ if at == PAGE_INSTRS => break,
+            _ => return leave(regs, pc, limit - (first + left - at) as u32, flow),
+        }
+    }
+    regs.pc = base + at as u32 * 4;
+    Run {
+        count: limit - (first + left - at) as u32,
+        end: RunEnd::Limit,
+    }
+}
+
 /// Some instructions, at least one, where a page is decoded: as long as they stand in it, or undecoded if the first does not.
 #[inline(always)]
 fn run_decoded(
@@ -111,32 +179,13 @@ fn run_decoded(
     ensures { RunsAtMost limit result (hart regs.old (memory_of space.old) reservation.old)
         (hart regs.new (memory_of space.new) reservation.new) space.old space.new }
 {
-    let number = page.number;
-    if regs.pc / 4096 != number || regs.pc % 4 != 0 {
+    if regs.pc / 4096 != page.number || regs.pc % 4 != 0 {
         return run_undecoded(regs, space, reservation, limit);
     }
-    let instrs = page.instrs.as_slice();
-    for count in 0..limit {
-        let pc = regs.pc;
-        if pc / 4096 != number {
-            return Run {
-                count,
-                end: RunEnd::Limit,
-            };
-        }
-        let decoded = &instrs[(pc % 4096 / 4) as usize];
-        match stopped(
-            count,
-            perform::<FROM_PAGE>(regs, space, reservation, decoded),
-        ) {
-            None => {}
-            Some(ended) => return ended,
-        }
+    if limit as usize >= PAGE_INSTRS {
+        return run_page::<PAGE_INSTRS>(regs, space, reservation, page, limit);
     }
-    Run {
-        count: limit,
-        end: RunEnd::Limit,
-    }
+    run_page::<1>(regs, space, reservation, page, limit)
 }
 
 impl CodeSpace {

@@ -1,5 +1,5 @@
 -- Where a frame leads nowhere.
-use Rattle.std.proofs.Common.{◌≡◌, ◌≢◌, ℕ, ◌≤◌, List, false, is_some, Option, Some, None, IfSome, Result, Ok, Err, OnOk, IsErrOf, refl, sym, ◌∙◌, ap, subst}
+use Rattle.std.proofs.Common.{◌≡◌, ◌≢◌, ◌⊎◌, inl, inr, arith, ℕ, ◌≤◌, List, false, is_some, Option, Some, None, IfSome, Result, Ok, Err, OnOk, IsErrOf, refl, sym, ◌∙◌, ap, subst}
 use Rattle.std.specs.Prelude.{IsErrAnd}
 use Rattle.std.proofs.lemmas.Bool.{false≢true}
 use Rattle.rrv_model.specs.declared.limits.TheConstants.{MAX_QUANTUM}
@@ -25,7 +25,7 @@ use Rattle.serial_sched.specs.declared.fault.FollowFault.{FollowFault}
 use Rattle.serial_sched.specs.declared.fault.FollowFault.TheVariants as faults
 use Rattle.serial_sched.specs.Follows.{CallMeetsNoMemory, EndMeetsNoMemory, Follows, FrameMeetsNoMemory, Reaches, ReachesCall, ReachesFault}
 use Rattle.serial_sched.specs.Slices.{KeepsPut}
-use Rattle.serial_sched.proofs.OneStep.{call_reached, reached, one_run_end, one_called}
+use Rattle.serial_sched.proofs.OneStep.{call_reached, reached, one_run_end, one_called, stopped}
 use Rattle.serial_sched.proofs.RecordedAnswers.{told_again}
 use Rattle.serial_sched.proofs.SliceLaws.{call_puts, ends_in_call}
 
@@ -50,6 +50,17 @@ pub other_than_steps : (end : RunEnd) (tid count : ℕ) (old mid : State) → en
     (new : State) → Steps count tid old new → ⊥
 other_than_steps end tid count old mid other run new p =
     other (one_run_end end ends.Limit count tid old mid new (reached end count count tid old mid refl run) p)
+
+-- a run that is no steps alone, and not for want of memory, is none of so many steps
+pub other_end : (end : RunEnd) (tid limit count : ℕ) (old mid : State) → end ≢ ends.Limit → end ≢ ends.Memory →
+    RunsTo end limit tid count old mid → (new : State) → Steps limit tid old new → ⊥
+other_end end tid limit count old mid other memory run new p = by (all_or count limit) where
+  all_or : (m n : ℕ) → (m ≡ n) ⊎ (m ≢ n)
+  all_or m n = grind arith
+
+  by : (count ≡ limit) ⊎ (count ≢ limit) → ⊥
+  by (inl all) = other_than_steps end tid limit old mid other (subst (λ n. RunsTo end limit tid n old mid) all run) new p
+  by (inr less) = stopped end limit count tid old mid memory less run ends.Limit new p
 
 pub other_than_call : (end : RunEnd) (tid count : ℕ) (r : CallRecord) (old mid : State) → end ≢ ends.Call →
     RunsTo end count tid count old mid →

@@ -7,7 +7,7 @@ ghost use Rattle.rrv_model.specs.FrameStep.{FrameStep, Steps};
 ghost use Rattle.rv_machine.specs.declared.run.RunEnd.{RunEnd};
 ghost use Rattle.guest_calls.specs.Snapshots.{guest_snapshots};
 ghost use Rattle.guest_calls.specs.Guest.{state_of, counted, chunks_of};
-ghost use Rattle.guest_calls.specs.Runs.{RunsTo};
+ghost use Rattle.guest_calls.specs.Runs.{RunsTo, Watched};
 ghost use Rattle.serial_sched.specs.Slices.{CallPuts, KeepsPut};
 ghost use Rattle.serial_sched.specs.Following.{CountsSteps, FollowsEnd};
 ghost use Rattle.serial_sched.specs.Follows.{FrameMeetsNoMemory, MeetsNoMemory, Reaches};
@@ -64,6 +64,38 @@ pub fn steps(guest: &mut Guest, tid: u32, count: u32) -> Result<(), FollowFault>
 {
     match run_whole(guest, tid, count)? {
         RunEnd::Limit => Ok(()),
+        _ => Err(FollowFault::GoesNowhere),
+    }
+}
+
+/// Runs just so many plain steps of a thread as [`steps`] does, and tells how many there are up to the last that changes the byte at
+/// an address; 0 if none does. After a refusal the guest is fit only to be dropped.
+pub fn watched_steps(
+    guest: &mut Guest,
+    tid: u32,
+    count: u32,
+    address: u32,
+) -> Result<u32, FollowFault>
+    ensures watched { IfOk result (λ changed.
+        Watched address count tid (state_of guest.old) changed (state_of guest.new)) }
+    ensures counts { CountsSteps result count guest.old guest.new }
+    ensures nowhere { IsErrOf result FollowFault.GoesNowhere
+        → (new : State) → Steps count tid (state_of guest.old) new → ⊥ }
+    ensures memory { IsErrOf result FollowFault.Memory → MeetsNoMemory (state_of guest.old) tid count }
+{
+    let runs = guest.is_running(tid);
+    if count == 0 {
+        // No instruction is counted; the count fits 64 bits, which this line tells the proof.
+        let _ran = guest.ran();
+        return Ok(0);
+    }
+    if !runs {
+        return Err(FollowFault::GoesNowhere);
+    }
+    let watched = guest.watch_thread(tid, count, address);
+    match watched.run.end {
+        RunEnd::Limit => Ok(watched.changed),
+        RunEnd::Memory => Err(FollowFault::Memory),
         _ => Err(FollowFault::GoesNowhere),
     }
 }

@@ -22,5 +22,5 @@ mod slices;
 
 pub use chooser::{Chooser, Listed, RoundRobin, can_choose};
 pub use fault::{FollowFault, SliceFault};
-pub use following::{follow, steps};
+pub use following::{follow, steps, watched_steps};
 pub use slices::slice;

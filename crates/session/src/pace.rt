@@ -33,7 +33,7 @@ impl Pace {
         }
     }
 
-    /// Tells that a worker waits for the flusher.
+    /// Tells that a worker waits for the flusher, or a guest's output for its record.
     pub(crate) fn hurry(&self) {
         self.sent(ENOUGH as u32);
     }

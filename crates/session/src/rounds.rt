@@ -134,7 +134,9 @@ fn take_turn<C: Chooser, O: Outside, G: Gate>(
     let Some(choice) = choose(alloc, recorder.guest(), chooser)? else {
         return Ok(Step::Over);
     };
+    let before = recorder.guest().ran();
     recorder.step(alloc, choice, outside)?;
+    post.look_for_output(recorder.guest(), choice, before);
     Ok(Step::Stepped)
 }
 
@@ -240,7 +242,7 @@ pub(crate) fn drive<C: Chooser, O: Outside, S: Sink, G: Gate, R: Wait>(
     ensures sink { WorkTellsSink result (S.faults sink.old) (S.faults sink.new) }
 {
     make_frames(rt, alloc, recorder, chooser, outside, sink, post)?;
-    post.pace.hurry();
+    post.hurry();
     recorder.settle(rt, sink)?;
     Ok(())
 }

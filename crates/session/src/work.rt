@@ -148,7 +148,7 @@ pub(crate) fn work<C: Chooser + Drop, O: Outside + Drop, S: Sink + Drop, G: Gate
     let guest = seat.guest();
     match open(alloc, seat, &job) {
         Ok(mut recorder) => {
-            let post = Post { guest, gate, pace };
+            let post = Post::new(guest, gate, pace);
             let fault = record(rt, alloc, &mut recorder, &mut job, &post);
             let worked = leave(recorder, job, fault);
             pace.hurry();

@@ -1,6 +1,6 @@
 //! Records as text.
 
-use frames::{read_record, write_record};
+use frames::{Passed, RecordFault, pass_record, read_record, write_record};
 use rrv_model::machine::Permissions;
 use rrv_model::record::{
     CallRecord, CheckpointRest, Frame, Item, Opening, PagePart, Part, Record, ThreadPart,
@@ -126,9 +126,44 @@ pub fn description(alloc: Global, record: &Record) -> Result<String, AllocError>
     Ok(text)
 }
 
-/// What the record tells whose text the bytes are, or why there is none. It is also written, behind a byte.
+/// How many instructions the frame ran that an item is.
+fn steps_of(item: &Item) -> Option<u32> {
+    match item {
+        Item::Frame(frame) => Some(frame.count),
+        Item::Opening(_) | Item::Part(_) => None,
+    }
+}
+
+/// Whether what is told of a record that was passed over is what it tells.
+fn tells_the_same(passed: Passed, record: &Record) -> bool {
+    passed.guest == record.guest
+        && passed.index == record.index
+        && passed.kind.number() == record.item.kind().number()
+        && passed.steps == steps_of(&record.item)
+}
+
+/// Whether passing over the bytes finds what reading them does: the same of the record, and as many bytes after it, or the same
+/// refusal.
+fn passes_so(bytes: &[u8], read: &Result<(Record, &[u8]), RecordFault>) -> bool {
+    match pass_record(bytes) {
+        Ok((passed, behind)) => match read {
+            Ok((record, rest)) => tells_the_same(passed, record) && behind.len() == rest.len(),
+            Err(_) => false,
+        },
+        Err(fault) => match read {
+            Ok(_) => false,
+            Err(other) => fault == *other,
+        },
+    }
+}
+
+/// What the record tells whose text the bytes are, or why there is none. It is also passed over, and written, behind a byte.
 pub fn record_text(alloc: Global, bytes: &[u8]) -> Option<String> {
-    let (record, rest) = match read_record(alloc, bytes) {
+    let read = read_record(alloc, bytes);
+    if !passes_so(bytes, &read) {
+        return format!(in alloc; "a record that is passed over otherwise").ok();
+    }
+    let (record, rest) = match read {
         Ok(found) => found,
         Err(fault) => return format!(in alloc; "{fault}").ok(),
     };

@@ -9,7 +9,7 @@ use Rattle.checkpoint.proofs.making.masked_lines.Goals as goal
 use Rattle.checkpoint.proofs.making.masked_lines.Goals.{then-mask-line-eq1+in-Ok, else-mask-line-eq1}
 
 pub loop-line-init : goal.loop-line-init
-loop-line-init c = no_lines c.args.bytes.now c.args.mask c.new-lines.result.items c.new-lines.ensures.items
+loop-line-init c = no_lines c.args.bytes.now c.args.mask c.in_ok-lines.lines.items c.in_ok-lines.ensures.items
 
 pub loop-line-preserved : goal.loop-line-preserved
 loop-line-preserved c =

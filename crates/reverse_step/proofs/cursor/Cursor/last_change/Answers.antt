@@ -1,9 +1,10 @@
 use Rattle.std.proofs.Common.{arith, ◌≡◌, ◌∙◌, Option, ℕ, ap, subst}
 use Rattle.outcomes.proofs.Results.{OnErr-from}
 use Rattle.replayer.specs.Verified.{VerifiedValue}
-use Rattle.reverse_step.specs.Changes.{IsLastIn}
+use Rattle.replayer.specs.Changes.{IsLastIn}
 use Rattle.reverse_step.specs.Cursors.{CursorValue}
-use Rattle.reverse_step.proofs.Changed.{none_join, some_join}
+use Rattle.replayer.proofs.Changed.{none_join}
+use Rattle.reverse_step.proofs.Changed.{some_join}
 use Rattle.reverse_step.proofs.cursor.Cursor.last_change.Goals as goal
 
 pub returns-in_err-found-clause-verified : goal.returns-in_err-found-clause-verified

@@ -1,5 +1,5 @@
 use Rattle.std.proofs.Common.{◌≡◌, ◌≤◌}
-use Rattle.reverse_step.specs.Changes.{NoneIn}
+use Rattle.replayer.specs.Changes.{NoneIn}
 use Rattle.reverse_step.specs.Cursors.{CursorValue}
 use Rattle.reverse_step.proofs.cursor.Cursor.last_change.Given as goal
 

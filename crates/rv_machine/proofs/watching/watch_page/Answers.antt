@@ -1,0 +1,89 @@
+use Rattle.std.proofs.Common.{refl, ◌∙◌, arith}
+use Rattle.guest_pages.specs.Space.{memory_of}
+use Rattle.rv_machine.specs.Outcome.{hart}
+use Rattle.rv_machine.proofs.HartSteps.{StepsOnce, at_most, counts, goes_on, no_steps, one_more, steps_all, stops}
+use Rattle.rv_machine.proofs.KeptPages.{next_aligned, page_step}
+use Rattle.rv_machine.proofs.Watches.{look_watches}
+use Rattle.rv_machine.proofs.watching.watch_page.Goals as goal
+
+pub loop-count-init : goal.loop-count-init
+loop-count-init c = record {
+  regs = c.requires.regs;
+  steps = no_steps _;
+  snapshots = refl;
+  some = λ _. refl;
+  aligned = c.requires.aligned;
+  counts = omega arith;
+  address = refl;
+  watches = λ first watched. watched;
+}
+
+pub loop-count-preserved : goal.loop-count-preserved
+loop-count-preserved c =
+    let did = c.perform-flow.ensures in
+    let now = c.loop-count.invariant in
+    let once : StepsOnce c.go_on.result (hart c.loop-count.regs (memory_of c.loop-count.space) c.loop-count.reservation)
+    (hart c.go_on.new.regs (memory_of c.perform-flow.new.space) c.perform-flow.new.reservation) =
+    rw (c.go_on.ensures.answer, c.go_on.ensures.place)
+    (page_step _ _ _ _ c.args.page.now c.index-instrs-pc.result _ c.requires.decoded now.steps c.if-pc-number.false now.aligned
+    (rw c.as_slice-instrs.ensures.value at c.index-instrs-pc.is) did) in
+    let step = goes_on _ _ _ _ c.in-None.ensures once in
+    record {
+      regs = c.go_on.ensures.regs;
+      steps = one_more _ _ _ _ now.steps step;
+      snapshots = did.snapshots ∙ now.snapshots;
+      some = λ e. absurd (omega arith);
+      aligned = next_aligned _ _ now.aligned step;
+      counts = omega (arith, now.counts, c.look.ensures.count);
+      address = c.look.ensures.address ∙ now.address;
+      watches = λ first watched. look_watches _ _ first _ _ step c.look.ensures (now.watches first watched);
+    }
+
+pub returns-in-Some-clause-runs : goal.returns-in-Some-clause-runs
+returns-in-Some-clause-runs c =
+    let did = c.perform-flow.ensures in
+    let now = c.loop-count.invariant in
+    let once : StepsOnce c.go_on.result (hart c.loop-count.regs (memory_of c.loop-count.space) c.loop-count.reservation)
+    (hart c.go_on.new.regs (memory_of c.perform-flow.new.space) c.perform-flow.new.reservation) =
+    rw (c.go_on.ensures.answer, c.go_on.ensures.place)
+    (page_step _ _ _ _ c.args.page.now c.index-instrs-pc.result _ c.requires.decoded now.steps c.if-pc-number.false now.aligned
+    (rw c.as_slice-instrs.ensures.value at c.index-instrs-pc.is) did) in
+    let stopped = stops _ _ _ _ _ _ _ c.in-Some.ensures c.loop-count-test.true now.regs now.steps once in
+    record {
+      runs = at_most c.in-Some.ended.end _ _ c.in-Some.ended.count _ _ (omega arith) stopped.runs;
+      within = counts c.in-Some.ended.end _ c.in-Some.ended.count _ _ stopped.runs;
+      some = λ e. absurd (stopped.ended e);
+      regs = c.go_on.ensures.regs;
+      snapshots = did.snapshots ∙ now.snapshots;
+    }
+
+pub returns-then-pc-number-clause-runs : goal.returns-then-pc-number-clause-runs
+returns-then-pc-number-clause-runs c =
+    let now = c.loop-count.invariant in
+    record {
+      runs = (omega arith, now.steps);
+      within = omega arith;
+      some = λ e. grind (arith, now.some, c.requires.place, c.if-pc-number.true);
+      regs = now.regs;
+      snapshots = now.snapshots;
+    }
+
+pub returns-then-pc-number-clause-counts : goal.returns-then-pc-number-clause-counts
+returns-then-pc-number-clause-counts c = λ e. c.loop-count.invariant.counts
+
+pub returns-then-pc-number-clause-address : goal.returns-then-pc-number-clause-address
+returns-then-pc-number-clause-address c = c.loop-count.invariant.address
+
+pub returns-then-pc-number-clause-watches : goal.returns-then-pc-number-clause-watches
+returns-then-pc-number-clause-watches c = λ e. c.loop-count.invariant.watches
+
+pub returns-clause-runs : goal.returns-clause-runs
+returns-clause-runs c =
+    let now = c.loop-count.invariant in
+    record {
+      runs = (omega arith, steps_all _ _ _ _ (omega arith) now.steps);
+      within = omega arith;
+      some = λ e. c.requires.limit;
+      regs = now.regs;
+      snapshots = now.snapshots;
+    }
