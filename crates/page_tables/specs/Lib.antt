@@ -1,3 +1,4 @@
+pub mod Directory
 pub mod Table
 pub mod Contents
 pub mod Sharing

@@ -99,18 +99,18 @@ fn copy_page(
 
 /// Makes room for pages in the pool and in a table, which changes none that are there. Refused where a growth is.
 pub(crate) fn make_room_for(
-    alloc: Global,
     pool: &mut Slab<Page>,
     table: &mut Table,
     pages: &[NewPage],
 ) -> Result<(), AllocError>
+    requires { All (λ p. p.number < 0x80000) pages.now }
     ensures extends { Extends table.old table.new }
     ensures keeps { KeepsPages pool.old pool.new }
     ensures leaves { OnOk result (All (λ p. has_leaf table.new p.number ≡ true) pages.now) }
     ensures roomy { OnOk result (IsRoomyFor pool.new (length pages.now)) }
 {
     for page in pages {
-        table.make_room(alloc, page.number)?;
+        table.make_room(page.number)?;
     }
     reserve_pages(pool, pages.len())
 }

@@ -253,7 +253,7 @@ impl PageTables {
             permissions,
             bytes,
         };
-        make_room_for(self.alloc, &mut self.pool, &mut self.table, from_ref(&page))?;
+        make_room_for(&mut self.pool, &mut self.table, from_ref(&page))?;
         install(&mut self.pool, &mut self.table, &self.kept, page);
         Ok(())
     }
@@ -272,7 +272,7 @@ impl PageTables {
         if copies.is_empty() {
             return Ok(());
         }
-        make_room_for(self.alloc, &mut self.pool, &mut self.table, &copies)?;
+        make_room_for(&mut self.pool, &mut self.table, &copies)?;
         install_all(&mut self.pool, &mut self.table, &self.kept, copies);
         Ok(())
     }

@@ -1,52 +1,62 @@
 //! A table of two levels: what stands at each page number.
 
-ghost use Rattle.std.specs.Prelude.{◌≡◌, ◌≢◌, ℕ, ◌+◌, ◌<◌, ◌≤◌, IfOk, OnOk, true, false, length, slice_set, slice_index_or, option_copied, None};
-ghost use Rattle.page_tables.specs.Table.{entry_at, leaf_in, has_leaf, AreAlike, Extends, SetsEntry, IsSlotCopy};
+ghost use Rattle.std.specs.Prelude.{◌≡◌, ◌<◌, length, slice_set};
+ghost use Rattle.page_tables.specs.Directory.{AreThere, AreApart, leaf_count};
 
 use rrv_model::machine::Permissions;
 use std::alloc::{AllocError, Global};
 
 /// What a table has at a page number.
+// In this order: what is looked up is a word of 8 bytes, and a test of its low half takes one instruction.
 #[derive(Clone, Copy, PartialEq, Eq)]
+#[repr(C)]
 pub struct Entry {
-    /// The page's key in the pool, where there is a page.
-    pub key: u32,
     /// Whether there is a page.
     pub mapped: bool,
     /// What may be done with the bytes; nothing where there is no page.
     pub permissions: Permissions,
+    /// The page's key in the pool, where there is a page.
+    pub key: u32,
 }
 
 /// What a table has where there is no page.
 pub const NO_PAGE: Entry = Entry {
-    key: 0,
     mapped: false,
     permissions: Permissions {
         read: false,
         write: false,
         execute: false,
     },
+    key: 0,
 };
 
-/// The entries of 1,024 pages in a row.
-#[derive(Drop)]
-pub struct Leaf {
-    entries: Box<[Entry; 1024]>,
-}
+/// What a directory has where there is no leaf.
+pub const NO_LEAF: u16 = 0xFFFF;
 
 /// What stands at each page number: at first nothing.
 #[derive(Drop)]
 pub struct Table {
-    directory: Vec<Option<Leaf>>,
+    /// The entries of 1,024 numbers in a row, for each row that has room.
+    leaves: Vec<[Entry; 1024]>,
+    /// The place of each row's leaf, or NO_LEAF.
+    directory: [u16; 1024],
+    ghost rows: { length directory ≡ 1024 },
+    ghost there: { AreThere directory (length leaves.items) },
+    ghost apart: { AreApart directory },
+    ghost whole: { leaf_count directory ≡ length leaves.items },
 }
 
 impl Table {
+    ghost use Rattle.std.specs.Prelude.{◌≡◌, ℕ, ◌<◌, ◌≤◌, IfOk, OnOk, true, false, option_copied};
+    ghost use Rattle.page_tables.specs.Table.{entry_at, leaf_in, has_leaf, AreAlike, Extends, SetsEntry};
+
     /// A table with no page, which takes no memory.
     pub(crate) fn new(alloc: Global) -> Table
         ensures { (n : ℕ) → entry_at result n ≡ NO_PAGE }
     {
         Table {
-            directory: Vec::new(alloc),
+            leaves: Vec::new(alloc),
+            directory: [NO_LEAF; 1024],
         }
     }
 
@@ -57,7 +67,7 @@ impl Table {
         ensures { result ≡ entry_at self.now number }
     {
         match self.leaf(number) {
-            Some(leaf) => leaf.entries[(number % 1024) as usize],
+            Some(leaf) => leaf[(number % 1024) as usize],
             None => NO_PAGE,
         }
     }
@@ -67,23 +77,22 @@ impl Table {
         requires { has_leaf self.old number ≡ true }
         ensures { SetsEntry number entry self.old self.new }
     {
-        if let Some(leaf) = &mut self.directory[(number / 1024) as usize] {
-            put_entry(&mut leaf.entries, (number % 1024) as usize, entry);
-        }
+        let place = self.directory[(number / 1024) as usize] as usize;
+        put_entry(&mut self.leaves[place], (number % 1024) as usize, entry);
     }
 
     /// Makes room for an entry at a number, which changes none. Refused where a growth is.
-    pub(crate) fn make_room(&mut self, alloc: Global, number: u32) -> Result<(), AllocError>
+    pub(crate) fn make_room(&mut self, number: u32) -> Result<(), AllocError>
+        requires { number < 0x80000 }
         ensures extends { Extends self.old self.new }
         ensures room { OnOk result (has_leaf self.new number ≡ true) }
     {
-        let first = (number / 1024) as usize;
-        extend(&mut self.directory, first + 1)?;
         if self.has_leaf(number) {
             return Ok(());
         }
-        let leaf = new_leaf(alloc)?;
-        self.directory[first] = Some(leaf);
+        let place = self.leaves.len() as u16;
+        self.leaves.push([NO_PAGE; 1024])?;
+        self.directory[(number / 1024) as usize] = place;
         Ok(())
     }
 
@@ -91,12 +100,11 @@ impl Table {
     pub(crate) fn copy(&self, alloc: Global) -> Result<Table, AllocError>
         ensures { IfOk result (AreAlike self.now) }
     {
-        let mut directory = Vec::new(alloc);
-        for slot in &self.directory {
-            let copy = copy_slot(alloc, slot)?;
-            directory.push(copy)?;
-        }
-        Ok(Table { directory })
+        let leaves = Vec::from_slice(alloc, &self.leaves)?;
+        Ok(Table {
+            leaves,
+            directory: self.directory,
+        })
     }
 
     /// The least number from this one on that has a page, else the end of all pages, 0x80000.
@@ -131,44 +139,12 @@ impl Table {
 
     /// The leaf of a number, where there is one.
     #[inline(always)]
-    fn leaf(&self, number: u32) -> Option<&Leaf>
-        ensures { option_copied result ≡ leaf_in self.now.directory.items number }
+    fn leaf(&self, number: u32) -> Option<&[Entry; 1024]>
+        ensures { option_copied result ≡ leaf_in self.now.directory self.now.leaves.items number }
     {
-        match self.directory.get((number / 1024) as usize) {
-            Some(Some(leaf)) => Some(leaf),
-            _ => None,
-        }
+        let place = *self.directory.get((number / 1024) as usize)?;
+        self.leaves.get(place as usize)
     }
-}
-
-/// Makes a directory so long, with nothing in the new places.
-fn extend(directory: &mut Vec<Option<Leaf>>, len: usize) -> Result<(), AllocError>
-    ensures same { (i : ℕ) → slice_index_or directory.new.items i None ≡ slice_index_or directory.old.items i None }
-    ensures long { OnOk result (len ≤ length directory.new.items) }
-{
-    while directory.len() < len {
-        directory.push(None)?;
-    }
-    Ok(())
-}
-
-/// A leaf with no page.
-fn new_leaf(alloc: Global) -> Result<Leaf, AllocError>
-    ensures { IfOk result (λ leaf. (at : ℕ) → slice_index_or leaf.entries.value at NO_PAGE ≡ NO_PAGE) }
-{
-    let entries = Box::new(alloc, [NO_PAGE; 1024])?;
-    Ok(Leaf { entries })
-}
-
-/// The same leaf once more, where there is one.
-fn copy_slot(alloc: Global, slot: &Option<Leaf>) -> Result<Option<Leaf>, AllocError>
-    ensures { IfOk result (IsSlotCopy slot.now) }
-{
-    let Some(leaf) = slot else {
-        return Ok(None);
-    };
-    let entries = Box::new(alloc, *leaf.entries)?;
-    Ok(Some(Leaf { entries }))
 }
 
 #[inline(always)]

@@ -27,7 +27,7 @@ use Rattle.rv_machine.specs.declared.decoded_pages.DecodedPage.{DecodedPage}
 use Rattle.rv_machine.specs.declared.flow.Flow.{Flow}
 use Rattle.rv_machine.specs.declared.flow.Flow.TheVariants as flows
 use Rattle.rv_machine.specs.declared.decoded.Decoded.TheVariants.{NoInstruction}
-use Rattle.rv_machine.specs.Flows.{hart_at, stepped_of, place_after, answer_of, place_of}
+use Rattle.rv_machine.specs.Flows.{address_at, hart_at, stepped_of, place_after, answer_of, place_of}
 use Rattle.rv_machine.specs.Decoded.{instr_of}
 use Rattle.rv_machine.specs.Outcome.{outcome_of, KeepsAtFault}
 use Rattle.rv_machine.specs.declared.run.RunEnd.{RunEnd}
@@ -276,6 +276,18 @@ goes_on_within page at decoded flow result old new {pc = pc} {space = space} {la
           (subst (λ (r : Result Flow Refusal). Does pc None r old new space later) told
           (subst (λ (i : Option Instr). Does pc i result old new space later) none does)))
     ]
+
+-- the address of an instruction is its place in memory
+pub address_in_page : (number index : ℕ) → index < 1024 → address_at number index ≡ number * 4096 + index * 4
+address_in_page number index within = omega arith
+
+pub address_of_pc : (number pc : ℕ) → pc % 4 ≡ 0 → pc / 4096 ≡ number → address_at number (pc % 4096 / 4) ≡ pc
+address_of_pc number pc aligned place = omega arith
+
+pub does_at : (pc place : ℕ) (instr : Option Instr) (flow : Result Flow Refusal) (old new : Hart) {space later : SpaceValue} → place ≡ pc →
+    Does place instr flow old new space later → Does pc instr flow old new space later
+does_at pc place instr flow old new {space = space} {later = later} is does =
+    subst (λ (p : ℕ). Does p instr flow old new space later) is does
 
 -- and so is the instruction at an index of a page that was decoded some steps before
 pub page_once : (n at : ℕ) (first old new : Hart) (page : DecodedPage) (decoded : Decoded) (flow : Result Flow Refusal)

@@ -1,5 +1,5 @@
 -- What an instruction answers that is done at a place which the registers don't tell.
-use Rattle.std.specs.Prelude.{ℕ, Result, Ok, Err}
+use Rattle.std.specs.Prelude.{ℕ, ◌+◌, ◌*◌, min, Result, Ok, Err}
 use Rattle.rrv_model.specs.declared.refusal.Memory.{Memory as Refusal}
 use Rattle.rrv_model.specs.Step.{Hart}
 use Rattle.rrv_model.specs.Words.{plus}
@@ -7,6 +7,10 @@ use Rattle.rv_machine.specs.declared.Stepped.{Stepped}
 use Rattle.rv_machine.specs.declared.Stepped.TheVariants as stepped
 use Rattle.rv_machine.specs.declared.flow.Flow.{Flow}
 use Rattle.rv_machine.specs.declared.flow.Flow.TheVariants as flows
+
+-- the address of the instruction at an index of a page, which has 1,024
+abbrev pub address_at : ℕ → ℕ → ℕ
+address_at page index = (page * 1024 + min index 1023) * 4
 
 -- the hart, where its next instruction is at pc
 abbrev pub hart_at : ℕ → Hart → Hart

@@ -1,10 +1,11 @@
 //! Where a hart goes on behind an instruction.
 
-ghost use Rattle.std.specs.Prelude.{◌≡◌};
+ghost use Rattle.std.specs.Prelude.{◌≡◌, ◌<◌, ◌^◌};
 ghost use Rattle.rrv_model.specs.State.{AreRegs};
-ghost use Rattle.rv_machine.specs.Flows.{place_of, answer_of};
+ghost use Rattle.rv_machine.specs.Flows.{address_at, place_of, answer_of};
 
 use crate::Stepped;
+use crate::page_decoding::PAGE_INSTRS;
 use rrv_model::machine::{FaultKind, Regs};
 use rrv_model::refusal::Memory;
 
@@ -21,14 +22,31 @@ pub enum Flow {
     Fault(FaultKind),
 }
 
-/// An instruction failed.
 // A call that is not inlined: where this is one more way to the end of a match, each instruction sets what this would need.
 #[cold]
 #[inline(never)]
+fn cold(kind: FaultKind) -> FaultKind
+    ensures { result ≡ kind }
+{
+    kind
+}
+
+/// An instruction failed.
+#[inline(always)]
 pub(crate) fn fault(kind: FaultKind) -> Flow
     ensures { result ≡ Flow.Fault kind }
 {
-    Flow::Fault(kind)
+    Flow::Fault(cold(kind))
+}
+
+/// The address of the instruction at an index of a page.
+// The least of two changes nothing: without it the compiler counts this up at each instruction, where a jump alone needs it.
+#[inline(always)]
+pub(crate) fn address_in(page: u32, index: usize) -> u32
+    requires { page < 2 ^ 20 }
+    ensures { result ≡ address_at page index }
+{
+    (page * 1024 + index.min(PAGE_INSTRS - 1) as u32) * 4
 }
 
 /// Puts into the registers where the hart goes on after an instruction at `pc`.

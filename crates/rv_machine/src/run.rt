@@ -12,7 +12,7 @@ use crate::Stepped;
 use crate::code_space::CodeSpace;
 use crate::decoded::perform;
 use crate::decoded_pages::DecodedPage;
-use crate::flow::{Flow, go_on};
+use crate::flow::{Flow, address_in, go_on};
 use crate::hart::step;
 use crate::page_decoding::PAGE_INSTRS;
 use guest_pages::Space;
@@ -115,6 +115,17 @@ fn leave(regs: &mut Regs, pc: u32, count: u32, flow: Result<Flow, Memory>) -> Ru
     })
 }
 
+/// How many may still run from an index of a page on, if they would end, straight on, at this one.
+// The remainder changes nothing: without it the compiler counts this down at each instruction, where a jump alone needs it.
+#[inline(always)]
+fn left_at(until: usize, index: usize) -> usize
+    requires page { index < 1024 }
+    requires within { index ≤ until }
+    ensures { result + index ≡ until }
+{
+    until - index % PAGE_INSTRS
+}
+
 /// Some instructions, at least one, of a decoded page: straight on to a jump, and from there again, as long as that leads into the page and
 /// so many may still run at least. As many as the page has need not be counted on the way.
 #[inline(always)]
@@ -134,32 +145,34 @@ fn run_page<const LEAST: usize>(
     ensures { RunsAtMost limit result (hart regs.old (memory_of space.old) reservation.old)
         (hart regs.new (memory_of space.new) reservation.new) space.old space.new }
 {
-    let base = page.number * 4096;
+    let number = page.number;
+    let base = number * 4096;
     let instrs = page.instrs.as_slice();
-    let mut first = (regs.pc % 4096 / 4) as usize;
-    let mut at = first;
-    // so many may run from the first one on
-    let mut left = limit as usize;
-    let mut end = (first + left).min(PAGE_INSTRS);
-    while LEAST == PAGE_INSTRS || at < end {
-        let pc = (base as usize + at * 4) as u32;
-        let flow = perform::<LEAST>(regs, space, reservation, &instrs[at], pc);
+    let mut index = (regs.pc % 4096 / 4) as usize;
+    // straight on, as many as may run would end here
+    let mut until = index + limit as usize;
+    let mut end = until.min(PAGE_INSTRS);
+    while LEAST == PAGE_INSTRS || index < end {
+        let flow = perform::<LEAST>(regs, space, reservation, &instrs[index], number, index);
         match flow {
-            Ok(Flow::Next) => at += 1,
+            Ok(Flow::Next) => index += 1,
             Ok(Flow::Jump(target))
-                if target.wrapping_sub(base) < 4096 && first + left - at > LEAST => {
-                left -= at + 1 - first;
-                first = (target.wrapping_sub(base) / 4) as usize;
-                at = first;
-                end = (first + left).min(PAGE_INSTRS);
+                if target.wrapping_sub(base) < 4096 && LEAST < left_at(until, index) => {
+                let first = (target.wrapping_sub(base) / 4) as usize;
+                until = first + left_at(until, index) - 1;
+                index = first;
+                end = until.min(PAGE_INSTRS);
             }
-            _ if at == PAGE_INSTRS => break,
-            _ => return leave(regs, pc, limit - (first + left - at) as u32, flow),
+            _ if index == PAGE_INSTRS => break,
+            _ => {
+                let done = limit - left_at(until, index) as u32;
+                return leave(regs, address_in(number, index), done, flow);
+            }
         }
     }
-    regs.pc = base + at as u32 * 4;
+    regs.pc = base + index as u32 * 4;
     Run {
-        count: limit - (first + left - at) as u32,
+        count: limit - (until - index) as u32,
         end: RunEnd::Limit,
     }
 }

@@ -94,8 +94,9 @@ fn watch_page(
                 end: RunEnd::Limit,
             };
         }
-        let decoded = &instrs[(pc % 4096 / 4) as usize];
-        let flow = perform::<WATCHED>(regs, space, reservation, decoded, pc);
+        let index = (pc % 4096 / 4) as usize;
+        let decoded = &instrs[index];
+        let flow = perform::<WATCHED>(regs, space, reservation, decoded, number, index);
         match stopped(count, go_on(regs, pc, flow)) {
             None => look(watch, space),
             Some(ended) => return ended,
@@ -167,7 +168,8 @@ fn watch_some(
 impl CodeSpace {
     /// A watch of the byte at an address, before any instruction.
     fn watch(&self, address: u32) -> Watch
-        ensures { result ≡ record { address = address; byte = byte_of (memory_of self.now) address; count = 0; changed = 0 } }
+        ensures { result
+            ≡ record { address = address; byte = byte_of (memory_of self.now) address; count = 0; changed = 0 } }
     {
         Watch {
             address,

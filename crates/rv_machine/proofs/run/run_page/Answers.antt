@@ -1,18 +1,17 @@
-use Rattle.std.proofs.Common.{◌≡◌, ◌+◌, ◌*◌, ◌%◌, ◌<◌, ◌^◌, Ok, refl, ap, ◌∙◌, arith}
+use Rattle.std.proofs.Common.{◌≡◌, ◌+◌, ◌-◌, ◌*◌, ◌%◌, ◌<◌, ◌^◌, Ok, refl, ap, ◌∙◌, arith}
 use Rattle.guest_pages.specs.Space.{memory_of}
 use Rattle.rv_machine.specs.declared.flow.Flow.TheVariants as flows
 use Rattle.rv_machine.specs.Outcome.{hart}
 use Rattle.rv_machine.proofs.HartSteps.{no_steps_at, one_more_at, runs_to}
-use Rattle.rv_machine.proofs.KeptPages.{goes_on_within, next_aligned, page_once}
+use Rattle.rv_machine.proofs.KeptPages.{address_in_page, does_at, goes_on_within, next_aligned, page_once}
 use Rattle.rv_machine.proofs.run.run_page.Goals as goal
-use Rattle.rv_machine.proofs.run.run_page.Goals.{then-this-eq-PAGE_INSTRS, else-this-eq-PAGE_INSTRS+then-at-end}
+use Rattle.rv_machine.proofs.run.run_page.Goals.{then-this-eq-PAGE_INSTRS, else-this-eq-PAGE_INSTRS+then-index-end}
 
 pub loop-instrs-init : goal.loop-instrs-init
 loop-instrs-init g c = record {
   regs = c.requires.regs;
   steps = no_steps_at _ _ _ (omega arith) (omega (arith, c.requires.place, c.requires.aligned));
   snapshots = refl;
-  first = omega arith;
   low = omega (arith, c.min-end.ensures);
   high = omega (arith, c.min-end.ensures);
   within = omega (arith, c.min-end.ensures);
@@ -23,17 +22,18 @@ loop-instrs-init g c = record {
 
 pub loop-instrs-preserved-in-Next-1 : goal.loop-instrs-preserved-in-Next-1
 loop-instrs-preserved-in-Next-1 g c =
-    let did = c.perform-flow.ensures in
     let now = c.loop-instrs.invariant in
-    let found = rw c.as_slice-instrs.ensures.value at c.index-instrs-at.is in
+    let found = rw c.as_slice-instrs.ensures.value at c.index-instrs-index.is in
     let is : c.perform-flow.result ≡ Ok flows.Next = c.in-Ok-Next.is ∙ ap Ok (rw c.in-Ok-Next.is at c.in-Ok-Next.field-0-is) in
-    let within : c.loop-instrs.at < 1024 = goes_on_within c.args.page.now c.loop-instrs.at c.index-instrs-at.result flows.Next
-    c.perform-flow.result _ _ (omega arith) found is refl did in
-    let low : c.loop-instrs.at < c.loop-instrs.end = elim c.if-this-eq-PAGE_INSTRS.branch [
+    let within : c.loop-instrs.index < 1024 = goes_on_within c.args.page.now c.loop-instrs.index c.index-instrs-index.result flows.Next
+    c.perform-flow.result _ _ (omega arith) found is refl c.perform-flow.ensures in
+    let did = does_at (c.args.page.now.number * 4096 + c.loop-instrs.index * 4) _ _ c.perform-flow.result _ _
+    (address_in_page c.args.page.now.number c.loop-instrs.index within) c.perform-flow.ensures in
+    let low : c.loop-instrs.index < c.loop-instrs.end = elim c.if-this-eq-PAGE_INSTRS.branch [
       | then-this-eq-PAGE_INSTRS w ↦ omega (arith, within, now.whole w.if-this-eq-PAGE_INSTRS.true)
-      | else-this-eq-PAGE_INSTRS+then-at-end w ↦ w.if-at-end.true
+      | else-this-eq-PAGE_INSTRS+then-index-end w ↦ w.if-index-end.true
     ] in
-    let once = page_once _ c.loop-instrs.at _ _ _ c.args.page.now c.index-instrs-at.result c.perform-flow.result c.requires.decoded
+    let once = page_once _ c.loop-instrs.index _ _ _ c.args.page.now c.index-instrs-index.result c.perform-flow.result c.requires.decoded
     now.steps
     within found did in
     let step = (rw is at once).step in
@@ -43,7 +43,6 @@ loop-instrs-preserved-in-Next-1 g c =
           (hart c.perform-flow.new.regs (memory_of c.perform-flow.new.space) c.perform-flow.new.reservation) (omega arith) (omega arith)
           now.steps step;
       snapshots = did.snapshots ∙ now.snapshots;
-      first = omega arith;
       low = omega arith;
       high = now.high;
       within = now.within;
@@ -54,19 +53,20 @@ loop-instrs-preserved-in-Next-1 g c =
 
 pub loop-instrs-preserved : goal.loop-instrs-preserved
 loop-instrs-preserved g c =
-    let did = c.perform-flow.ensures in
     let now = c.loop-instrs.invariant in
-    let found = rw c.as_slice-instrs.ensures.value at c.index-instrs-at.is in
+    let found = rw c.as_slice-instrs.ensures.value at c.index-instrs-index.is in
     let is : c.perform-flow.result ≡ Ok (flows.Jump c.in-Ok-Jump.target) =
     c.in-Ok-Jump.is ∙ ap Ok (rw c.in-Ok-Jump.is at c.in-Ok-Jump.field-0-is) in
-    let within : c.loop-instrs.at < 1024 = goes_on_within c.args.page.now c.loop-instrs.at c.index-instrs-at.result
-    (flows.Jump c.in-Ok-Jump.target) c.perform-flow.result _ _ (omega arith) found is refl did in
-    let once = page_once _ c.loop-instrs.at _ _ _ c.args.page.now c.index-instrs-at.result c.perform-flow.result c.requires.decoded
+    let within : c.loop-instrs.index < 1024 = goes_on_within c.args.page.now c.loop-instrs.index c.index-instrs-index.result
+    (flows.Jump c.in-Ok-Jump.target) c.perform-flow.result _ _ (omega arith) found is refl c.perform-flow.ensures in
+    let did = does_at (c.args.page.now.number * 4096 + c.loop-instrs.index * 4) _ _ c.perform-flow.result _ _
+    (address_in_page c.args.page.now.number c.loop-instrs.index within) c.perform-flow.ensures in
+    let once = page_once _ c.loop-instrs.index _ _ _ c.args.page.now c.index-instrs-index.result c.perform-flow.result c.requires.decoded
     now.steps
     within found did in
     let step = (rw is at once).step in
     let fits : c.in-Ok-Jump.target < 2 ^ 32 = let told = rw is at c.perform-flow.type_inv in omega (arith, told) in
-    let here : (c.args.page.now.number * 4096 + c.loop-instrs.at * 4) % 4 ≡ 0 = omega arith in
+    let here : (c.args.page.now.number * 4096 + c.loop-instrs.index * 4) % 4 ≡ 0 = omega arith in
     let aligned : c.in-Ok-Jump.target % 4 ≡ 0 = next_aligned _ _ here step in
     record {
       regs = did.regs;
@@ -74,28 +74,31 @@ loop-instrs-preserved g c =
           (hart c.perform-flow.new.regs (memory_of c.perform-flow.new.space) c.perform-flow.new.reservation) (omega arith)
           (omega (arith, aligned, c.if-target-base-lt4096.true)) now.steps step;
       snapshots = did.snapshots ∙ now.snapshots;
-      first = omega arith;
       low = omega (arith, c.min-end-in-Ok-Jump.ensures);
       high = omega (arith, c.min-end-in-Ok-Jump.ensures);
       within = omega (arith, c.min-end-in-Ok-Jump.ensures);
       left = omega arith;
-      whole = λ e. omega (arith, c.min-end-in-Ok-Jump.ensures, c.if-first-left.true, e);
-      some = λ e. omega (arith, c.min-end-in-Ok-Jump.ensures, c.if-first-left.true, c.requires.some);
+      whole = λ e. omega (arith, c.min-end-in-Ok-Jump.ensures, c.if-left_at.true, e);
+      some = λ e. omega (arith, c.min-end-in-Ok-Jump.ensures, c.if-left_at.true, c.requires.some);
     }
 
 pub returns-in_default-2 : goal.returns-in_default-2
 returns-in_default-2 g c =
-    let did = c.perform-flow.ensures in
     let now = c.loop-instrs.invariant in
-    let within : c.loop-instrs.at < 1024 = omega (arith, now.low, now.high, c.if-at-eq-PAGE_INSTRS.false) in
-    let low : c.loop-instrs.at < c.loop-instrs.end = elim c.if-this-eq-PAGE_INSTRS.branch [
+    let within : c.loop-instrs.index < 1024 = omega (arith, now.low, now.high, c.if-index-eq-PAGE_INSTRS.false) in
+    let did = does_at (c.args.page.now.number * 4096 + c.loop-instrs.index * 4) _ _ c.perform-flow.result _ _
+    (address_in_page c.args.page.now.number c.loop-instrs.index within) c.perform-flow.ensures in
+    let low : c.loop-instrs.index < c.loop-instrs.end = elim c.if-this-eq-PAGE_INSTRS.branch [
       | then-this-eq-PAGE_INSTRS w ↦ omega (arith, within, now.whole w.if-this-eq-PAGE_INSTRS.true)
-      | else-this-eq-PAGE_INSTRS+then-at-end w ↦ w.if-at-end.true
+      | else-this-eq-PAGE_INSTRS+then-index-end w ↦ w.if-index-end.true
     ] in
-    let once = page_once _ c.loop-instrs.at _ _ _ c.args.page.now c.index-instrs-at.result c.perform-flow.result c.requires.decoded
+    let once = page_once _ c.loop-instrs.index _ _ _ c.args.page.now c.index-instrs-index.result c.perform-flow.result c.requires.decoded
     now.steps
-    within (rw c.as_slice-instrs.ensures.value at c.index-instrs-at.is) did in
-    let fits : c.args.page.now.number * 4096 + c.loop-instrs.at * 4 < 2 ^ 32 = omega arith in
-    rw (c.leave.ensures.run, c.leave.ensures.place)
+    within (rw c.as_slice-instrs.ensures.value at c.index-instrs-index.is) did in
+    let here : c.address_in.result ≡ c.args.page.now.number * 4096 + c.loop-instrs.index * 4 =
+    c.address_in.ensures ∙ address_in_page c.args.page.now.number c.loop-instrs.index within in
+    let left : c.left_at-in_default-2.result ≡ c.loop-instrs.until - c.loop-instrs.index = omega (arith, c.left_at-in_default-2.ensures) in
+    let fits : c.args.page.now.number * 4096 + c.loop-instrs.index * 4 < 2 ^ 32 = omega arith in
+    rw (c.leave.ensures.run, c.leave.ensures.place, here, left)
     (runs_to _ _ _ _ _ _ (omega arith) (record { pc = fits; registers = now.regs.registers; zero = now.regs.zero }) now.steps once
-    (rw c.leave.ensures.place at c.leave.ensures.regs) (did.snapshots ∙ now.snapshots))
+    (rw (c.leave.ensures.place, here) at c.leave.ensures.regs) (did.snapshots ∙ now.snapshots))

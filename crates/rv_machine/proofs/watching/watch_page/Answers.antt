@@ -1,8 +1,9 @@
-use Rattle.std.proofs.Common.{refl, ◌∙◌, arith}
+use Rattle.std.proofs.Common.{◌≡◌, ◌/◌, ◌%◌, refl, ◌∙◌, arith}
 use Rattle.guest_pages.specs.Space.{memory_of}
+use Rattle.rv_machine.specs.Flows.{address_at}
 use Rattle.rv_machine.specs.Outcome.{hart}
 use Rattle.rv_machine.proofs.HartSteps.{StepsOnce, at_most, counts, goes_on, no_steps, one_more, steps_all, stops}
-use Rattle.rv_machine.proofs.KeptPages.{next_aligned, page_step}
+use Rattle.rv_machine.proofs.KeptPages.{address_of_pc, does_at, next_aligned, page_step}
 use Rattle.rv_machine.proofs.Watches.{look_watches}
 use Rattle.rv_machine.proofs.watching.watch_page.Goals as goal
 
@@ -20,13 +21,15 @@ loop-count-init c = record {
 
 pub loop-count-preserved : goal.loop-count-preserved
 loop-count-preserved c =
-    let did = c.perform-flow.ensures in
     let now = c.loop-count.invariant in
+    let here : address_at c.args.page.now.number (c.loop-count.regs.pc % 4096 / 4) ≡ c.loop-count.regs.pc =
+    address_of_pc _ _ now.aligned c.if-pc-number.false in
+    let did = does_at c.loop-count.regs.pc _ _ c.perform-flow.result _ _ here c.perform-flow.ensures in
     let once : StepsOnce c.go_on.result (hart c.loop-count.regs (memory_of c.loop-count.space) c.loop-count.reservation)
     (hart c.go_on.new.regs (memory_of c.perform-flow.new.space) c.perform-flow.new.reservation) =
     rw (c.go_on.ensures.answer, c.go_on.ensures.place)
-    (page_step _ _ _ _ c.args.page.now c.index-instrs-pc.result _ c.requires.decoded now.steps c.if-pc-number.false now.aligned
-    (rw c.as_slice-instrs.ensures.value at c.index-instrs-pc.is) did) in
+    (page_step _ _ _ _ c.args.page.now c.index-instrs-index.result _ c.requires.decoded now.steps c.if-pc-number.false now.aligned
+    (rw c.as_slice-instrs.ensures.value at c.index-instrs-index.is) did) in
     let step = goes_on _ _ _ _ c.in-None.ensures once in
     record {
       regs = c.go_on.ensures.regs;
@@ -41,13 +44,15 @@ loop-count-preserved c =
 
 pub returns-in-Some-clause-runs : goal.returns-in-Some-clause-runs
 returns-in-Some-clause-runs c =
-    let did = c.perform-flow.ensures in
     let now = c.loop-count.invariant in
+    let here : address_at c.args.page.now.number (c.loop-count.regs.pc % 4096 / 4) ≡ c.loop-count.regs.pc =
+    address_of_pc _ _ now.aligned c.if-pc-number.false in
+    let did = does_at c.loop-count.regs.pc _ _ c.perform-flow.result _ _ here c.perform-flow.ensures in
     let once : StepsOnce c.go_on.result (hart c.loop-count.regs (memory_of c.loop-count.space) c.loop-count.reservation)
     (hart c.go_on.new.regs (memory_of c.perform-flow.new.space) c.perform-flow.new.reservation) =
     rw (c.go_on.ensures.answer, c.go_on.ensures.place)
-    (page_step _ _ _ _ c.args.page.now c.index-instrs-pc.result _ c.requires.decoded now.steps c.if-pc-number.false now.aligned
-    (rw c.as_slice-instrs.ensures.value at c.index-instrs-pc.is) did) in
+    (page_step _ _ _ _ c.args.page.now c.index-instrs-index.result _ c.requires.decoded now.steps c.if-pc-number.false now.aligned
+    (rw c.as_slice-instrs.ensures.value at c.index-instrs-index.is) did) in
     let stopped = stops _ _ _ _ _ _ _ c.in-Some.ensures c.loop-count-test.true now.regs now.steps once in
     record {
       runs = at_most c.in-Some.ended.end _ _ c.in-Some.ended.count _ _ (omega arith) stopped.runs;
