@@ -17,7 +17,7 @@ _rrv_place() {
     place=0
     while ((at < COMP_CWORD)); do
         case ${COMP_WORDS[at]} in
-            --quantum | --every | --input | --seed | --choices | --then | --at | --memory)
+            --quantum | --every | --input | --seed | --name | --choices | --then | --limit | --at | --memory)
                 ((at += 1))
                 if [[ ${COMP_WORDS[at]} == = ]]; then ((at += 1)); fi
                 if [[ ${COMP_WORDS[at + 1]} == : ]]; then ((at += 2)); fi
@@ -31,6 +31,7 @@ _rrv_place() {
 
 _rrv() {
     local word=${COMP_WORDS[COMP_CWORD]} before=${COMP_WORDS[COMP_CWORD - 1]} options='-h --help' place
+    local commands='new record check list elf dump verify replay back last choices core help'
     COMPREPLY=()
     # Bash parts an option and its value at the '=', and the two numbers of --memory at the ':'.
     if [[ $word == = ]]; then
@@ -39,13 +40,14 @@ _rrv() {
         before=${COMP_WORDS[COMP_CWORD - 2]}
     fi
     if ((COMP_CWORD == 1)); then
-        _rrv_words "new record list dump verify replay back last choices core -V --version $options"
+        _rrv_words "$commands -V --version $options"
         return
     fi
     case ${COMP_WORDS[1]} in
-        new | list) ;;
-        dump) options+=' --places --trace-events' ;;
-        record) options+=' --quantum --every --input --seed --choices --then --progress' ;;
+        new | check | elf | help) ;;
+        list) options+=' --long --progress' ;;
+        dump) options+=' --places --trace-events --progress' ;;
+        record) options+=' --quantum --every --input --seed --name --choices --then --limit --fail --progress' ;;
         verify) options+=' --long --progress' ;;
         choices | core) options+=' --progress' ;;
         replay) options+=' --at --memory --progress' ;;
@@ -56,7 +58,7 @@ _rrv() {
         --input | --choices) _rrv_files && return ;;
         --then) _rrv_words 'turns none' && return ;;
         --at) _rrv_words end && return ;;
-        --quantum | --every | --seed | --memory | :) return ;;
+        --quantum | --every | --seed | --name | --limit | --memory | :) return ;;
     esac
     if [[ $word == -* ]]; then
         _rrv_words "$options"
@@ -64,6 +66,8 @@ _rrv() {
     fi
     _rrv_place
     case ${COMP_WORDS[1]}:$place in
+        help:0) _rrv_words "$commands" ;;
+        help:*) ;;
         *:0 | record:* | core:3) _rrv_files ;;
         back:2 | last:2 | core:2) _rrv_words end ;;
     esac

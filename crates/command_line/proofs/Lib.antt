@@ -1,3 +1,4 @@
 pub mod Folds
 pub mod Texts
 pub mod Words
+mod BadValues

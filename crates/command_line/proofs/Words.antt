@@ -1,11 +1,15 @@
 -- What the parser makes of words.
-use Rattle.std.proofs.Common.{◌≡◌, inl, inr, Bool, cond, true, false, List, [], ◌∷◌, Option, Some, None, refl, sym, subst}
-use Rattle.std.specs.Prelude.{Box, IfSome, find, option_map}
+use Rattle.std.proofs.Common.{◌≡◌, ◌||◌, inl, inr, Bool, cond, true, false, List, [], ◌∷◌, Option, Some, None, ap, refl, sym, subst, true≢false}
+use Rattle.std.specs.Prelude.{Box, IfSome, codes, find, option_map}
+use Rattle.std.specs.List.{list_any}
+use Rattle.std.specs.Str.{bytes_eq}
 use Rattle.std.specs.Box.{box_value}
 use Rattle.std.proofs.lemmas.Option.{IfSome_then, none-some, same_Some}
+use Rattle.std.proofs.lemmas.Slice.Eq.{bytes_eq-Decides}
 use Rattle.clap.specs.Simple.{argument_words, built, entered, label_of, names_of, rows_at}
 use Rattle.clap.specs.Walk.{answers_to, stop_after}
-use Rattle.clap.specs.Words.{App, Shape, Text, is_simple, is_simple_and_free, subcommand_name_of, subcommand_of, subcommand_rows, subcommand_rows_of}
+use Rattle.clap.specs.Words.{App, Shape, Text, fault_of, is_simple, is_simple_and_free, subcommand_name_of, subcommand_of, subcommand_rows, subcommand_rows_of}
+use Rattle.clap.specs.declared.error.kind.ErrorKind.TheVariants as kinds
 use Rattle.clap.specs.declared.parser.matches.ArgMatches.{ArgMatches}
 use Rattle.clap.specs.declared.parser.matches.ArgMatches.TheViews.{out-ArgMatches, out-SubCommand}
 use Rattle.clap.specs.declared.parser.matches.SubCommand.{SubCommand}
@@ -54,3 +58,52 @@ module _ {Z : Type 0} where
 pub command_name : (words : List Text) (m : ArgMatches) (name : Text) → subcommand_rows_of m ≡ subcommand_of program words
     → Some name ≡ subcommand_name_of m → IsNameOf name commands
 command_name words m name rows is = name_in (out-ArgMatches m).subcommand words name rows is
+
+-- ---- the test that a text is the name of one of some commands
+
+abbrev pub has_name : Text → List Shape → Bool
+has_name name subs = list_any (λ s. bytes_eq s.name name) subs
+
+pub tested : (name : Text) (subs : List Shape) → has_name name subs ≡ true → IsNameOf name subs
+tested name [] h = absurd (true≢false (sym h))
+tested name (sub ∷ subs) h = by (bytes_eq sub.name name) refl (tested name subs) h
+  where
+    by : (b : Bool) → bytes_eq sub.name name ≡ b → (has_name name subs ≡ true → IsNameOf name subs) → (b || has_name name subs) ≡ true
+        → IsNameOf name (sub ∷ subs)
+    by true same later h = inl (sym ((bytes_eq-Decides sub.name name).0 same))
+    by false same later h = inr (later h)
+
+pub passed : (name : Text) (subs : List Shape) → IsNameOf name subs → has_name name subs ≡ true
+passed name [] h = absurd h
+passed name (sub ∷ subs) (inl is) = ap (λ b. b || has_name name subs) ((bytes_eq-Decides sub.name name).1 (sym is))
+passed name (sub ∷ subs) (inr h) = by (bytes_eq sub.name name) (passed name subs h)
+  where
+    by : (b : Bool) → has_name name subs ≡ true → (b || has_name name subs) ≡ true
+    by true later = refl
+    by false later = later
+
+-- ---- calls of help
+
+abbrev pub help_at : Text → Type 0
+help_at name = fault_of program (name ∷ codes "--help" ∷ []) ≡ kinds.DisplayHelp ∷ []
+
+pub help_alone : fault_of program (codes "--help" ∷ []) ≡ kinds.DisplayHelp ∷ []
+unfolding clap_on_literals
+help_alone = refl
+
+pub help_of : (name : Text) → IsNameOf name commands → help_at name
+unfolding clap_on_literals
+help_of name (inl is) = subst help_at (sym is) refl
+help_of name (inr (inl is)) = subst help_at (sym is) refl
+help_of name (inr (inr (inl is))) = subst help_at (sym is) refl
+help_of name (inr (inr (inr (inl is)))) = subst help_at (sym is) refl
+help_of name (inr (inr (inr (inr (inl is))))) = subst help_at (sym is) refl
+help_of name (inr (inr (inr (inr (inr (inl is)))))) = subst help_at (sym is) refl
+help_of name (inr (inr (inr (inr (inr (inr (inl is))))))) = subst help_at (sym is) refl
+help_of name (inr (inr (inr (inr (inr (inr (inr (inl is)))))))) = subst help_at (sym is) refl
+help_of name (inr (inr (inr (inr (inr (inr (inr (inr (inl is))))))))) = subst help_at (sym is) refl
+help_of name (inr (inr (inr (inr (inr (inr (inr (inr (inr (inl is)))))))))) = subst help_at (sym is) refl
+help_of name (inr (inr (inr (inr (inr (inr (inr (inr (inr (inr (inl is))))))))))) = subst help_at (sym is) refl
+help_of name (inr (inr (inr (inr (inr (inr (inr (inr (inr (inr (inr (inl is)))))))))))) = subst help_at (sym is) refl
+help_of name (inr (inr (inr (inr (inr (inr (inr (inr (inr (inr (inr (inr (inl is))))))))))))) = subst help_at (sym is) refl
+help_of name (inr (inr (inr (inr (inr (inr (inr (inr (inr (inr (inr (inr (inr h))))))))))))) = absurd h

@@ -14,6 +14,10 @@ use Rattle.command_line.specs.declared.arguments.Subcommand.{Subcommand}
 abbrev pub needed : Text → Rule
 needed name = record (new_rule name) { required = true; action = Some Set }
 
+-- a value that may be left out
+abbrev pub allowed : Text → Rule
+allowed name = record (new_rule name) { action = Some Set }
+
 -- values of which there are so many
 abbrev pub several : (least most : ℕ) → Text → Rule
 several least most name = record (new_rule name) {
@@ -42,6 +46,7 @@ flag name = record (new_rule name) { long = Some name; action = Some SetTrue }
 
 abbrev pub rule_in : Argument → Rule
 rule_in (arguments.Needed name help) = needed name.now
+rule_in (arguments.Allowed name help) = allowed name.now
 rule_in (arguments.Several name help) = several 1 16 name.now
 rule_in (arguments.Optional name value help) = option name.now
 rule_in (arguments.Defaulted name value default help) = option_or name.now default.now

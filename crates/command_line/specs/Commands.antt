@@ -1,8 +1,9 @@
 -- The commands of the program: each with its arguments, in their order, and what it asks for by their values.
-use Rattle.std.specs.Prelude.{◌≡◌, ◌⊎◌, List, [], ◌∷◌, None, codes, false, true}
+use Rattle.std.specs.Prelude.{◌≡◌, ◌⊎◌, List, [], ◌∷◌, ◌++◌, Option, None, Some, codes, false, true}
+use Rattle.std.specs.Borrow.{Bor}
 use Rattle.clap.specs.Simple.{new_shape}
 use Rattle.clap.specs.Words.{App, Row, Rule, Shape, Text, first_of}
-use Rattle.command_line.specs.Arguments.{flag, needed, option, option_or, repeated, several}
+use Rattle.command_line.specs.Arguments.{allowed, flag, needed, option, option_or, repeated, several}
 use Rattle.command_line.specs.Values.{HasAddress, HasFlag, HasForm, HasMemory, HasNumber, HasPlace, HasText, NamesGuest}
 use Rattle.command_line.specs.Values.{NamesRecording, texts_of}
 use Rattle.command_line.specs.declared.request.Question.{Question}
@@ -14,6 +15,10 @@ use Rattle.command_line.specs.declared.request.Request.TheVariants as requests
 
 abbrev pub of_store : Text → List Rule → Shape
 of_store name rules = record (new_shape name) { rules = needed (codes "STORE") ∷ rules }
+
+-- a command of a program
+abbrev pub of_program : Text → Shape
+of_program name = record (new_shape name) { rules = needed (codes "ELF") ∷ [] }
 
 abbrev pub of_guest : Text → List Rule → Shape
 of_guest name rules = of_store name (needed (codes "GUEST") ∷ rules)
@@ -37,8 +42,11 @@ recorded =
     ∷ option_or (codes "every") (codes "1048576")
     ∷ option (codes "input")
     ∷ option (codes "seed")
+    ∷ repeated (codes "name")
     ∷ repeated (codes "choices")
     ∷ option_or (codes "then") (codes "turns")
+    ∷ option (codes "limit")
+    ∷ flag (codes "fail")
     ∷ flag (codes "progress")
     ∷ several 1 16 (codes "ELF")
     ∷ []
@@ -53,16 +61,22 @@ asking_commands =
     ∷ of_guest (codes "core") (needed (codes "AT") ∷ needed (codes "FILE") ∷ shown_progress)
     ∷ []
 
+-- that which prints help
+abbrev pub of_help : Shape
+of_help = record (new_shape (codes "help")) { rules = allowed (codes "COMMAND") ∷ [] }
+
 abbrev pub commands : List Shape
 commands =
     of_store (codes "new") []
     ∷ of_store (codes "record") recorded
-    ∷ of_store (codes "list") []
-    ∷ of_guest (codes "dump") (flag (codes "places") ∷ flag (codes "trace-events") ∷ [])
+    ∷ of_program (codes "check")
+    ∷ of_store (codes "list") (flag (codes "long") ∷ shown_progress)
+    ∷ of_guest (codes "elf") []
+    ∷ of_guest (codes "dump") (flag (codes "places") ∷ flag (codes "trace-events") ∷ shown_progress)
     ∷ of_guest (codes "verify") (flag (codes "long") ∷ shown_progress)
-    ∷ asking_commands
+    ∷ (asking_commands ++ of_help ∷ [])
 
--- the words that follow the program's name: some command, but no `help`; there is a version
+-- the words that follow the program's name: some command, but no `help` of the parser's own; there is a version
 abbrev pub as_top : Shape → Shape
 as_top top = record top {
   has_version = true;
@@ -83,6 +97,11 @@ IsNameOf name [] = ⊥
 IsNameOf name (sub ∷ subs) = (name ≡ sub.name) ⊎ IsNameOf name subs
 
 -- ---- what they ask for
+
+-- the name of a command, or none
+abbrev pub HasTopic : List Row → Option (Bor Text) → Type 0
+HasTopic rows None = first_of (codes "COMMAND") rows ≡ None
+HasTopic rows (Some name) = HasText rows (codes "COMMAND") name.now × IsNameOf name.now commands
 
 -- The values of a question of a command. One row a command, and two for `replay`.
 abbrev pub HasQuestion : Question → List Row → Type 0
@@ -107,10 +126,15 @@ question_name (questions.Core at file) = codes "core"
 -- The values of a request of a command. One row a command.
 abbrev pub HasValues : Request → List Row → Type 0
 HasValues requests.Demonstration rows = ⊥
+HasValues (requests.Help command) rows = HasTopic rows command
 HasValues (requests.New store) rows = HasText rows (codes "STORE") store.now
 HasValues (requests.Record recording) rows = NamesRecording rows recording
-HasValues (requests.List store) rows = HasText rows (codes "STORE") store.now
-HasValues (requests.Dump guest form) rows = NamesGuest rows guest × HasForm rows form
+HasValues (requests.Check file) rows = HasText rows (codes "ELF") file.now
+HasValues (requests.List store replays progress) rows =
+    HasText rows (codes "STORE") store.now × HasFlag rows (codes "long") replays × HasFlag rows (codes "progress") progress
+HasValues (requests.Elf guest) rows = NamesGuest rows guest
+HasValues (requests.Dump guest form progress) rows =
+    NamesGuest rows guest × HasForm rows form × HasFlag rows (codes "progress") progress
 HasValues (requests.Verify guest long progress) rows =
     NamesGuest rows guest × HasFlag rows (codes "long") long × HasFlag rows (codes "progress") progress
 HasValues (requests.Ask guest question progress) rows =
@@ -119,10 +143,13 @@ HasValues (requests.Ask guest question progress) rows =
 -- the name of a request's command
 abbrev pub name_of : Request → Text
 name_of requests.Demonstration = codes ""
+name_of (requests.Help command) = codes "help"
 name_of (requests.New store) = codes "new"
 name_of (requests.Record recording) = codes "record"
-name_of (requests.List store) = codes "list"
-name_of (requests.Dump guest form) = codes "dump"
+name_of (requests.Check file) = codes "check"
+name_of (requests.List store replays progress) = codes "list"
+name_of (requests.Elf guest) = codes "elf"
+name_of (requests.Dump guest form progress) = codes "dump"
 name_of (requests.Verify guest long progress) = codes "verify"
 name_of (requests.Ask guest question progress) = question_name question
 

@@ -22,6 +22,10 @@ Refuses words kind =
 abbrev pub IsRefused : List Text → Error → Type 0
 IsRefused words e = Refuses words (kind_of e)
 
+-- an error that is help, or out of memory
+abbrev pub IsHelp : ErrorKind → Type 0
+IsHelp kind = (kind ≡ kinds.DisplayHelp) ⊎ (kind ≡ kinds.OutOfMemory)
+
 -- slices of a recording have 64 instructions or more, and 1,048,576 or fewer
 abbrev pub IsWithinLimits : Request → Type 0
 IsWithinLimits (requests.Record r) = (64 ≤ r.quantum) × (r.quantum ≤ 1048576)

@@ -1,12 +1,13 @@
 -- What the values of arguments stand for.
-use Rattle.std.specs.Prelude.{◌≡◌, ◌↔◌, ◌⊎◌, ◌≤◌, ◌==◌, ℕ, Bool, false, List, [], Option, Some, cond, codes, drop, length, map, option_map, take, true}
+use Rattle.std.specs.Prelude.{◌≡◌, ◌↔◌, ◌⊎◌, ◌≤◌, ◌==◌, ◌&&◌, not, if◌then◌else◌, ℕ, Bool, false, List, [], Option, None, Some, cond, codes, drop, length, map, option_map, take, true}
 use Rattle.std.specs.Prelude.{IsSomeAnd, unwrap_or}
 use Rattle.std.specs.Borrow.{Bor}
-use Rattle.std.specs.List.{AllZip, after_first, before_first}
+use Rattle.std.specs.List.{AllByRecursion, AllZip, after_first, before_first}
 use Rattle.std.specs.Str.{bytes_eq}
 use Rattle.std.specs.Str.Parse.{IsNumeral, digits_value, without_leading_plus}
 use Rattle.clap.specs.Words.{Row, Text, all_of, first_of, found_of, rows_of}
 use Rattle.clap.specs.declared.parser.matches.ArgMatches.{ArgMatches}
+use Rattle.rrv_model.specs.Opening.{IsName}
 use Rattle.command_line.specs.declared.request.DumpForm.{DumpForm}
 use Rattle.command_line.specs.declared.request.DumpForm.TheVariants as forms
 use Rattle.command_line.specs.declared.request.GuestOf.{GuestOf}
@@ -76,6 +77,11 @@ HasNumberIn least most = HasWritten (IsNumberIn least most)
 abbrev pub HasNumber : List Row → Text → ℕ → Type 0
 HasNumber = HasNumberIn 0 18446744073709551615
 
+-- the option has such a number, or isn't there
+abbrev pub HasNumberIf : List Row → Text → Option ℕ → Type 0
+HasNumberIf rows name None = first_of name rows ≡ None
+HasNumberIf rows name (Some n) = HasNumber rows name n
+
 abbrev pub HasPlace : List Row → Text → Place → Type 0
 HasPlace = HasWritten IsPlace
 
@@ -101,13 +107,26 @@ pub record NamesGuest (rows : List Row) (guest : GuestOf) : Type 0 where
   pub store : HasText rows (codes "STORE") guest.store.now
   pub number : HasNumber rows (codes "GUEST") guest.number
 
--- no file of choices, one for all programs, or one for each
-abbrev pub IsChoicesCount : (choices programs : ℕ) → Type 0
-IsChoicesCount choices programs = (choices ≡ 0) ⊎ ((choices ≡ 1) ⊎ (choices ≡ programs))
+-- none, one for all programs, or one for each
+abbrev pub IsOnceOrEach : (count programs : ℕ) → Type 0
+IsOnceOrEach count programs = (count ≡ 0) ⊎ ((count ≡ 1) ⊎ (count ≡ programs))
 
 pub record HasChoices (rows : List Row) (files : List Text) : Type 0 where
   pub given : texts_of (codes "choices") rows ≡ files
-  pub enough : IsChoicesCount (length files) (length (texts_of (codes "ELF") rows))
+  pub enough : IsOnceOrEach (length files) (length (texts_of (codes "ELF") rows))
+
+-- a guest's name, of so many characters at most
+abbrev pub IsNameWithin : (most : ℕ) → Text → Type 0
+IsNameWithin most text = IsName text × (length text ≤ most)
+
+-- how long a name may be: behind the only one of several guests there is room for their places, which have two digits at most
+abbrev pub longest_name : (names programs : ℕ) → ℕ
+longest_name names programs = if (names == 1) && not (programs == 1) then 30 else 32
+
+pub record HasNames (rows : List Row) (names : List Text) : Type 0 where
+  pub given : texts_of (codes "name") rows ≡ names
+  pub enough : IsOnceOrEach (length names) (length (texts_of (codes "ELF") rows))
+  pub each : AllByRecursion (IsNameWithin (longest_name (length names) (length (texts_of (codes "ELF") rows)))) names
 
 pub record NamesRecording (rows : List Row) (r : Recording) : Type 0 where
   pub store : HasText rows (codes "STORE") r.store.now
@@ -116,8 +135,11 @@ pub record NamesRecording (rows : List Row) (r : Recording) : Type 0 where
   pub every : HasNumberIn 0 4294967295 rows (codes "every") r.every
   pub input : HasOption rows (codes "input") r.input
   pub seed : HasOption rows (codes "seed") r.seed
+  pub names : HasNames rows (map (λ s. s.now) r.names.items)
   pub choices : HasChoices rows (map (λ s. s.now) r.choices.items)
   pub then_is : HasThen rows r.then
+  pub limit : HasNumberIf rows (codes "limit") r.limit
+  pub fail : HasFlag rows (codes "fail") r.fail
   pub progress : HasFlag rows (codes "progress") r.progress
 
 -- one flag of two is there, or none

@@ -14,6 +14,8 @@ use std::alloc::{AllocError, Global};
 pub(crate) enum Argument {
     /// A value that has to be there.
     Needed(&'static str, &'static str),
+    /// A value that may be left out.
+    Allowed(&'static str, &'static str),
     /// Values, one at the least and 16 at most.
     Several(&'static str, &'static str),
     /// An option with a value.
@@ -47,6 +49,9 @@ impl Argument {
                 .required(true)
                 .action(ArgAction::Set)
                 .help(help),
+            Argument::Allowed(name, help) => {
+                Arg::new(alloc, name).action(ArgAction::Set).help(help)
+            }
             Argument::Several(name, help) => Arg::new(alloc, name)
                 .required(true)
                 .num_args(1..=16)

@@ -1,9 +1,9 @@
 //! The commands of the program: their arguments, and what they ask for by the values that the parser found.
 
-ghost use Rattle.std.specs.Prelude.{◌≡◌, IfOk, codes, true};
+ghost use Rattle.std.specs.Prelude.{◌≡◌, ◌↔◌, IfOk, IsTrue, codes, true};
 ghost use Rattle.clap.specs.Words.{is_simple_and_free};
 ghost use Rattle.command_line.specs.Arguments.{IsCommand};
-ghost use Rattle.command_line.specs.Commands.{Asks, IsNameOf, IsQuestionOf, asking_commands, bare_program, commands, program};
+ghost use Rattle.command_line.specs.Commands.{Asks, HasTopic, IsNameOf, IsQuestionOf, asking_commands, bare_program, commands, program};
 ghost use Rattle.command_line.specs.Unread.{Reads};
 ghost use Rattle.command_line.specs.Values.{rows_in};
 
@@ -11,7 +11,7 @@ use crate::arguments::{Argument, Subcommand, with_subcommands};
 use crate::memory::memory;
 use crate::recording::recording;
 use crate::request::{Question, Request};
-use crate::unread::Unread;
+use crate::unread::{Unread, Wanted};
 use crate::values::{address, flag, form, guest, number, place, text, text_or_none, texts};
 use clap::{ArgMatches, Command};
 use std::alloc::{AllocError, Global};
@@ -67,6 +67,11 @@ const SUBCOMMANDS: &[Subcommand] = &[
             ),
             Argument::Optional("seed", "HEX", "the seed of random bytes, 32 digits"),
             Argument::Repeated(
+                "name",
+                "NAME",
+                "the guests' name, once or once for each ELF",
+            ),
+            Argument::Repeated(
                 "choices",
                 "FILE",
                 "the choices of the turns, once or once for each ELF",
@@ -77,14 +82,37 @@ const SUBCOMMANDS: &[Subcommand] = &[
                 "turns",
                 "what follows the choices: turns or none",
             ),
+            Argument::Optional(
+                "limit",
+                "N",
+                "end a guest's recording after so many instructions",
+            ),
+            Argument::Flag(
+                "fail",
+                "end with status 3 if a guest ended otherwise than exited 0",
+            ),
             PROGRESS,
             Argument::Several("ELF", "static RISC-V programs (ELF32, RV32IMA)"),
         ],
     },
     Subcommand {
+        name: "check",
+        about: "tells whether record takes a file as a program",
+        arguments: &[Argument::Needed("ELF", "the file")],
+    },
+    Subcommand {
         name: "list",
         about: "prints a line for each guest",
-        arguments: &[STORE],
+        arguments: &[
+            STORE,
+            Argument::Flag("long", "tell more of each guest, which is replayed for it"),
+            PROGRESS,
+        ],
+    },
+    Subcommand {
+        name: "elf",
+        about: "puts out the program of a guest",
+        arguments: &[STORE, GUEST],
     },
     Subcommand {
         name: "dump",
@@ -97,6 +125,7 @@ const SUBCOMMANDS: &[Subcommand] = &[
                 "trace-events",
                 "print the frames as trace events in JSON, instead",
             ),
+            PROGRESS,
         ],
     },
     Subcommand {
@@ -164,6 +193,11 @@ const SUBCOMMANDS: &[Subcommand] = &[
             PROGRESS,
         ],
     },
+    Subcommand {
+        name: "help",
+        about: "prints help, or that of a command",
+        arguments: &[Argument::Allowed("COMMAND", "the command")],
+    },
 ];
 
 /// The program without its commands.
@@ -187,6 +221,39 @@ pub fn program<'a>(alloc: Global) -> Result<Command<'a>, AllocError>
     with_subcommands(alloc, bare_program(alloc)?, SUBCOMMANDS)
 }
 
+/// Tests whether a command of the program has this name.
+pub(crate) fn is_command(name: &str) -> bool
+    ensures { IsTrue result ↔ IsNameOf name.now commands }
+{
+    SUBCOMMANDS.iter().any(|subcommand| subcommand.name == name)
+}
+
+/// The command of this name by itself, whose usage an error shows; else the program.
+pub(crate) fn command_of<'a>(alloc: Global, name: &str) -> Result<Command<'a>, AllocError> {
+    for subcommand in SUBCOMMANDS {
+        if subcommand.name == name {
+            let shown = format!(in alloc; "rrv {name}")?;
+            return subcommand.for_parser(alloc)?.bin_name(&shown);
+        }
+    }
+    program(alloc)
+}
+
+/// The command of which help is asked for, if one is named.
+fn topic<'a>(values: &ArgMatches<'a>) -> Result<Option<&'a str>, Unread<'a>>
+    ensures { Reads (HasTopic (rows_in values.now)) result }
+{
+    match text_or_none(values, "COMMAND") {
+        Some(name) if is_command(name) => Ok(Some(name)),
+        Some(text) => Err(Unread::Bad {
+            name: "COMMAND",
+            text,
+            wanted: Wanted::Command,
+        }),
+        None => Ok(None),
+    }
+}
+
 /// A command that the parser found: its name, and its values.
 type Found<'m, 'a> = (&'m str, &'m ArgMatches<'a>);
 
@@ -201,12 +268,24 @@ pub(crate) fn request_of<'a>(alloc: Global, found: Found<'_, 'a>) -> Result<Requ
             store: text(values, "STORE")?,
         }),
         "record" => Ok(Request::Record(recording(alloc, values)?)),
+        "help" => Ok(Request::Help {
+            command: topic(values)?,
+        }),
+        "check" => Ok(Request::Check {
+            file: text(values, "ELF")?,
+        }),
         "list" => Ok(Request::List {
             store: text(values, "STORE")?,
+            replays: flag(values, "long"),
+            progress: flag(values, "progress"),
+        }),
+        "elf" => Ok(Request::Elf {
+            guest: guest(values)?,
         }),
         "dump" => Ok(Request::Dump {
             guest: guest(values)?,
             form: form(values)?,
+            progress: flag(values, "progress"),
         }),
         "verify" => Ok(Request::Verify {
             guest: guest(values)?,

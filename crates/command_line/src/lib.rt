@@ -13,7 +13,9 @@
 //! - Numbers: decimal digits, with a plus before them or none, as a number of 64 bits or within the bounds of the argument; an
 //!   address is 1 to 8 hexadecimal digits, with `0x` before them or not. A place is a number or `end`. A range of memory is an
 //!   address, a colon and a length, and none is asked for without a place. Files of choices are none, one, or as many as
-//!   programs. Each value that is refused fits no request.
+//!   programs, and so are names, each of which fits a guest, also with the guest's place behind the only one of several. Each
+//!   value that is refused fits no request.
+//! - `help`: what the parser says where help is asked for.
 //! - `seed`: Ok exactly for 32 hexadecimal digits, with the 16 bytes that they write.
 #![tactic(auto)]
 
@@ -30,5 +32,5 @@ mod values;
 
 pub use commands::program;
 pub use digits::{BadSeed, seed};
-pub use lines::line;
+pub use lines::{help, line};
 pub use request::{DumpForm, GuestOf, MemoryRange, Place, Question, Recording, Request, Then};

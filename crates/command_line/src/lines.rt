@@ -1,12 +1,12 @@
 //! Reading a line of words.
 
-ghost use Rattle.std.specs.Prelude.{◌≡◌, ◌≤◌, [], IfErr, IfOk, IsSomeAnd, OnOk, length, map, true};
+ghost use Rattle.std.specs.Prelude.{◌≡◌, ◌≤◌, [], ◌∷◌, IfErr, IfOk, IsSomeAnd, OnOk, length, map, true};
 ghost use Rattle.clap.specs.declared.error.kind.ErrorKind.{ErrorKind};
 ghost use Rattle.clap.specs.Words.{FailsBy, fault_of, has_subcommand, kind_of, subcommand_of, subcommand_rows_of};
 ghost use Rattle.command_line.specs.Commands.{Asks, program};
-ghost use Rattle.command_line.specs.Lines.{IsRefused, IsWithinLimits};
+ghost use Rattle.command_line.specs.Lines.{IsHelp, IsRefused, IsWithinLimits};
 
-use crate::commands::{program, request_of};
+use crate::commands::{command_of, is_command, program, request_of};
 use crate::request::Request;
 use crate::unread::Unread;
 use clap::error::ErrorKind as LineFault;
@@ -23,22 +23,81 @@ fn found<'a, S: AsStr>(alloc: Global, words: &'a [S]) -> Result<ArgMatches<'a>, 
     program(alloc)?.try_get_matches_from(words)
 }
 
-/// The error that tells a bad value.
-fn bad_value(alloc: Global, unread: &Unread<'_>) -> Result<Error, AllocError>
+/// The error that tells a bad value of a command, with the usage of that.
+fn bad_value(alloc: Global, command: &str, unread: &Unread<'_>) -> Result<Error, AllocError>
     ensures { IfOk result (λ e. kind_of e ≡ ErrorKind.ValueValidation) }
 {
     let message = format!(in alloc; "{unread}")?;
-    program(alloc)?.error(LineFault::ValueValidation, &message)
+    command_of(alloc, command)?.error(LineFault::ValueValidation, &message)
+}
+
+/// The first digit of a word that writes a number below 0.
+fn digit_below_zero(word: &str) -> Option<char> {
+    let first = word.strip_prefix("-")?.chars().next()?;
+    if first.is_ascii_digit() {
+        Some(first)
+    } else {
+        None
+    }
+}
+
+/// The parser's error. A number below 0 it takes for an option, and advises to pass it as a value, which no value can be: so that is told
+/// by the same kind of error without the advice.
+fn advised<S: AsStr>(alloc: Global, words: &[S], error: Error) -> Result<Error, AllocError>
+    ensures { IfOk result (λ e. kind_of e ≡ kind_of error) }
+{
+    let Some(command) = words.first() else {
+        return Ok(error);
+    };
+    if error.kind() != LineFault::UnknownArgument {
+        return Ok(error);
+    }
+    let text = format!(in alloc; "{error}")?;
+    for word in words {
+        if let Some(digit) = digit_below_zero(word.as_str()) {
+            let message = format!(in alloc; "unexpected argument '-{digit}' found")?;
+            if text.contains(message.as_str()) {
+                let told = format!(in alloc; "{message}: no number is below 0")?;
+                return command_of(alloc, command.as_str())?.error(
+                    LineFault::UnknownArgument,
+                    &told,
+                );
+            }
+        }
+    }
+    Ok(error)
+}
+
+/// The help of the program, or of a command, as the parser has it where it is asked for by `--help`.
+pub fn help(alloc: Global, command: Option<&str>) -> Result<Error, AllocError>
+    ensures { IfOk result (λ e. IsHelp (kind_of e)) }
+{
+    match command {
+        Some(name) if is_command(name) => asked_help(alloc, &[name, "--help"]),
+        _ => asked_help(alloc, &["--help"]),
+    }
+}
+
+/// The help for which words ask.
+fn asked_help(alloc: Global, words: &[&str]) -> Result<Error, AllocError>
+    requires { fault_of program (map (λ s. s.now) words.now) ≡ ErrorKind.DisplayHelp ∷ [] }
+    ensures { IfOk result (λ e. IsHelp (kind_of e)) }
+{
+    match found(alloc, words) {
+        Ok(_) => unreachable!(),
+        Err(error) => Ok(error),
+    }
 }
 
 /// What a line of words asks for, which are those after the program's name.
 ///
 /// No word at all asks for the demonstration. A word that the command line doesn't have, or lacks, and a call for help or the
-/// version, are the parser's error, whose text says so. So is a value that its argument can't have: GUEST, N and the places FROM,
-/// T and AT are decimal and have 64 bits, or a place is `end`; `--quantum` lies from 64 to 1,048,576, `--every` from 0 to
-/// 4,294,967,295; ADDR has 1 to 8 hexadecimal digits, with `0x` before them or not, and LEN lies from 1 to 65,536; `--then` is
-/// `turns` or `none`. So are `--choices` given neither once nor once for each program, `replay` with `--memory` and no `--at`, and `dump` with both
-/// `--places` and `--trace-events`.
+/// version, are the parser's error, whose text says so. So is a value that its argument can't have: GUEST, N and the places
+/// FROM, T and AT are decimal and have 64 bits, or a place is `end`; `--quantum` lies from 64 to 1,048,576, `--every` from 0 to
+/// 4,294,967,295; `--limit` has 64 bits; ADDR has 1 to 8 hexadecimal digits, with `0x` before them or not, and LEN lies from 1
+/// to 65,536; `--then` is `turns` or `none`; a name is 1 to 32 visible characters of ASCII, fewer by two behind which places
+/// stand. So are `--choices` and `--name` given neither once nor once for each program, `replay` with `--memory` and no `--at`,
+/// and `dump` with both `--places` and `--trace-events`.
 pub fn line<'a, S: AsStr>(alloc: Global, words: &'a [S]) -> Result<Request<'a>, Error>
     ensures none { length words.now ≡ 0 → result ≡ Ok Request.Demonstration }
     ensures asked { 1 ≤ length words.now
@@ -50,13 +109,16 @@ pub fn line<'a, S: AsStr>(alloc: Global, words: &'a [S]) -> Result<Request<'a>, 
     if words.is_empty() {
         return Ok(Request::Demonstration);
     }
-    let matches = found(alloc, words)?;
+    let matches = match found(alloc, words) {
+        Ok(matches) => matches,
+        Err(error) => return Err(advised(alloc, words, error)?),
+    };
     let Some(command) = matches.subcommand() else {
         unreachable!()
     };
     match request_of(alloc, command) {
         Ok(request) => Ok(request),
         Err(Unread::Memory) => Err(Error::from(AllocError)),
-        Err(bad) => Err(bad_value(alloc, &bad)?),
+        Err(bad) => Err(bad_value(alloc, command.0, &bad)?),
     }
 }

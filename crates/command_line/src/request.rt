@@ -7,20 +7,35 @@ use std::alloc::Global;
 pub enum Request<'a> {
     /// No word: the program records a small guest of its own.
     Demonstration,
+    /// `help COMMAND`: prints the help of a command, or that of all.
+    Help {
+        command: Option<&'a str>,
+    },
     /// `new STORE`: makes an empty store in a new file.
     New {
         store: &'a str,
     },
     /// `record STORE ELF..`: records programs.
     Record(Recording<'a>),
-    /// `list STORE`: a line for each guest.
+    /// `check ELF`: tells whether `record` takes a file as a program.
+    Check {
+        file: &'a str,
+    },
+    /// `list STORE`: a line for each guest. `replays`: each is replayed, and more is told of it.
     List {
         store: &'a str,
+        replays: bool,
+        progress: bool,
+    },
+    /// `elf STORE GUEST`: puts out the program that a guest was recorded from.
+    Elf {
+        guest: GuestOf<'a>,
     },
     /// `dump STORE GUEST`: prints the records of a guest.
     Dump {
         guest: GuestOf<'a>,
         form: DumpForm,
+        progress: bool,
     },
     /// `verify STORE GUEST`: replays a guest's records and compares. `long`: it tells more of the guest's end.
     Verify {
@@ -127,8 +142,14 @@ pub struct Recording<'a> {
     pub input: Option<&'a str>,
     /// The seed of random bytes, as it was given.
     pub seed: Option<&'a str>,
+    /// The guests' names: none, one for all programs, behind which their places are to stand, or one for each.
+    pub names: Vec<&'a str>,
     /// The files of choices: none, one for all programs, or one for each.
     pub choices: Vec<&'a str>,
     pub then: Then,
+    /// How many instructions of a guest are recorded, unless it ends before.
+    pub limit: Option<u64>,
+    /// Whether the status is to tell that a guest ended otherwise than by an exit with 0.
+    pub fail: bool,
     pub progress: bool,
 }

@@ -25,9 +25,10 @@ pub(crate) enum Unread<'a> {
     /// `--memory` is given, and no place of which it is to be printed.
     #[error("--memory needs --at")]
     MemoryAlone,
-    /// So many files of choices are given for so many programs.
-    #[error("--choices is given {count} times for {programs} programs: give it once, or once for each")]
-    BadChoices {
+    /// The option is given so often for so many programs.
+    #[error("--{name} is given {count} times for {programs} programs: give it once, or once for each")]
+    BadCount {
+        name: &'a str,
         count: usize,
         programs: usize,
     },
@@ -50,6 +51,10 @@ pub(crate) enum Wanted {
     Place,
     /// The bytes of memory that are to be printed.
     Range,
+    /// The name of a command.
+    Command,
+    /// A name, of so many characters at most.
+    Name { most: usize },
     /// One of the two that `--then` can have.
     Then,
 }
@@ -63,6 +68,8 @@ impl Display for Wanted {
             Wanted::Range => f.write_str(
                 "ADDR:LEN, with 1 to 8 hexadecimal digits and a length from 1 to 65536",
             ),
+            Wanted::Command => f.write_str("a command"),
+            Wanted::Name { most } => write!(f, "1 to {most} characters from ! to ~"),
             Wanted::Then => f.write_str("turns or none"),
         }
     }

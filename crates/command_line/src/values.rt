@@ -3,8 +3,8 @@
 ghost use Rattle.std.specs.Prelude.{◌≡◌, map, option_map};
 ghost use Rattle.clap.specs.Words.{all_of};
 ghost use Rattle.command_line.specs.Unread.{Reads, ReadsAs};
-ghost use Rattle.command_line.specs.Values.{HasAddress, HasFlag, HasForm, HasNumberIn, HasOption, HasPlace, HasText, HasThen, NamesGuest};
-ghost use Rattle.command_line.specs.Values.{rows_in, texts_of};
+ghost use Rattle.command_line.specs.Values.{HasAddress, HasFlag, HasForm, HasNumberIf, HasNumberIn, HasOption, HasPlace, HasText, HasThen};
+ghost use Rattle.command_line.specs.Values.{NamesGuest, rows_in, texts_of};
 
 use crate::numbers::{address_in, number_in, place_in};
 use crate::request::{DumpForm, GuestOf, Place, Then};
@@ -63,6 +63,19 @@ pub(crate) fn number<'a>(
             wanted: Wanted::Number { least, most },
         }),
     }
+}
+
+/// The number of an option, of 64 bits, where it is there.
+pub(crate) fn number_or_none<'a>(
+    values: &ArgMatches<'a>,
+    name: &'a str,
+) -> Result<Option<u64>, Unread<'a>>
+    ensures { Reads (HasNumberIf (rows_in values.now) name.now) result }
+{
+    if text_or_none(values, name).is_none() {
+        return Ok(None);
+    }
+    Ok(Some(number(values, name, 0, u64::MAX)?))
 }
 
 /// The place of an argument that has to be there.

@@ -1,19 +1,19 @@
 -- The jobs of programs, program by program.
 use Rattle.std.proofs.Common.{◌≡◌, ℕ, ◌+◌, List, [], ◌∷◌, ◌++◌, length, arith, subst}
 use Rattle.host.specs.Seen.{Seen}
-use Rattle.choices.specs.Schedule.{Plan}
 use Rattle.session.specs.declared.job.Job.{Job}
+use Rattle.commands.specs.Limits.{Limit}
 use Rattle.commands.specs.Jobs.{AreJobs, IsJob, Terms}
 
 module _ {S : Type 0} (terms : Terms) where
-  pub as_many : (place : ℕ) (files : List (List ℕ)) (jobs : List (Job Plan Seen S)) → AreJobs terms place files jobs →
+  pub as_many : (place : ℕ) (files : List (List ℕ)) (jobs : List (Job Limit Seen S)) → AreJobs terms place files jobs →
       length jobs ≡ length files
   as_many place [] [] are = omega arith
   as_many place [] (job ∷ jobs) are = absurd are
   as_many place (file ∷ files) [] are = absurd are
   as_many place (file ∷ files) (job ∷ jobs) are = let e = as_many (place + 1) files jobs are.1 in omega (arith, e)
 
-  pub jobs_on : (place at : ℕ) (files : List (List ℕ)) (jobs : List (Job Plan Seen S)) (file : List ℕ) (job : Job Plan Seen S)
+  pub jobs_on : (place at : ℕ) (files : List (List ℕ)) (jobs : List (Job Limit Seen S)) (file : List ℕ) (job : Job Limit Seen S)
       → AreJobs terms place files jobs → at ≡ place + length jobs → IsJob terms at file job →
       AreJobs terms place (files ++ file ∷ []) (jobs ++ job ∷ [])
   jobs_on place at [] [] file job are there is =

@@ -9,3 +9,5 @@ pub mod ChoiceLists
 pub mod TurnTexts
 pub mod Lengths
 pub mod Recorded
+pub mod LongTexts
+pub mod NameLists

@@ -5,7 +5,6 @@ use Rattle.rrv_model.specs.declared.record.Record.{Record}
 use Rattle.rrv_model.specs.Recovered.{next_guest, of_guest}
 use Rattle.rrv_model.proofs.RecoveredLaws.{of_guest-append}
 use Rattle.host.specs.Seen.{Seen}
-use Rattle.choices.specs.Schedule.{Plan}
 use Rattle.recorder.specs.Recorded.{opening_of}
 use Rattle.trace_log.specs.Kept.{LogValue}
 use Rattle.session.specs.declared.job.Job.{Job}
@@ -13,6 +12,7 @@ use Rattle.session.specs.declared.report.GuestReport.{GuestReport}
 use Rattle.trace_disk.specs.Devices.{Device}
 use Rattle.session.specs.Sessions.{AreReported, HasRun, IsLeft, IsReported}
 use Rattle.session.specs.Works.{Choosers, IsRecordedFrom, Sinks, opening_for}
+use Rattle.commands.specs.Limits.{Limit}
 use Rattle.commands.specs.Jobs.{AreJobs, IsJob, Terms}
 use Rattle.commands.specs.Recorded.{AreKept, HasRecorded, IsKept, opening_at}
 
@@ -31,12 +31,12 @@ behind_earlier guest earlier committed above =
     sym (of_guest-append guest earlier committed
     ∙ ap (λ (l : List Record). l ++ of_guest guest committed) (none_earlier guest earlier above))
 
-module _ {S D : Type 0} (choosers : Choosers Plan) (sinks : Sinks S) (device : Device D) (terms : Terms) where
-  opening_is : (place number : ℕ) (file : List ℕ) (job : Job Plan Seen S) → IsJob terms place file job →
+module _ {S D : Type 0} (choosers : Choosers Limit) (sinks : Sinks S) (device : Device D) (terms : Terms) where
+  opening_is : (place number : ℕ) (file : List ℕ) (job : Job Limit Seen S) → IsJob terms place file job →
       opening_for number job ≡ opening_at terms place number file
   opening_is place number file job is = λ i. opening_of number (is.file_is i) (is.name_is i) (is.random_is i)
 
-  one_kept : (place number : ℕ) (file : List ℕ) (earlier committed : List Record) (job new : Job Plan Seen S) (report : GuestReport) →
+  one_kept : (place number : ℕ) (file : List ℕ) (earlier committed : List Record) (job new : Job Limit Seen S) (report : GuestReport) →
       next_guest earlier ≤ number
       → IsJob terms place file job → IsReported choosers sinks number committed job new report →
       IsKept terms place number file (earlier ++ committed) report
@@ -51,7 +51,7 @@ module _ {S D : Type 0} (choosers : Choosers Plan) (sinks : Sinks S) (device : D
             { number = r.number_is i; records = (r.count ∙ ap (λ (l : List Record). length l) same) i; end = whole.end_is i };
       }
 
-  all_kept : (place number : ℕ) (files : List (List ℕ)) (earlier committed : List Record) (jobs jobs' : List (Job Plan Seen S))
+  all_kept : (place number : ℕ) (files : List (List ℕ)) (earlier committed : List Record) (jobs jobs' : List (Job Limit Seen S))
       (reports : List GuestReport) → next_guest earlier ≤ number
       → AreJobs terms place files jobs → AreReported choosers sinks committed number jobs jobs' reports →
       AreKept terms place number files (earlier ++ committed) reports
@@ -67,7 +67,7 @@ module _ {S D : Type 0} (choosers : Choosers Plan) (sinks : Sinks S) (device : D
     all_kept (place + 1) (number + 1) files earlier committed jobs news reports (omega (arith, above)) are.1 told.1,
   )
 
-  pub has_recorded : (files : List (List ℕ)) (committed : List Record) (log log' : LogValue D) (jobs jobs' : List (Job Plan Seen S))
+  pub has_recorded : (files : List (List ℕ)) (committed : List Record) (log log' : LogValue D) (jobs jobs' : List (Job Limit Seen S))
       (reports : List GuestReport)
       → HasRun choosers sinks device committed log log' jobs jobs' → log'.is_broken ≡ false → AreJobs terms 0 files jobs
       → AreReported choosers sinks committed log.next_guest jobs jobs' reports

@@ -1,8 +1,14 @@
 -- Exit statuses.
-use Rattle.std.proofs.Common.{◌≢◌, refl}
+use Rattle.std.proofs.Common.{◌≡◌, ◌≢◌, ◌≤◌, inl, inr, ℕ, Bool, false, true, List, arith, refl, subst}
 use Rattle.clap.specs.declared.error.kind.ErrorKind.{ErrorKind}
 use Rattle.clap.specs.declared.error.kind.ErrorKind.TheVariants as kinds
-use Rattle.commands.specs.Status.{IsStatusOf}
+use Rattle.command_line.specs.declared.request.Recording.{Recording}
+use Rattle.command_line.specs.declared.request.Request.{Request}
+use Rattle.command_line.specs.declared.request.Request.TheVariants as requests
+use Rattle.session.specs.declared.report.GuestReport.{GuestReport}
+use Rattle.commands.specs.declared.outcome.Outcome.{Outcome}
+use Rattle.commands.specs.declared.outcome.Outcome.TheVariants as outcomes
+use Rattle.commands.specs.Status.{IsOutcomeOf, IsStatusFor, IsStatusOf, TellsFailed, outcome_of}
 
 pub mistake_status : (kind : ErrorKind) → kind ≢ kinds.OutOfMemory → kind ≢ kinds.DisplayHelp → kind ≢ kinds.DisplayVersion →
     IsStatusOf kind 2
@@ -23,3 +29,26 @@ mistake_status kinds.DisplayVersion memory help version = absurd (version refl)
 mistake_status kinds.Io memory help version = refl
 mistake_status kinds.Format memory help version = refl
 mistake_status kinds.OutOfMemory memory help version = absurd (memory refl)
+
+-- ---- what a recording came to
+
+-- that a guest failed is told only where that is asked for
+pub only_if_told : (tells : Bool) (reports : List GuestReport) → outcome_of tells reports ≡ outcomes.GuestFailed → tells ≡ true
+only_if_told false reports is = absurd cc
+only_if_told true reports is = refl
+
+pub of_recording : (recording : Recording) (outcome : Outcome) → (outcome ≡ outcomes.GuestFailed → recording.fail ≡ true) →
+    IsOutcomeOf (requests.Record recording) outcome
+of_recording recording outcomes.Done told = tt
+of_recording recording outcomes.GuestFailed told = told refl
+
+pub status_for : (request : Request) (outcome : Outcome) (status : ℕ) → (outcome ≡ outcomes.Done → status ≡ 0) →
+    (outcome ≡ outcomes.GuestFailed → status ≡ 3) → IsOutcomeOf request outcome → IsStatusFor request status
+status_for request outcomes.Done status done failed is = inl (done refl)
+status_for request outcomes.GuestFailed status done failed is = inr (inr (failed refl, is))
+
+-- no word asks for the demonstration, which has no guest that fails
+pub of_no_word : (request : Request) (status : ℕ) → request ≡ requests.Demonstration → IsStatusFor request status → status ≤ 1
+of_no_word request status is (inl done) = omega (arith, done)
+of_no_word request status is (inr (inl refused)) = omega (arith, refused)
+of_no_word request status is (inr (inr told)) = absurd (subst TellsFailed is told.1)

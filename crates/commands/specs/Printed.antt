@@ -30,6 +30,17 @@ name_in name (items.Opening o ∷ rest) = name_in o.name rest
 name_in name (items.Frame f ∷ rest) = name_in name rest
 name_in name (items.Part p ∷ rest) = name_in name rest
 
+-- the file of an opening; no other item has one
+abbrev pub file_in : Item → List ℕ
+file_in (items.Opening o) = o.elf
+file_in (items.Frame f) = []
+file_in (items.Part p) = []
+
+-- the file in the first record, which is a guest's opening
+abbrev pub first_file : List Record → List ℕ
+first_file [] = []
+first_file (r ∷ records) = file_in r.item
+
 -- the line of a guest of this name with these records
 abbrev pub named_line : (guest : ℕ) → (name : List ℕ) → List Record → List ℕ
 named_line guest name records =
@@ -38,10 +49,6 @@ named_line guest name records =
 -- the line of a guest with these records
 abbrev pub guest_line : ℕ → List Record → List ℕ
 guest_line guest records = named_line guest (name_in [] (items_of records)) records
-
--- the name of the guest at a place of the line
-abbrev pub name_at : ℕ → List ℕ
-name_at place = codes "g" ++ decimal place
 
 -- the lines of all guests with records among these, by rising number
 pub record IsList (records : List Record) (text : List ℕ) : Type 0 where

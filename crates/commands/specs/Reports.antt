@@ -8,7 +8,7 @@ use Rattle.guest_calls.specs.Guest.{GuestValue, state_of}
 use Rattle.session.specs.declared.report.GuestReport.{GuestReport}
 use Rattle.end_text.specs.Ends.{end_lines}
 use Rattle.trace_text.specs.Lines.{report_line}
-use Rattle.commands.specs.Printed.{name_at, with_newline}
+use Rattle.commands.specs.Printed.{with_newline}
 
 -- a guest with so many live threads exited when the last of them did, and not by `exit_group`
 abbrev pub has_left : Option GuestEnd → (live : ℕ) → Bool
@@ -19,13 +19,13 @@ has_left _ live = false
 abbrev pub left_lines : (place last : ℕ) → State → List ℕ
 left_lines place last s = if has_left s.ended (len s.threads) then [] else end_lines place last s
 
--- the report of the guest at a place of the line, whose thread of tid `last` ran last
-abbrev pub guest_told : ℕ → GuestReport → GuestValue → (last : ℕ) → List ℕ
-guest_told place report guest last =
-    with_newline (report_line (name_at place) report.end report.records) ++ left_lines guest.ran last (state_of guest)
+-- the report of the guest of this name, whose thread of tid `last` ran last
+abbrev pub guest_told : (name : List ℕ) → GuestReport → GuestValue → (last : ℕ) → List ℕ
+guest_told name report guest last =
+    with_newline (report_line name report.end report.records) ++ left_lines guest.ran last (state_of guest)
 
--- those of all guests, from the one at this place on
-abbrev pub guests_told : ℕ → List GuestReport → List GuestValue → (lasts : List ℕ) → List ℕ
-guests_told place (report ∷ reports) (guest ∷ guests) (last ∷ lasts) =
-    guest_told place report guest last ++ guests_told (place + 1) reports guests lasts
-guests_told place _ _ _ = []
+-- those of all guests, from the one at this place on, who are named so by their places
+abbrev pub guests_told : (naming : ℕ → List ℕ) → ℕ → List GuestReport → List GuestValue → (lasts : List ℕ) → List ℕ
+guests_told naming place (report ∷ reports) (guest ∷ guests) (last ∷ lasts) =
+    guest_told (naming place) report guest last ++ guests_told naming (place + 1) reports guests lasts
+guests_told naming place _ _ _ = []

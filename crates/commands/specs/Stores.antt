@@ -1,6 +1,5 @@
 -- What is found of a guest in a store, and why it isn't.
-use Rattle.std.specs.Prelude.{◌≡◌, ◌⊎◌, ℕ, ◌+◌, ◌<◌, ◌≤◌, List, [], length, Option, IfSome, Result, IfErr, IfOk, OnOk, Vec}
-use Rattle.std.specs.declared.alloc.Global.{Global}
+use Rattle.std.specs.Prelude.{◌≡◌, ◌⊎◌, ℕ, ◌+◌, ◌<◌, ◌≤◌, List, [], length, Result, IfErr, IfOk, OnOk}
 use Rattle.choices.specs.ChoiceText.{IsFirstBad}
 use Rattle.rrv_model.specs.declared.record.Record.{Record}
 use Rattle.recover.specs.declared.fault.OpenFault.{OpenFault}
@@ -88,9 +87,3 @@ abbrev pub RefusesChoices : List ℕ → Refusal → Type 0
 RefusesChoices text refusals.Memory = Unit {0}
 RefusesChoices text (refusals.BadChoices file line) = IsFirstBad text line
 RefusesChoices text _ = ⊥
-
--- all bytes that a reader has are read, where they are known, and so many at most
-pub record ReadsWhole (remaining : Option (List ℕ)) (most : ℕ) (result : Result (Vec ℕ Global) Refusal) : Type 0 where
-  pub whole : IfOk result (λ bytes. IfSome remaining (λ all. bytes.items ≡ all))
-  pub within : IfOk result (λ bytes. length bytes.items ≤ most)
-  pub refused : IfErr result (λ e. (e ≡ refusals.Memory) ⊎ (e ≡ refusals.CannotReadFile))

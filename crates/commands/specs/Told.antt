@@ -16,6 +16,8 @@ use Rattle.session.specs.declared.fault.SessionFault.{SessionFault}
 use Rattle.session.specs.declared.fault.SessionFault.TheVariants as session_faults
 use Rattle.trace_disk.specs.declared.file_disk.CreateFault.{CreateFault}
 use Rattle.trace_disk.specs.declared.file_disk.CreateFault.TheVariants as create_faults
+use Rattle.commands.specs.declared.file_fault.FileFault.{FileFault}
+use Rattle.commands.specs.declared.file_fault.FileFault.TheVariants as file_faults
 use Rattle.commands.specs.declared.refusal.Refusal.{Refusal}
 use Rattle.commands.specs.declared.refusal.Refusal.TheVariants as refusals
 
@@ -42,6 +44,11 @@ abbrev pub output_told : OutputFault → Refusal
 output_told output_faults.SinkFailed = refusals.OutputFailed
 output_told output_faults.Memory = refusals.Memory
 
+-- of output whose reader went away
+abbrev pub gone_told : Refusal → Refusal
+gone_told refusals.OutputFailed = refusals.ReaderGone
+gone_told refusal = refusal
+
 -- of a guest's record
 abbrev pub read_told : ℕ → ReadFault → Refusal
 read_told index read_faults.DeviceFailed = refusals.DeviceFailed
@@ -56,3 +63,10 @@ verify_told fault = refusals.Verify fault
 abbrev pub elf_told : ℕ → ElfFault → Refusal
 elf_told guest elf_faults.Memory = refusals.Memory
 elf_told guest fault = refusals.Elf guest fault
+
+-- of a file of a recording; if it is a program, then of this guest
+abbrev pub file_told : ℕ → FileFault → Refusal
+file_told guest (file_faults.Unread kind) = refusals.CannotReadFile
+file_told guest (file_faults.TooLong most) = refusals.CannotReadFile
+file_told guest (file_faults.NoProgram fault target) = elf_told guest fault
+file_told guest file_faults.Memory = refusals.Memory

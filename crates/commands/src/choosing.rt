@@ -6,14 +6,13 @@ ghost use Rattle.choices.specs.ChoiceText.{text_says};
 ghost use Rattle.choices.specs.Recorded.{choices_text, ended_line, line_of};
 ghost use Rattle.commands.specs.Stores.{RefusesChoices};
 
-use crate::files::read_whole;
+use crate::files::read_file;
 use crate::printing::{OutputFailed, finish, in_blocks, print_line};
 use crate::refusal::Refusal;
 use choices::{BadChoices, choices_in, line_of};
 use replayer::Verified;
 use rrv_model::record::{Choice, Frame};
 use std::alloc::Global;
-use std::fs;
 use std::io::Write;
 use std::rt::Files;
 
@@ -35,23 +34,15 @@ fn choices_of(alloc: Global, text: &[u8], file: &str) -> Result<Vec<Choice>, Ref
     }
 }
 
-/// The bytes of a file of choices; `-` is standard input.
-fn text_in<R: Files + Input + AllocGlobal>(rt: &R, path: &str) -> Result<Vec<u8>, Refusal> {
-    if path == "-" {
-        return read_whole(rt.alloc(), rt.reader(), MAX_CHOICES);
-    }
-    let file = fs::open(rt, path).map_err(|error| Refusal::of_read(&error))?;
-    read_whole(rt.alloc(), file, MAX_CHOICES)
-}
-
-/// The choices in the files of a line, in its order.
+/// The choices in the files of a line, in its order. Why a file can't be read is told in words too where `in_words` says so.
 pub(crate) fn choices_in_files<R: Files + Input + AllocGlobal>(
     rt: &R,
     paths: &[&str],
+    in_words: bool,
 ) -> Result<Vec<Vec<Choice>>, Refusal> {
     let mut lists = Vec::new(rt.alloc());
     for path in paths {
-        let text = text_in(rt, path)?;
+        let text = read_file(rt, path, MAX_CHOICES, in_words)?;
         lists.push(choices_of(rt.alloc(), &text, path)?)?;
     }
     Ok(lists)

@@ -3,13 +3,14 @@
 use crate::exit_five::EXIT_FIVE;
 use crate::files::image_of;
 use crate::guests::dump;
-use crate::jobs::Shared;
+use crate::names::Names;
 use crate::record::record_images;
 use crate::refusal::Refusal;
 use crate::replaying::tell;
+use crate::shared::Shared;
 use crate::store::{Store, opened};
 use crate::verifying::verified_in;
-use command_line::{DumpForm, Then};
+use command_line::Then;
 use elf_load::Image;
 use replayer::VerifiedEnd;
 use std::alloc::Global;
@@ -27,7 +28,8 @@ const QUANTUM: u32 = 50_000;
 /// The programs of the demonstration: one of three instructions.
 fn images(alloc: Global) -> Result<Vec<Image>, Refusal> {
     let mut images = Vec::with_capacity(alloc, 1)?;
-    images.push_reserved(image_of(alloc, 0, &EXIT_FIVE)?);
+    let image = image_of(alloc, &EXIT_FIVE).map_err(|fault| Refusal::of_file(0, fault))?;
+    images.push_reserved(image);
     Ok(images)
 }
 
@@ -47,10 +49,17 @@ fn recorded<
         start,
         input: &[],
         seed: [0; 16],
+        names: Names {
+            given: &[],
+            count: 1,
+        },
         quantum: QUANTUM,
         every: 0,
         choices: &[],
         then: Then::Turns,
+        limit: None,
+        counts: &[],
+        is_one_place: false,
     };
     let line = AtomicBool::new(false);
     let (log, _) = record_images(rt, log, &shared, images, out, err, &line, false)?;
@@ -62,14 +71,14 @@ fn recorded<
 }
 
 /// Prints a guest's records, and how it ends once they are verified.
-fn shown<R: AllocGlobal + Clock, O: Write, E: Write + Drop>(
+fn shown<R: AllocGlobal + Threads + Sync + Clock, O: Write, E: Write + Drop>(
     rt: &R,
     store: Store<MemDisk>,
     out: &mut O,
     err: &mut E,
 ) -> Result<(), Refusal> {
     let mut store = store;
-    dump(rt.alloc(), &mut store, 0, DumpForm::Lines, out)?;
+    dump(rt.alloc(), &mut store, 0, out)?;
     let end: VerifiedEnd = verified_in(rt, rt.alloc(), store, 0, false, err)?;
     tell(rt.alloc(), &end, false, out)
 }

@@ -1,6 +1,7 @@
 //! The guests that ended, of a recording that the output of another stopped.
 
-use crate::printing::{finish, in_blocks};
+use crate::names::{Names, name_of};
+use crate::printing::{end_open_line, finish, in_blocks};
 use crate::refusal::Refusal;
 use crate::reports::print_report;
 use crate::store::{Store, opened};
@@ -14,17 +15,19 @@ use session::{GuestReport, Job, SessionFault};
 use std::alloc::Global;
 use std::io;
 use std::io::Write;
+use std::thread::Threads;
 use std::time::Clock;
 use trace_disk::Disk;
 use trace_log::Log;
 
 /// What the output of a guest leaves that stopped its recording: the log, the number of the first guest, and of each guest whether all
-/// of its output was taken.
+/// of its output was taken; and whether the guests' text left a line open.
 #[derive(Drop)]
 pub(crate) struct Stopped<D: Disk> {
     log: Log<D>,
     first: u32,
     taken: Vec<bool>,
+    is_open: bool,
 }
 
 impl<D: Disk + Drop> Stopped<D> {
@@ -34,12 +37,18 @@ impl<D: Disk + Drop> Stopped<D> {
         log: Log<D>,
         first: u32,
         jobs: &[Job<C, O, S>],
+        is_open: bool,
     ) -> Result<Self, Refusal> {
         let taken = jobs
             .iter()
             .map(|job| job.sink.failures() == 0)
             .collect(alloc)?;
-        Ok(Stopped { log, first, taken })
+        Ok(Stopped {
+            log,
+            first,
+            taken,
+            is_open,
+        })
     }
 }
 
@@ -73,37 +82,45 @@ impl<D: Disk> From<SessionFault> for Unreported<D> {
 }
 
 /// Prints how each guest ended whose output was taken, in blocks. It is replayed for this, from the store.
-pub(crate) fn tell_ended<R: Clock, D: Disk + Drop, E: Write>(
+pub(crate) fn tell_ended<R: Threads + Sync + Clock, D: Disk + Drop, E: Write>(
     rt: &R,
     alloc: Global,
+    names: Names<'_>,
     stopped: Stopped<D>,
     err: &mut E,
 ) -> Result<(), Refusal> {
-    let Stopped { log, first, taken } = stopped;
+    let Stopped {
+        log,
+        first,
+        taken,
+        is_open,
+    } = stopped;
     let (log, lists) = opened(alloc, log.close())?;
     let mut store = Store {
         lists,
         disk: log.close(),
     };
     let mut err = in_blocks(alloc, err)?;
+    end_open_line(is_open, &mut err)?;
     for place in 0..taken.len() {
         if taken[place] {
-            store = print_ended(rt, alloc, store, first, place, &mut err)?;
+            let name = name_of(alloc, names, place)?;
+            let guest = first.saturating_add(u32::try_from(place).unwrap_or(u32::MAX));
+            store = print_ended(rt, alloc, store, guest, name.as_bytes(), &mut err)?;
         }
     }
     finish(&mut err)
 }
 
-/// Prints how the guest at this place of the recording ended, if it did and can be replayed, and hands the store back.
-fn print_ended<R: Clock, D: Disk + Drop, W: Write>(
+/// Prints how the guest of this number and name ended, if it did and can be replayed, and hands the store back.
+fn print_ended<R: Threads + Sync + Clock, D: Disk + Drop, W: Write>(
     rt: &R,
     alloc: Global,
     store: Store<D>,
-    first: u32,
-    place: usize,
+    guest: u32,
+    name: &[u8],
     out: &mut W,
 ) -> Result<Store<D>, Refusal> {
-    let guest = first.saturating_add(u32::try_from(place).unwrap_or(u32::MAX));
     let mut source = StoredGuest::new(store, guest);
     let records = source.lists.len(guest);
     let all = source.extent();
@@ -122,7 +139,7 @@ fn print_ended<R: Clock, D: Disk + Drop, W: Write>(
             end: end.guest.ended(),
         };
         if report.end.is_some() {
-            print_report(alloc, place, &report, &end.guest, end.last, out)?;
+            print_report(name, &report, &end.guest, end.last, out)?;
         }
     }
     let StoredGuest { lists, disk, .. } = source;

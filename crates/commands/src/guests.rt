@@ -11,8 +11,6 @@ ghost use Rattle.commands.specs.Stores.{ReadsStore, RefusesDump, RefusesList};
 use crate::printing::{OutputFailed, finish, in_blocks, print_line};
 use crate::refusal::Refusal;
 use crate::store::{Store, guest_in, record_in};
-use crate::turns::print_turns;
-use command_line::DumpForm;
 use recover::Lists;
 use std::alloc::Global;
 use std::io::Write;
@@ -20,7 +18,7 @@ use trace_disk::Disk;
 use trace_text::{ListLine, RecordLine};
 
 /// The name in a guest's opening: none where it has no records.
-fn name_of<D: Disk>(
+pub(crate) fn name_of<D: Disk>(
     alloc: Global,
     lists: &Lists,
     disk: &mut D,
@@ -108,20 +106,14 @@ pub(crate) fn list<D: Disk + Drop, O: Write>(
     finish(&mut out)
 }
 
-/// Prints the records of a guest in blocks. Where that takes a replay, those before a record that is refused are printed.
+/// Prints a line for each record of a guest in blocks.
 pub(crate) fn dump<D: Disk + Drop, O: Write>(
     alloc: Global,
     store: &mut Store<D>,
     number: u64,
-    form: DumpForm,
     out: &mut O,
 ) -> Result<(), Refusal> {
     let mut out = in_blocks(alloc, out)?;
-    match form {
-        DumpForm::Lines => print_records(alloc, &store.lists, &mut store.disk, number, &mut out)?,
-        DumpForm::Places | DumpForm::TraceEvents => {
-            print_turns(alloc, &store.lists, &mut store.disk, number, form, &mut out)?;
-        }
-    }
+    print_records(alloc, &store.lists, &mut store.disk, number, &mut out)?;
     finish(&mut out)
 }

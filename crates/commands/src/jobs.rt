@@ -1,12 +1,13 @@
 //! The jobs of a recording: one for each program of the line.
 
 ghost use Rattle.std.specs.Prelude.{◌≡◌, ◌≢◌, ◌^◌, ◌≤◌, IfErr, IfOk, length};
-ghost use Rattle.serial_sched.specs.Slices.{IsQuantum};
-ghost use Rattle.commands.specs.Jobs.{AreJobs, IsJob, choices_at, list_at, lists_of, plan_at, terms_of};
-ghost use Rattle.commands.specs.Printed.{name_at};
+ghost use Rattle.commands.specs.Jobs.{AreJobs, IsJob, choices_at, limit_at, list_at, lists_of, plan_at, terms_of};
 ghost use Rattle.commands.specs.Told.{session_told};
 
+use crate::limited::Limited;
+use crate::names::name_of;
 use crate::refusal::Refusal;
+use crate::shared::Shared;
 use choices::Schedule;
 use command_line::Then;
 use elf_load::Image;
@@ -17,33 +18,14 @@ use session::{Job, SessionFault};
 use std::alloc::Global;
 use std::io::Write;
 use std::sync::Mutex;
-use std::time::{Clock, Instant};
+use std::time::Clock;
 
 /// A guest whose threads run by choices and then in turns, with the host as its environment, and whose output goes to the two streams.
-pub(crate) type HostJob<'a, 's, R, O, E> = Job<Schedule, HostOutside<'a, R>, StreamSink<'s, O, E>>;
-
-/// What the guests of a recording share, beside the streams.
-#[derive(Drop)]
-pub(crate) struct Shared<'a, R: Clock> {
-    pub(crate) rt: &'a R,
-    pub(crate) start: Instant,
-    pub(crate) input: &'a [u8],
-    pub(crate) seed: [u8; 16],
-    pub(crate) quantum: u32,
-    pub(crate) every: u32,
-    /// The choices of all guests, or of each; none where there are no lists.
-    pub(crate) choices: &'a [Vec<Choice>],
-    pub(crate) then: Then,
-    ghost fits: { IsQuantum quantum },
-}
-
-/// The name of the guest at this place of the line: `g`, and the place in decimal.
-pub(crate) fn name_of(alloc: Global, place: usize) -> Result<Vec<u8>, Memory>
-    ensures name { IfOk result (λ name. name.items ≡ name_at place) }
-{
-    let name = format!(in alloc; "g{place}")?;
-    Ok(name.into_bytes())
-}
+pub(crate) type HostJob<'a, 's, R, O, E> = Job<
+    Limited<'a>,
+    HostOutside<'a, R>,
+    StreamSink<'s, O, E>,
+>;
 
 /// The list of choices at this place; none where there is none.
 fn list_at(lists: &[Vec<Choice>], place: usize) -> &[Choice]
@@ -71,14 +53,25 @@ fn schedule_of<R: Clock>(
     shared: &Shared<'_, R>,
     place: usize,
 ) -> Result<Schedule, Memory>
-    ensures schedule { IfOk result (λ schedule. schedule ≡ plan_at (terms_of shared.now.input.now shared.now.seed
-        shared.now.quantum shared.now.every shared.now.choices.now shared.now.then) place) }
+    ensures schedule { IfOk result (λ schedule. schedule ≡ plan_at (terms_of shared.now) place) }
 {
     let choices = Vec::from_slice(alloc, choices_at(shared.choices, place))?;
     match shared.then {
         Then::Turns => Ok(Schedule::then_turns(choices, shared.quantum)),
         Then::Nothing => Ok(Schedule::then_nothing(choices)),
     }
+}
+
+/// The same, up to the limit of instructions.
+fn chooser_of<'a, R: Clock>(
+    alloc: Global,
+    shared: &Shared<'a, R>,
+    place: u32,
+) -> Result<Limited<'a>, Memory>
+    ensures chooser { IfOk result (λ chooser. chooser ≡ limit_at (terms_of shared.now) place) }
+{
+    let schedule = schedule_of(alloc, shared, place as usize)?;
+    Ok(Limited::new(schedule, shared.limit, shared.counts.get(place as usize)))
 }
 
 /// The job of the guest at this place of the line.
@@ -89,15 +82,14 @@ fn job_of<'a, 's, R: Clock, O: Write + Drop, E: Write + Drop>(
     place: u32,
     image: Image,
 ) -> Result<HostJob<'a, 's, R, O, E>, Memory>
-    ensures job { IfOk result (λ job. IsJob (terms_of shared.now.input.now shared.now.seed shared.now.quantum
-        shared.now.every shared.now.choices.now shared.now.then) place image job) }
+    ensures job { IfOk result (λ job. IsJob (terms_of shared.now) place image job) }
 {
     Ok(Job {
         elf: image.into_file(),
-        name: name_of(alloc, place as usize)?,
+        name: name_of(alloc, shared.names, place as usize)?.into_bytes(),
         random: opening_random(&shared.seed, place),
         every: shared.every,
-        chooser: schedule_of(alloc, shared, place as usize)?,
+        chooser: chooser_of(alloc, shared, place)?,
         outside: HostOutside::new(shared.rt, shared.start, shared.input, &shared.seed, place),
         sink: StreamSink::new(streams),
     })
@@ -110,8 +102,7 @@ pub(crate) fn jobs_of<'a, 's, R: Clock, O: Write + Drop, E: Write + Drop>(
     streams: &'s Mutex<Streams<O, E>>,
     images: Vec<Image>,
 ) -> Result<Vec<HostJob<'a, 's, R, O, E>>, Refusal>
-    ensures jobs { IfOk result (λ jobs. AreJobs (terms_of shared.now.input.now shared.now.seed shared.now.quantum
-        shared.now.every shared.now.choices.now shared.now.then) 0 images.items jobs.items) }
+    ensures jobs { IfOk result (λ jobs. AreJobs (terms_of shared.now) 0 images.items jobs.items) }
     ensures refused { IfErr result (λ e. e ≢ Refusal.Memory
         → (e ≡ session_told SessionFault.TooManyGuests) × (2 ^ 32 ≤ length images.items)) }
 {

@@ -1,6 +1,6 @@
 //! What is printed.
 
-ghost use Rattle.std.specs.Prelude.{◌≡◌, ◌≢◌, IfSome, OnOk};
+ghost use Rattle.std.specs.Prelude.{◌≡◌, ◌≢◌, [], ◌∷◌, IfSome, OnOk, if◌then◌else◌};
 ghost use Rattle.std.specs.Io.KnownBytes.{Appends, Keeps};
 ghost use Rattle.commands.specs.Printed.{with_newline};
 
@@ -46,6 +46,16 @@ pub(crate) fn print_line<W: Write, T: Display>(out: &mut W, line: &T) -> Result<
         (λ text. Appends (W.contents out.old) (W.contents out.new) (with_newline text))) }
 {
     writeln!(out, "{line}").map_err(|_| OutputFailed)
+}
+
+/// Ends a line, if one was left open.
+pub(crate) fn end_open_line<W: Write>(is_open: bool, out: &mut W) -> Result<(), OutputFailed>
+    ensures ended { OnOk result (Appends (W.contents out.old) (W.contents out.new) (if is_open then 10 ∷ [] else [])) }
+{
+    if is_open {
+        return print_line(out, &"");
+    }
+    Ok(())
 }
 
 /// Writes what was collected.

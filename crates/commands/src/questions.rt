@@ -12,12 +12,13 @@ use std::fs::File;
 use std::io::Write;
 use std::rt::Files;
 use std::sync::Wait;
+use std::thread::Threads;
 use std::time::Clock;
 
 /// Answers a question of a guest's recording in a store in a file, once that is verified. How far it is goes to `err`, where `is_shown`
 /// says so.
 pub(crate) fn answer<
-    R: Files<File = File> + AllocGlobal + Wait + Clock,
+    R: Files<File = File> + AllocGlobal + Threads + Wait + Sync + Clock,
     O: Write + Drop,
     E: Write + Drop,
 >(
@@ -42,7 +43,7 @@ pub(crate) fn answer<
             from,
             address,
             memory,
-        } => show_last(alloc, &verified, *from, *address, memory, out),
+        } => show_last(rt, alloc, &verified, *from, *address, memory, out),
         Question::Choices => show_choices(alloc, &verified, out),
         Question::Core { at, file } => write_core(rt, &verified, *at, file),
     }

@@ -1,6 +1,6 @@
 //! The recording of programs.
 
-ghost use Rattle.std.specs.Prelude.{◌≡◌, false, IfOk, List, length, ℕ};
+ghost use Rattle.std.specs.Prelude.{◌≡◌, false, true, IfOk, List, length, ℕ};
 ghost use Rattle.rrv_model.specs.declared.record.Record.{Record};
 ghost use Rattle.serial_sched.specs.Slices.{IsQuantum};
 ghost use Rattle.session.specs.Sessions.{IsLeft};
@@ -10,11 +10,15 @@ ghost use Rattle.commands.specs.Recorded.{HasRecorded};
 use crate::choosing::choices_in_files;
 use crate::ended::{Stopped, Unreported, tell_ended};
 use crate::files::{images_in, input_in};
-use crate::jobs::{Shared, jobs_of};
+use crate::jobs::jobs_of;
+use crate::limited::{CountingGate, counts};
 use crate::misfits::{GuestMisfit, misfits_of, print_misfits};
-use crate::printing::{finish, in_blocks};
+use crate::names::Names;
+use crate::outcome::Outcome;
+use crate::printing::{end_open_line, finish, in_blocks};
 use crate::refusal::Refusal;
 use crate::reports::{lasts_of, print_reports};
+use crate::shared::Shared;
 use crate::store::open_log;
 use crate::terminals::Terminals;
 use command_line::{Recording, seed};
@@ -44,7 +48,8 @@ fn seed_of(text: Option<&str>) -> Result<[u8; 16], Refusal> {
 }
 
 /// Records programs to a store, and prints how each guest ended. Output is printed once it is durable. Where the output of a guest fails,
-/// that is told behind the ends of the others.
+/// that is told behind the ends of the others. Where one failed, the outcome tells
+/// it if the line is to.
 pub(crate) fn record<
     R: Files<File = File> + AllocGlobal + Input + Threads + Wait + Sync + Clock,
     O: Write + Drop + Send,
@@ -55,21 +60,34 @@ pub(crate) fn record<
     terminals: Terminals,
     out: &mut O,
     err: &mut E,
-) -> Result<(), Refusal>
+) -> Result<Outcome, Refusal>
     requires { IsQuantum recording.now.quantum }
+    ensures failed { IfOk result (λ outcome. outcome ≡ Outcome.GuestFailed → recording.now.fail ≡ true) }
 {
     let start = Instant::now(rt).map_err(|_| Refusal::NoClock)?;
     let seed = seed_of(recording.seed)?;
     let log = open_log(rt, recording.store)?;
-    let inputs = inputs_of(rt, recording)?;
+    let inputs = inputs_of(rt, recording, terminals.err)?;
+    let names = names_of(recording);
     match record_shown(rt, recording, start, seed, log, inputs, terminals, out, err) {
-        Ok(recorded) => tell(rt.alloc(), &recorded, err),
+        Ok(recorded) => {
+            tell(rt.alloc(), names, &recorded, err)?;
+            Ok(Outcome::of_reports(&recorded.reports, recording.fail))
+        }
         Err(Unreported::Refused(refusal)) => Err(refusal),
         Err(Unreported::Stopped(stopped)) => {
             // Where they can't be told either, the refusal still is.
-            let _ = tell_ended(rt, rt.alloc(), stopped, err);
+            let _ = tell_ended(rt, rt.alloc(), names, stopped, err);
             Err(Refusal::OutputFailed)
         }
+    }
+}
+
+/// How the guests of a recording are named.
+fn names_of<'a>(recording: &'a Recording<'a>) -> Names<'a> {
+    Names {
+        given: &recording.names,
+        count: recording.files.len(),
     }
 }
 
@@ -102,15 +120,17 @@ impl Inputs {
     }
 }
 
-/// Reads the files of a line, in its order: the input, then the choices, then the programs.
+/// Reads the files of a line, in its order: the input, then the choices, then the programs. Why one isn't taken is told in words too
+/// where `in_words` says so.
 fn inputs_of<R: Files<File = File> + AllocGlobal + Input>(
     rt: &R,
     recording: &Recording<'_>,
+    in_words: bool,
 ) -> Result<Inputs, Refusal> {
     Ok(Inputs {
-        input: input_in(rt, recording.input)?,
-        choices: choices_in_files(rt, &recording.choices)?,
-        images: images_in(rt, &recording.files)?,
+        input: input_in(rt, recording.input, in_words)?,
+        choices: choices_in_files(rt, &recording.choices, in_words)?,
+        images: images_in(rt, &recording.files, in_words)?,
     })
 }
 
@@ -134,15 +154,20 @@ fn record_shown<
     requires whole { log.is_broken ≡ false }
 {
     let (input, choices, images) = inputs.into_parts();
+    let counts = counts(rt.alloc()).map_err(Refusal::from)?;
     let shared = Shared {
         rt,
         start,
         input: &input,
         seed,
+        names: names_of(recording),
         quantum: recording.quantum,
         every: recording.every,
         choices: &choices,
         then: recording.then,
+        limit: recording.limit,
+        counts: &counts,
+        is_one_place: terminals.out && terminals.err,
     };
     let line = AtomicBool::new(false);
     let is_on = recording.progress || terminals.err;
@@ -163,6 +188,8 @@ pub(crate) struct Recorded {
     /// The tids of the threads that ran last, 0 where none did.
     lasts: Vec<u32>,
     misfits: Vec<GuestMisfit>,
+    /// Whether the guests' text left a line open.
+    is_open: bool,
     ghost guests_are: { length guests.items ≡ length reports.items },
     ghost lasts_are: { length lasts.items ≡ length reports.items },
 }
@@ -186,17 +213,18 @@ pub(crate) fn record_images<
 ) -> Result<(Log<D>, Recorded), Unreported<D>>
     requires { log.is_broken ≡ false }
     ensures stored { (bodies : List (List ℕ)) (earlier : List Record) → IsLeft D.Disk log bodies earlier
-        → IfOk result (λ recorded. HasRecorded D.Disk (terms_of shared.now.input.now shared.now.seed
-        shared.now.quantum shared.now.every shared.now.choices.now shared.now.then) images.items
+        → IfOk result (λ recorded. HasRecorded D.Disk (terms_of shared.now) images.items
         log recorded.0 recorded.1.reports.items bodies earlier) }
 {
     let streams = Mutex::new(Streams::new(out, err));
     let jobs = jobs_of(rt.alloc(), shared, &streams, images)?;
-    let gate = RecordProgress::new(rt, &streams, line, is_on);
+    let progress = RecordProgress::new(rt, &streams, line, is_on);
+    let gate = CountingGate::new(progress, shared.counts);
     let first = log.next_guest();
     let (log, jobs, result) = record_all(rt, rt.alloc(), log, jobs, &gate);
+    let is_open = streams.lock(rt).is_open(shared.is_one_place);
     if let Err(SessionFault::SinkFailed { .. }) = &result {
-        let Ok(stopped) = Stopped::new(rt.alloc(), log, first, &jobs) else {
+        let Ok(stopped) = Stopped::new(rt.alloc(), log, first, &jobs, is_open) else {
             return Err(Unreported::Refused(Refusal::OutputFailed));
         };
         return Err(Unreported::Stopped(stopped));
@@ -209,20 +237,28 @@ pub(crate) fn record_images<
         guests: report.states,
         lasts,
         misfits,
+        is_open,
     };
     Ok((log, recorded))
 }
 
-/// Prints how each guest ended, and which choices didn't fit, in blocks.
-fn tell<E: Write>(alloc: Global, recorded: &Recorded, err: &mut E) -> Result<(), Refusal> {
+/// Prints how each guest ended, and which choices didn't fit, in blocks; before that it ends a line that the guests left open.
+fn tell<E: Write>(
+    alloc: Global,
+    names: Names<'_>,
+    recorded: &Recorded,
+    err: &mut E,
+) -> Result<(), Refusal> {
     let mut err = in_blocks(alloc, err)?;
+    end_open_line(recorded.is_open, &mut err)?;
     print_reports(
         alloc,
+        names,
         &recorded.reports,
         &recorded.guests,
         &recorded.lasts,
         &mut err,
     )?;
-    print_misfits(&recorded.misfits, &mut err)?;
+    print_misfits(alloc, names, &recorded.misfits, &mut err)?;
     finish(&mut err)
 }

@@ -1,10 +1,10 @@
 //! Why a line of the program did not do what it asks for.
 
-ghost use Rattle.std.specs.Prelude.{◌≡◌, ◌≢◌};
-ghost use Rattle.std.specs.IoError.{error_kind};
-ghost use Rattle.commands.specs.Told.{create_told, elf_told, open_told, output_told, read_told, seek_told, session_told, verify_told};
+ghost use Rattle.std.specs.Prelude.{◌≡◌, ◌≢◌, false};
+ghost use Rattle.commands.specs.Told.{create_told, elf_told, file_told, open_told, output_told, read_told, seek_told, session_told, verify_told};
 ghost use Rattle.commands.specs.declared.refusal.Refusal.TheVariants as refusals;
 
+use crate::file_fault::{FileFault, FirstLine};
 use crate::printing::OutputFailed;
 use command_line::BadSeed;
 use elf_load::ElfFault;
@@ -13,9 +13,7 @@ use replayer::{OutputFault, VerifyFault};
 use reverse_step::SeekFault;
 use rrv_model::refusal;
 use session::SessionFault;
-use std::alloc::{AllocError, AllocFailed};
-use std::io;
-use std::io::ErrorKind;
+use std::alloc::{AllocError, AllocFailed, Global};
 use thiserror::Error;
 use trace_disk::{CannotOpen, CreateFault, DiskFailed};
 
@@ -31,30 +29,57 @@ pub enum Refusal {
     /// The file can't be read, or it is above its limit.
     #[error("cannot read file")]
     CannotReadFile,
+    /// The file, which is to be checked, isn't taken.
+    #[error("{file}: {fault}")]
+    BadFile {
+        file: String,
+        fault: FileFault,
+    },
+    /// A file of a recording isn't taken. The text's first line is that of the same refusal without words, and the second names the file.
+    #[error("{first}\n{file}: {fault}")]
+    InWords {
+        first: FirstLine,
+        file: String,
+        fault: FileFault,
+    },
     /// This line of a file of choices is none. The text's second line names the file and the line, counted from 1.
     #[error("bad choices\n{file}:{line}")]
-    BadChoices { file: String, line: u64 },
+    BadChoices {
+        file: String,
+        line: u64,
+    },
     /// The file is no program that a guest can run.
     #[error("guest {guest}: {fault}")]
-    Elf { guest: u32, fault: ElfFault },
+    Elf {
+        guest: u32,
+        fault: ElfFault,
+    },
     /// A call of the disk failed.
     #[error("device failed")]
     DeviceFailed,
     /// The disk holds no store that can be opened.
     #[error("{fault}")]
-    Open { fault: OpenFault },
+    Open {
+        fault: OpenFault,
+    },
     /// The guest's records are no recording, or one of them was not read.
     #[error("{fault}")]
-    Verify { fault: VerifyFault },
+    Verify {
+        fault: VerifyFault,
+    },
     /// The store has no guest of this number.
     #[error("no such guest")]
     NoSuchGuest,
     /// The place lies outside the recording.
     #[error("{fault}")]
-    Seek { fault: SeekFault },
+    Seek {
+        fault: SeekFault,
+    },
     /// The session met what only a session meets.
     #[error("{fault}")]
-    Session { fault: SessionFault },
+    Session {
+        fault: SessionFault,
+    },
     /// The file of a core can't be made; one that is there is kept.
     #[error("cannot make core file")]
     CannotMakeCore,
@@ -67,6 +92,9 @@ pub enum Refusal {
     /// The output could not be written.
     #[error("output failed")]
     OutputFailed,
+    /// The reader of the output went away, who has what he wanted: this is told by the status alone.
+    #[error("output failed")]
+    ReaderGone,
     /// A growth was refused.
     #[error("out of memory")]
     Memory,
@@ -198,15 +226,52 @@ impl From<OpenFault> for Refusal {
 }
 
 impl Refusal {
-    /// The refusal of a file that could not be read: `Memory` where that was for want of memory.
-    pub fn of_read(error: &io::Error) -> Self
-        ensures memory { error_kind error.now ≡ ErrorKind.OutOfMemory → result ≡ Refusal.Memory }
-        ensures other { error_kind error.now ≢ ErrorKind.OutOfMemory → result ≡ Refusal.CannotReadFile }
+    /// The refusal of a file of a recording. If it is a program, then of this guest.
+    pub(crate) fn of_file(guest: u32, fault: FileFault) -> Self
+        ensures { result ≡ file_told guest fault }
     {
-        if error.kind() == ErrorKind::OutOfMemory {
+        match fault {
+            FileFault::Unread(_) | FileFault::TooLong { .. } => Refusal::CannotReadFile,
+            FileFault::NoProgram { fault, .. } => Refusal::of_elf(guest, fault),
+            FileFault::Memory => Refusal::Memory,
+        }
+    }
+
+    /// The same, told in words where `in_words` says so. Where there is no memory for these, it is told without.
+    pub(crate) fn of_file_at(
+        alloc: Global,
+        guest: u32,
+        path: &str,
+        fault: FileFault,
+        in_words: bool,
+    ) -> Self
+        ensures plain { in_words ≡ false → result ≡ file_told guest fault }
+        ensures memory { fault ≡ FileFault.Memory → result ≡ Refusal.Memory }
+    {
+        if !in_words || matches!(fault, FileFault::Memory) {
+            return Refusal::of_file(guest, fault);
+        }
+        match String::from_str(alloc, path) {
+            Ok(file) => Refusal::InWords {
+                first: FirstLine::new(guest, fault),
+                file,
+                fault,
+            },
+            Err(_) => Refusal::of_file(guest, fault),
+        }
+    }
+
+    /// The refusal of a file that is to be checked.
+    pub(crate) fn of_checked(alloc: Global, path: &str, fault: FileFault) -> Self
+        ensures { fault ≡ FileFault.Memory → result ≡ Refusal.Memory }
+    {
+        if matches!(fault, FileFault::Memory) {
             return Refusal::Memory;
         }
-        Refusal::CannotReadFile
+        match String::from_str(alloc, path) {
+            Ok(file) => Refusal::BadFile { file, fault },
+            Err(_) => Refusal::Memory,
+        }
     }
 
     /// The refusal of what is done over a disk in memory, which fails only for want of that.

@@ -4,13 +4,14 @@ ghost use Rattle.std.specs.Prelude.{◌≡◌, IfErr, IfOk, OnOk, length, map};
 ghost use Rattle.std.specs.FinMap.{len};
 ghost use Rattle.std.specs.Io.KnownBytes.{Appends};
 ghost use Rattle.guest_calls.specs.Guest.{state_of};
+ghost use Rattle.commands.specs.Names.{name_by};
 ghost use Rattle.commands.specs.Reports.{guest_told, guests_told, has_left};
 ghost use Rattle.commands.specs.Stores.{RefusesPrint};
 
-use crate::jobs::name_of;
-use crate::printing::{print_line, print_text};
+use crate::limited::Limited;
+use crate::names::{Names, name_of};
+use crate::printing::{OutputFailed, print_line, print_text};
 use crate::refusal::Refusal;
-use choices::Schedule;
 use end_text::EndLines;
 use guest_calls::{Guest, Outside};
 use rrv_model::machine::GuestEnd;
@@ -23,9 +24,9 @@ use trace_text::ReportLine;
 /// The tids of the threads that the jobs' choosers chose last, in the jobs' order.
 pub(crate) fn lasts_of<O: Outside + Drop, S: Sink + Drop>(
     alloc: Global,
-    jobs: &[Job<Schedule, O, S>],
+    jobs: &[Job<Limited<'_>, O, S>],
 ) -> Result<Vec<u32>, Refusal>
-    ensures lasts { IfOk result (λ lasts. lasts.items ≡ map (λ job. job.chooser.last) jobs.now) }
+    ensures lasts { IfOk result (λ lasts. lasts.items ≡ map (λ job. job.chooser.plan.last) jobs.now) }
     ensures refused { IfErr result (λ e. e ≡ Refusal.Memory) }
 {
     let lasts = jobs.iter().map(|job| job.chooser.last()).collect(alloc)?;
@@ -44,31 +45,28 @@ fn has_left(guest: &Guest) -> bool
 
 /// Prints how a guest ended and, unless its last thread exited, where and why.
 pub(crate) fn print_report<W: Write>(
-    alloc: Global,
-    place: usize,
+    name: &[u8],
     report: &GuestReport,
     guest: &Guest,
     last: u32,
     out: &mut W,
-) -> Result<(), Refusal>
+) -> Result<(), OutputFailed>
     ensures printed { OnOk result (Appends (W.contents out.old) (W.contents out.new)
-        (guest_told place report.now guest.now last)) }
-    ensures refused { IfErr result RefusesPrint }
+        (guest_told name.now report.now guest.now last)) }
 {
-    let name = name_of(alloc, place)?;
-    let line = ReportLine::new(name.as_slice(), report.end, u64::from(report.records));
+    let line = ReportLine::new(name, report.end, u64::from(report.records));
     print_line(out, &line)?;
     if has_left(guest) {
         return Ok(());
     }
     let lines = EndLines::new(guest, guest.ran(), last);
-    print_text(out, &lines)?;
-    Ok(())
+    print_text(out, &lines)
 }
 
 /// Prints how each guest ended, in the order of the line.
 pub(crate) fn print_reports<W: Write>(
     alloc: Global,
+    names: Names<'_>,
     reports: &[GuestReport],
     guests: &[Guest],
     lasts: &[u32],
@@ -77,13 +75,13 @@ pub(crate) fn print_reports<W: Write>(
     requires guests { length guests.now ≡ length reports.now }
     requires lasts { length lasts.now ≡ length reports.now }
     ensures printed { OnOk result (Appends (W.contents out.old) (W.contents out.new)
-        (guests_told 0 reports.now guests.now lasts.now)) }
+        (guests_told (name_by names.entry) 0 reports.now guests.now lasts.now)) }
     ensures refused { IfErr result RefusesPrint }
 {
     for place in 0..reports.len() {
+        let name = name_of(alloc, names, place)?;
         print_report(
-            alloc,
-            place,
+            name.as_bytes(),
             &reports[place],
             &guests[place],
             lasts[place],

@@ -1,23 +1,30 @@
 //! Doing a line of the program.
 
-ghost use Rattle.std.specs.Prelude.{◌≡◌, ◌≢◌, ◌≤◌, ◌⊎◌, OnErr, OnOk, length, map};
+ghost use Rattle.std.specs.Prelude.{◌≡◌, ◌≢◌, ◌≤◌, IfOk, OnErr, OnOk, length, map};
 ghost use Rattle.std.specs.IoError.{error_kind};
 ghost use Rattle.clap.specs.Words.{kind_of};
 ghost use Rattle.command_line.specs.Lines.{IsWithinLimits};
-ghost use Rattle.commands.specs.Status.{IsStatus, IsStatusOf};
+ghost use Rattle.commands.specs.Status.{IsOutcomeOf, IsStatus, IsStatusFor, IsStatusOf};
 
+use crate::checking::check;
 use crate::demonstration::demonstrate;
 use crate::guests::{dump, list};
+use crate::long_list::list_long;
+use crate::outcome::Outcome;
+use crate::piped::Piped;
 use crate::printing::print_whole;
+use crate::program_files::put_elf;
 use crate::questions::answer;
 use crate::record::record;
 use crate::refusal::Refusal;
 use crate::replaying::tell;
+use crate::shows::Shows;
 use crate::store::{make_store, open_store};
 use crate::terminals::Terminals;
+use crate::turns::dump_turns;
 use crate::verifying::verified_of;
 use clap::error::ErrorKind as LineFault;
-use command_line::{Request, line};
+use command_line::{DumpForm, Question, Request, help, line};
 use replayer::VerifiedEnd;
 use std::alloc::Global;
 use std::convert::AsStr;
@@ -29,9 +36,9 @@ use std::sync::Wait;
 use std::thread::Threads;
 use std::time::Clock;
 
-/// Does what a line of words asks for, which are those after the program's name, and returns the exit status: 0 done
-/// (also for a call of help), 1 refused, 2 an invalid line. What is asked for goes to `out`. A refusal's text,
-/// after `rrv: `, and the text of a bad line go to `err`, each in one write.
+/// Does what a line of words asks for, which are those after the program's name, and returns the exit status: 0 done (also for
+/// a call of help), 1 refused, 2 an invalid line, 3 done, but a guest failed, if the line is to tell that. What is asked for
+/// goes to `out`. A refusal's text, after `rrv: `, and the text of a bad line go to `err`, each in one write.
 pub fn run<
     R: Files<File = File> + AllocGlobal + Input + Threads + Wait + Sync + Clock,
     S: AsStr,
@@ -99,6 +106,9 @@ pub fn report<O: Write, E: Write>(
 fn report_refusal<E: Write>(alloc: Global, refusal: &Refusal, err: &mut E) -> u8
     ensures { result ≡ 1 }
 {
+    if matches!(refusal, Refusal::ReaderGone) {
+        return 1;
+    }
     let text = format_args!("rrv: {refusal}\n");
     let _ = print_whole(alloc, &text, err);
     1
@@ -122,10 +132,35 @@ fn run_request<
     E: Write + Drop + Send,
 >(rt: &R, request: Request<'_>, terminals: Terminals, out: &mut O, err: &mut E) -> u8
     requires { IsWithinLimits request }
-    ensures { (result ≡ 0) ⊎ (result ≡ 1) }
+    ensures { IsStatusFor request.entry result }
 {
-    let done = perform(rt, request, terminals, out, err);
-    report_result(rt.alloc(), done, err)
+    let ends_quietly = ends_quietly(&request);
+    let mut out = Piped::new(out);
+    match perform(rt, request, terminals, &mut out, err) {
+        Ok(outcome) => outcome.status(),
+        Err(refusal) if ends_quietly => report_refusal(rt.alloc(), &out.told(refusal), err),
+        Err(refusal) => report_refusal(rt.alloc(), &refusal, err),
+    }
+}
+
+/// Whether a command is one that ends without a word where the reader of its output goes away.
+fn ends_quietly(request: &Request<'_>) -> bool {
+    match request {
+        Request::List { .. } | Request::Elf { .. } | Request::Dump { .. } => true,
+        Request::Ask { question, .. } => {
+            matches!(question, Question::Output | Question::State { .. })
+        }
+        _ => false,
+    }
+}
+
+/// Prints the help of the program, or of a command.
+fn show_help<O: Write>(alloc: Global, command: Option<&str>, out: &mut O) -> Result<(), Refusal> {
+    let help = help(alloc, command)?;
+    match help.kind() {
+        LineFault::OutOfMemory => Err(Refusal::Memory),
+        _ => Ok(print_whole(alloc, &help, out)?),
+    }
 }
 
 /// Does what each command does.
@@ -139,18 +174,54 @@ fn perform<
     terminals: Terminals,
     out: &mut O,
     err: &mut E,
-) -> Result<(), Refusal>
+) -> Result<Outcome, Refusal>
     requires { IsWithinLimits request }
+    ensures { IfOk result (IsOutcomeOf request.entry) }
 {
     let alloc = rt.alloc();
     match request {
-        Request::Demonstration => demonstrate(rt, out, err),
-        Request::New { store } => make_store(rt, store),
-        Request::Record(recording) => record(rt, &recording, terminals, out, err),
-        Request::List { store } => list(alloc, &mut open_store(rt, store)?, out),
-        Request::Dump { guest, form } => {
+        Request::Demonstration => demonstrate(rt, out, err)?,
+        Request::Help { command } => show_help(alloc, command, out)?,
+        Request::New { store } => make_store(rt, store)?,
+        Request::Record(recording) => return record(rt, &recording, terminals, out, err),
+        Request::Check { file } => check(rt, file, out)?,
+        Request::List {
+            store,
+            replays: false,
+            ..
+        } => list(alloc, &mut open_store(rt, store)?, out)?,
+        Request::List {
+            store,
+            progress,
+            ..
+        } => {
+            let mut store = open_store(rt, store)?;
+            list_long(
+                rt,
+                alloc,
+                &mut store,
+                Shows::new(progress, terminals),
+                out,
+                err,
+            )?;
+        }
+        Request::Elf { guest } => {
             let mut store = open_store(rt, guest.store)?;
-            dump(alloc, &mut store, guest.number, form, out)
+            put_elf(alloc, &mut store, guest.number, out)?;
+        }
+        Request::Dump {
+            guest,
+            form: DumpForm::Lines,
+            ..
+        } => dump(alloc, &mut open_store(rt, guest.store)?, guest.number, out)?,
+        Request::Dump {
+            guest,
+            form,
+            progress,
+        } => {
+            let mut store = open_store(rt, guest.store)?;
+            let shows = Shows::new(progress, terminals);
+            dump_turns(rt, alloc, &mut store, guest.number, form, shows, out, err)?;
         }
         Request::Verify {
             guest,
@@ -158,12 +229,13 @@ fn perform<
             progress,
         } => {
             let end: VerifiedEnd = verified_of(rt, guest, progress || terminals.err, err)?;
-            tell(alloc, &end, long, out)
+            tell(alloc, &end, long, out)?;
         }
         Request::Ask {
             guest,
             question,
             progress,
-        } => answer(rt, guest, &question, progress || terminals.err, out, err),
+        } => answer(rt, guest, &question, progress || terminals.err, out, err)?,
     }
+    Ok(Outcome::Done)
 }

@@ -10,12 +10,14 @@ ghost use Rattle.commands.specs.Stores.{GoesBack, Reaches};
 
 use crate::printing::{OutputFailed, finish, in_blocks, print_line, print_text};
 use crate::refusal::Refusal;
+use crate::verifying::workers;
 use command_line::{MemoryRange, Place};
 use guest_calls::Guest;
 use replayer::Verified;
 use reverse_step::Cursor;
 use std::alloc::Global;
 use std::io::Write;
+use std::thread::Threads;
 use trace_text::{MemoryLines, StateLines};
 
 /// The place that a line names, in instructions.
@@ -109,7 +111,8 @@ fn print_back<W: Write>(
 }
 
 /// Prints the state before the last change, below a place, of the byte at an address, or that there is none.
-fn print_last<W: Write>(
+fn print_last<W: Write, R: Threads + Sync>(
+    rt: &R,
     alloc: Global,
     verified: &Verified,
     from: Place,
@@ -124,7 +127,7 @@ fn print_last<W: Write>(
     ensures reaches { Reaches result (total verified.now.frames) (place_in (total verified.now.frames) from) 0 }
 {
     let mut cursor = cursor_at(alloc, verified, place_in(from, verified))?;
-    match cursor.last_change(alloc, address)? {
+    match cursor.last_change_in_spans(rt, alloc, workers(rt), address)? {
         Some(_) => Ok(print_state(&cursor, verified.total(), ranges, out)?),
         None => Ok(print_line(out, &"unchanged")?),
     }
@@ -145,7 +148,8 @@ pub(crate) fn show_back<O: Write>(
 }
 
 /// Prints the state before the last change of a byte, in blocks.
-pub(crate) fn show_last<O: Write>(
+pub(crate) fn show_last<O: Write, R: Threads + Sync>(
+    rt: &R,
     alloc: Global,
     verified: &Verified,
     from: Place,
@@ -154,6 +158,6 @@ pub(crate) fn show_last<O: Write>(
     out: &mut O,
 ) -> Result<(), Refusal> {
     let mut out = in_blocks(alloc, out)?;
-    print_last(alloc, verified, from, address, ranges, &mut out)?;
+    print_last(rt, alloc, verified, from, address, ranges, &mut out)?;
     finish(&mut out)
 }

@@ -1,6 +1,7 @@
 //! The verification of a guest's records.
 
 ghost use Rattle.std.specs.Prelude.{◌≡◌, IfErr, IfOk, List};
+ghost use Rattle.std.specs.Thread.{IsSync};
 ghost use Rattle.rrv_model.specs.declared.record.Record.{Record};
 ghost use Rattle.rrv_model.specs.Recovered.{of_guest};
 ghost use Rattle.recover.specs.Spots.{records_of, StandOn};
@@ -14,28 +15,42 @@ use crate::store::{Store, guest_in, open_store};
 use crate::stored::StoredGuest;
 use command_line::GuestOf;
 use progress::{Count, VerifyProgress};
-use replayer::{
-    Source, Verified, VerifiedEnd, VerifyFault, Watch, verify_source_end, verify_source_watched,
-};
+use replayer::{Source, Verified, VerifiedEnd, VerifyFault, Watch};
+use spans::{verify_source, verify_source_end};
 use std::alloc::Global;
 use std::fs::File;
 use std::io::Write;
 use std::rt::Files;
 use std::sync::atomic::AtomicBool;
+use std::thread;
+use std::thread::Threads;
 use std::time::Clock;
 use trace_disk::Disk;
+
+/// So many workers verify a recording at most: each has a guest, and the state of a checkpoint.
+const MOST_WORKERS: usize = 16;
+
+/// As many workers as the host runs at once, or one where it doesn't say.
+pub(crate) fn workers<R: Threads>(rt: &R) -> usize {
+    match thread::available_parallelism(rt) {
+        Ok(count) => count.get().min(MOST_WORKERS),
+        Err(_) => 1,
+    }
+}
 
 /// What is kept of records as they are verified: their recording, or where it ends.
 pub(crate) trait Kept: Sized + Drop {
     /// That it is of just these records.
     ghost is_of: { Self → List Record → Type 0 };
 
-    /// Verifies the records that a source gives, one at a time, and tells after each how far it is.
-    fn verify<S: Source, W: Watch>(
+    /// Verifies the records that a source gives, in spans side by side, and tells how far it is.
+    fn verify<S: Source, W: Watch, R: Threads + Sync>(
+        rt: &R,
         alloc: Global,
         source: &mut S,
         watch: &mut W,
     ) -> Result<Self, VerifyFault>
+        requires { IsSync R.row }
         ensures is_of { S.honest source.old → IfOk result (λ kept. is_of kept (S.records source.old)) }
         ensures refused { S.honest source.old → IfErr result (λ fault. RefusesSource fault (S.records source.old)) }
         ensures names { IfErr result (NamesWithheld S.withheld_at source.new) };
@@ -44,29 +59,31 @@ pub(crate) trait Kept: Sized + Drop {
 impl Kept for Verified {
     ghost is_of = { Keeps };
 
-    fn verify<S: Source, W: Watch>(
+    fn verify<S: Source, W: Watch, R: Threads + Sync>(
+        rt: &R,
         alloc: Global,
         source: &mut S,
         watch: &mut W,
     ) -> Result<Verified, VerifyFault> {
-        verify_source_watched(alloc, source, watch)
+        verify_source(rt, alloc, workers(rt), source, watch)
     }
 }
 
 impl Kept for VerifiedEnd {
     ghost is_of = { IsEndOf };
 
-    fn verify<S: Source, W: Watch>(
+    fn verify<S: Source, W: Watch, R: Threads + Sync>(
+        rt: &R,
         alloc: Global,
         source: &mut S,
         watch: &mut W,
     ) -> Result<VerifiedEnd, VerifyFault> {
-        verify_source_end(alloc, source, watch)
+        verify_source_end(rt, alloc, workers(rt), source, watch)
     }
 }
 
 /// What is kept of a source's records, verified. How far it is, of `all`, goes to `err`, where `is_shown` says so.
-pub(crate) fn verified<K: Kept, R: Clock, S: Source, E: Write + Drop>(
+pub(crate) fn verified<K: Kept, R: Threads + Sync + Clock, S: Source, E: Write + Drop>(
     rt: &R,
     alloc: Global,
     source: &mut S,
@@ -82,13 +99,13 @@ pub(crate) fn verified<K: Kept, R: Clock, S: Source, E: Write + Drop>(
 {
     let line = AtomicBool::new(false);
     let mut progress = VerifyProgress::new(rt, err, &line, all, is_shown);
-    let result = K::verify(alloc, source, &mut progress);
+    let result = K::verify(rt, alloc, source, &mut progress);
     progress.end();
     Ok(result?)
 }
 
 /// What is kept of the recording of the guest of this number of a store, whose records are read one at a time.
-pub(crate) fn verified_in<K: Kept, R: Clock, D: Disk + Drop, E: Write + Drop>(
+pub(crate) fn verified_in<K: Kept, R: Threads + Sync + Clock, D: Disk + Drop, E: Write + Drop>(
     rt: &R,
     alloc: Global,
     store: Store<D>,
@@ -108,12 +125,11 @@ pub(crate) fn verified_in<K: Kept, R: Clock, D: Disk + Drop, E: Write + Drop>(
 }
 
 /// The same of a store in a file, which is closed again.
-pub(crate) fn verified_of<K: Kept, R: Files<File = File> + AllocGlobal + Clock, E: Write + Drop>(
-    rt: &R,
-    guest: GuestOf<'_>,
-    is_shown: bool,
-    err: &mut E,
-) -> Result<K, Refusal> {
+pub(crate) fn verified_of<
+    K: Kept,
+    R: Files<File = File> + AllocGlobal + Threads + Sync + Clock,
+    E: Write + Drop,
+>(rt: &R, guest: GuestOf<'_>, is_shown: bool, err: &mut E) -> Result<K, Refusal> {
     let store = open_store(rt, guest.store)?;
     verified_in(rt, rt.alloc(), store, guest.number, is_shown, err)
 }

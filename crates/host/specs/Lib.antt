@@ -1,3 +1,4 @@
 pub mod Seen
 pub mod Stream
 pub mod Written
+pub mod LastBytes

@@ -9,7 +9,7 @@
 //!   each counter in turn. The monotonic clock never goes back. That a clock tells the right time is in no contract.
 //! - `opening_random`: the first 16 bytes of the SHA-256 of seed, guest and 2^32 - 1.
 //! - `Streams` and `StreamSink`: output and errors under one lock. A call that fails is counted. Which bytes reach a stream is
-//!   proved of the call under the lock, and in no contract of the sink's: tests see them.
+//!   proved of the call under the lock, and in no contract of the sink's: tests see them. So is whether guests left a line open.
 //! - `Patient`: a stream that gains just the bytes that it says it took. That it waits is in no contract: tests see it.
 #![tactic(auto)]
 

@@ -1,6 +1,7 @@
 //! The two streams that the output of all guests goes to.
 
 ghost use Rattle.std.specs.Prelude.{◌≡◌, ◌≢◌, ◌≤◌, [], length, take, IfOk, OnErr};
+ghost use Rattle.host.specs.LastBytes.{KeepsLast, is_open, none_put, with_last};
 ghost use Rattle.host.specs.Written.{Gains};
 
 use rrv_model::sink::{Sink, SinkError};
@@ -8,11 +9,31 @@ use std::fmt::Display;
 use std::io::Write;
 use std::sync::{Mutex, Wait};
 
+/// The last bytes that guests put to the errors' stream, and to either; a newline before the first.
+#[derive(Clone, Copy, Debug, PartialEq, Eq)]
+struct LastBytes {
+    error: u8,
+    either: u8,
+}
+
+impl LastBytes {
+    /// With a byte that was put to the stream of a descriptor.
+    fn with(self, descriptor: u32, byte: u8) -> Self
+        ensures { result ≡ with_last self descriptor byte }
+    {
+        LastBytes {
+            error: if descriptor == 2 { byte } else { self.error },
+            either: byte,
+        }
+    }
+}
+
 /// A stream for the output of guests, and one for their errors.
 #[derive(Drop)]
 pub struct Streams<O: Write + Drop, E: Write + Drop> {
     output: O,
     error: E,
+    last: LastBytes,
 }
 
 impl<O: Write + Drop, E: Write + Drop> Streams<O, E> {
@@ -20,8 +41,16 @@ impl<O: Write + Drop, E: Write + Drop> Streams<O, E> {
     pub fn new(output: O, error: E) -> Self
         ensures output { result.output ≡ output }
         ensures error { result.error ≡ error }
+        ensures last { result.last ≡ none_put }
     {
-        Streams { output, error }
+        Streams {
+            output,
+            error,
+            last: LastBytes {
+                error: b'\n',
+                either: b'\n',
+            },
+        }
     }
 
     /// The two again, the output first.
@@ -29,13 +58,27 @@ impl<O: Write + Drop, E: Write + Drop> Streams<O, E> {
         ensures output { result.0 ≡ self.output }
         ensures error { result.1 ≡ self.error }
     {
-        let Streams { output, error } = self;
+        let Streams { output, error, .. } = self;
         (output, error)
+    }
+
+    /// Whether guests left a line open on the errors' stream, behind which a newline is missing; or, where both streams lead to one place,
+    /// on the one that they put to last.
+    pub fn is_open(&self, is_one_place: bool) -> bool
+        ensures { result ≡ is_open self.now.last is_one_place }
+    {
+        let last = if is_one_place {
+            self.last.either
+        } else {
+            self.last.error
+        };
+        last != b'\n'
     }
 
     /// Writes a text to the errors' stream, and flushes it. What the stream refuses is dropped.
     pub fn note<T: Display>(&mut self, text: &T)
-        ensures { self.new.output ≡ self.old.output }
+        ensures output { self.new.output ≡ self.old.output }
+        ensures last { self.new.last ≡ self.old.last }
     {
         let _ = write!(self.error, "{text}");
         let _ = self.error.flush();
@@ -50,6 +93,24 @@ impl<O: Write + Drop, E: Write + Drop> Streams<O, E> {
             × Gains (O.contents self.old.output) (O.contents self.new.output) result bytes.now }
         ensures error { descriptor ≡ 2 → (self.new.output ≡ self.old.output)
             × Gains (E.contents self.old.error) (E.contents self.new.error) result bytes.now }
+        ensures last { KeepsLast self.old.last descriptor bytes.now result self.new.last }
+    {
+        let put = self.write(descriptor, bytes);
+        if let Ok(count) = put {
+            self.last = self.last.with(descriptor, bytes[count - 1]);
+        }
+        put
+    }
+
+    /// The same, of which the last byte isn't kept.
+    fn write(&mut self, descriptor: u32, bytes: &[u8]) -> Result<usize, SinkError>
+        requires { 1 ≤ length bytes.now }
+        ensures length { IfOk result (λ count. (1 ≤ count) × (count ≤ length bytes.now)) }
+        ensures output { descriptor ≢ 2 → (self.new.error ≡ self.old.error)
+            × Gains (O.contents self.old.output) (O.contents self.new.output) result bytes.now }
+        ensures error { descriptor ≡ 2 → (self.new.output ≡ self.old.output)
+            × Gains (E.contents self.old.error) (E.contents self.new.error) result bytes.now }
+        ensures last { self.new.last ≡ self.old.last }
     {
         if descriptor == 2 {
             write_out(&mut self.error, bytes)

@@ -123,6 +123,18 @@ kept_of_first [] first index o row frames marks steps there item_is long h = abs
 kept_of_first (q ∷ rest) first index o row frames marks steps there item_is long h =
     kept_of_all (q ∷ rest) first rest index o row frames marks steps (ap (λ x. x ∷ rest) there) item_is long h
 
+-- so it is kept of items that begin with an opening
+pub kept_of_items : (its : List Item) (o : Opening) (row : List Part) (frames : List Frame) (marks : List Mark) (steps : ℕ) →
+    take 1 its ≡ items.Opening o ∷ [] → KeepsAll (drop 1 its) row frames marks steps → IsKeptOf its o frames marks
+kept_of_items [] o row frames marks steps is h = cc
+kept_of_items (it ∷ rest) o row frames marks steps is h =
+    let first : it ≡ items.Opening o = cc in
+    let f : frames ≡ frames_of rest = sym (append-nil frames) ∙ sym (h.frames_are []) ∙ ap frames_of (append-nil rest) in
+    let m : marks ≡ marks_of [] 0 0 rest =
+    sym (append-nil marks) ∙ sym (h.marks_are []) ∙ ap (λ (is : List Item). marks_of [] 0 0 is) (append-nil rest) in
+    let kept : IsKeptOf (items.Opening o ∷ rest) o frames marks = (refl, f, m) in
+    subst (λ (i : Item). IsKeptOf (i ∷ rest) o frames marks) (sym first) kept
+
 -- where all records stand, they are a recording, and all of it is kept
 pub all_kept : (guest : ℕ) (records : List Record) (first : Record) (index : ℕ) (o : Opening) (base : State) (row : List Part) (s : State)
     (frames : List Frame) (marks : List Mark) (steps : ℕ) →

@@ -10,3 +10,4 @@ pub mod Putting
 pub mod Behind
 pub mod Changed
 pub mod Watched
+pub mod Keepers

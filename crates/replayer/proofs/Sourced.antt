@@ -45,7 +45,7 @@ pub first_more : (P : Record → Type 0) (xs ys : List Record) → IsSomeAnd (sl
 first_more P [] ys h = absurd h
 first_more P (x ∷ xs) ys h = h
 
-keeps_given : (read : List Record) (r : Record) (row row' : List Part) (frames frames' : List Frame) (marks marks' : List Mark)
+pub keeps_given : (read : List Record) (r : Record) (row row' : List Part) (frames frames' : List Frame) (marks marks' : List Mark)
     (steps steps' : ℕ) → 1 ≤ length read → KeepsAll (drop 1 (items_of read)) row frames marks steps →
     KeepsOn r.item row frames marks steps frames' marks' steps' → RowIs r.item row row' →
     KeepsAll (drop 1 (items_of (read ++ r ∷ []))) row' frames' marks' steps'

@@ -1,19 +1,15 @@
 -- What contracts see of a guest that follows its records.
-use Rattle.std.specs.Prelude.{◌≡◌, ℕ, List, length, slice_get, IsSomeAnd}
+use Rattle.std.specs.Prelude.{◌≡◌, ℕ, List}
 use Rattle.rrv_model.specs.declared.record.Item.{Item}
 use Rattle.rrv_model.specs.declared.record.Item.TheVariants as items
 use Rattle.rrv_model.specs.declared.record.Part.{Part}
 use Rattle.rrv_model.specs.declared.record.Record.{Record}
 use Rattle.rrv_model.specs.State.{State}
 use Rattle.rrv_model.specs.FrameStep.{FrameStep}
-use Rattle.rrv_model.specs.Recording.{EndsIn, IsRecording, frames_of, items_of}
-use Rattle.rrv_model.specs.StateAt.{total}
 use Rattle.guest_calls.specs.Guest.{GuestValue, state_of}
-use Rattle.serial_sched.specs.LastThread.{last_tid}
 use Rattle.replayer.specs.declared.fault.VerifyFault.{VerifyFault}
 use Rattle.replayer.specs.declared.fault.VerifyFault.TheVariants as faults
-use Rattle.replayer.specs.Refusals.{TakesMemory}
-use Rattle.replayer.specs.Walks.{Stands}
+use Rattle.replayer.specs.Standings.{IsReached, Standing}
 
 -- the guest, its number, how many records it followed and what they count, and its last complete checkpoint
 pub record FollowingValue : Type 0 where
@@ -28,15 +24,21 @@ pub record FollowingValue : Type 0 where
   -- the parts since
   pub row : List Part
 
+-- where it stands
+abbrev pub standing_of : FollowingValue → Standing
+standing_of following = record {
+  number = following.number;
+  len = following.len;
+  total = following.total;
+  last = following.last;
+  base = state_of following.base;
+  row = following.row;
+  state = state_of following.guest;
+}
+
 -- it followed just these records, which are a recording that ends in its guest's state
-pub record IsBehind (following : FollowingValue) (records : List Record) : Type 0 where
-  pub recording : IsRecording records
-  pub ends : EndsIn (items_of records) (state_of following.guest)
-  pub total : following.total ≡ total (frames_of (items_of records))
-  pub last : following.last ≡ last_tid (frames_of (items_of records))
-  pub len : following.len ≡ length records
-  pub takes : IsSomeAnd (slice_get records 0) TakesMemory
-  pub stands : Stands following.number records (state_of following.base) following.row (state_of following.guest)
+abbrev pub IsBehind : FollowingValue → List Record → Type 0
+IsBehind following records = IsReached (standing_of following) records
 
 -- the state behind an item: of a frame the one that it leads to, of a part the same
 abbrev pub StepsBy : Item → State → State → Type 0

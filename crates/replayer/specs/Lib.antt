@@ -3,9 +3,12 @@ pub mod Refusals
 pub mod Walks
 pub mod Verified
 pub mod Kept
+pub mod Keepers
 pub mod Places
 pub mod Changes
 pub mod Puts
 pub mod LastThread
+pub mod Standings
+pub mod Claims
 pub mod Following
 pub mod Asked

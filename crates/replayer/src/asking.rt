@@ -10,12 +10,8 @@ use recover::ReadFault;
 use rrv_model::record::Record;
 use std::alloc::Global;
 
-/// The record at a place of a source.
-pub(crate) fn given<S: Source>(
-    alloc: Global,
-    source: &mut S,
-    index: usize,
-) -> Result<Record, VerifyFault>
+/// The record at a place of a source. `Unreadable` where the source withholds it, and `Memory` where a growth is refused.
+pub fn given<S: Source>(alloc: Global, source: &mut S, index: usize) -> Result<Record, VerifyFault>
     requires { index < length (S.records source.old) }
     ensures record { S.honest source.old → IfOk result (λ r. slice_get (S.records source.old) index ≡ Some r) }
     ensures refused { IfErr result (λ e. (e ≡ verify_faults.Memory) ⊎ (e ≡ verify_faults.Unreadable index)) }

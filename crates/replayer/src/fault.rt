@@ -2,6 +2,7 @@
 
 ghost use Rattle.std.specs.Prelude.{◌≡◌};
 ghost use Rattle.replayer.specs.Refusals.{opening_told};
+ghost use Rattle.replayer.specs.declared.fault.ClaimFault.TheVariants as claim_faults;
 ghost use Rattle.replayer.specs.declared.fault.OutputFault.TheVariants as output_faults;
 ghost use Rattle.replayer.specs.declared.fault.VerifyFault.TheVariants as verify_faults;
 
@@ -63,6 +64,33 @@ impl From<refusal::Memory> for VerifyFault {
 
     fn from(_: refusal::Memory) -> Self {
         VerifyFault::Memory
+    }
+}
+
+/// Why checkpoints among records claim nothing of where a guest stands behind them.
+#[derive(Clone, Copy, Debug, PartialEq, Eq, Error)]
+pub enum ClaimFault {
+    /// A record can't lead on, whatever the state before it is.
+    #[error("record leads nowhere")]
+    LeadsNowhere,
+    /// A growth was refused.
+    #[error("out of memory")]
+    Memory,
+}
+
+impl<T: Drop> From<AllocFailed<T>> for ClaimFault {
+    ghost from_gives = { λ _ e. e ≡ claim_faults.Memory };
+
+    fn from(_: AllocFailed<T>) -> Self {
+        ClaimFault::Memory
+    }
+}
+
+impl From<refusal::Memory> for ClaimFault {
+    ghost from_gives = { λ _ e. e ≡ claim_faults.Memory };
+
+    fn from(_: refusal::Memory) -> Self {
+        ClaimFault::Memory
     }
 }
 

@@ -3,11 +3,14 @@
 ghost use Rattle.std.specs.Prelude.{◌≡◌, ◌+◌, ◌++◌, ◌∷◌, [], List, IfErr, IfOk, OnOk};
 ghost use Rattle.rrv_model.specs.declared.record.Record.{Record};
 ghost use Rattle.guest_calls.specs.Guest.{state_of};
-ghost use Rattle.replayer.specs.Following.{IsBehind, Names, StepsBy};
+ghost use Rattle.replayer.specs.Following.{IsBehind, Names, StepsBy, standing_of};
 ghost use Rattle.replayer.specs.Kept.{instructions_in};
-ghost use Rattle.replayer.specs.Refusals.{RefusesFirst, RefusesVerify};
+ghost use Rattle.replayer.specs.Refusals.{RefusesFirst, RefusesNext, RefusesVerify};
+ghost use Rattle.replayer.specs.Sourced.{IsEndOf};
+ghost use Rattle.replayer.specs.Standings.{Continues};
 
 use crate::fault::VerifyFault;
+use crate::verified_end::VerifiedEnd;
 use crate::walk::{Walk, follow_record, open_first};
 use guest_calls::Guest;
 use rrv_model::record::Record;
@@ -16,10 +19,10 @@ use std::marker::Model;
 
 /// A guest that follows its records, one after another, each verified as [`verify`](crate::verify) does.
 pub struct Following {
-    walk: Walk,
-    number: u32,
+    pub(crate) walk: Walk,
+    pub(crate) number: u32,
     /// How many records it followed.
-    len: usize,
+    pub(crate) len: usize,
 }
 
 impl Model for Following {
@@ -98,12 +101,39 @@ impl Following {
         ensures steps { OnOk result
             (StepsBy entry.now.item (state_of self.old.guest) (state_of self.new.guest)) }
         ensures counted { OnOk result (self.new.total ≡ self.old.total + instructions_in entry.now.item) }
+        ensures continues { OnOk result
+            (Continues entry.now (standing_of self.old) (standing_of self.new)) }
         ensures refused { IfErr result (λ e. (records : List Record)
             → IsBehind self.old records → RefusesVerify e (records ++ entry.now ∷ [])) }
         ensures named { IfErr result (λ e. Names e self.old.len) }
+        ensures fails { IfErr result (λ e. RefusesNext e self.old.number self.old.len entry.now
+            (state_of self.old.base) self.old.row (state_of self.old.guest)) }
     {
         follow_record(alloc, &mut self.walk, self.number, self.len, entry)?;
         self.len = entry.index as usize + 1;
         Ok(())
+    }
+
+    /// Where the records that it followed end.
+    pub fn into_end(self) -> VerifiedEnd
+        ensures { (records : List Record) → IsBehind self records → IsEndOf result records }
+    {
+        let Following {
+            walk,
+            number: _,
+            len,
+        } = self;
+        let Walk {
+            guest,
+            total,
+            last,
+            ..
+        } = walk;
+        VerifiedEnd {
+            guest,
+            total,
+            len,
+            last,
+        }
     }
 }

@@ -31,21 +31,30 @@
 //!   returns, but that `Memory` may come for any record. Of a source that isn't honest, what it returns is of some recording of
 //!   as many records. `verify_source_watched` does the same; what it reports to its watch stands in no clause:
 //!   `tools/progress_cases` sees it at each record.
+//! - `Source::ahead` reads a record before it is asked for: one that isn't given so is not withheld. `verify_source` doesn't call it;
+//!   `spans` reads with it ahead of the records that are followed.
 //! - `verify_source_end` verifies in the same way, with the same refusals, and returns how many records and instructions there
 //!   are, and the guest in the state that the records end in. That it holds the opening, one record more and the parts of one
 //!   checkpoint at a time is seen in the code alone.
 //! - `Following` follows records one at a time: those that it followed are a recording (`IsBehind`), which ends in its guest's
 //!   state and has as many instructions as its total. A record that is refused is refused as `verify` refuses the list up to
 //!   it. `VerifiedEnd::last` is the thread that ran last.
+//! - `Claim` passes over records as if they led on: behind records that lead on from where it was made, it fits where the guest
+//!   stands (`Fits`), but for the state, which no frame was run for. `LeadsNowhere` comes only if the records can't lead on.
+//!   `Claim::begin` is a `Following` that stands in the state of the last checkpoint.
+//! - `Keeper` keeps what `verify` keeps, of records that are verified elsewhere: `finish` asks for a proof that they are a recording.
 //! - `Place::watch` goes on by instructions of one frame, and tells of the last that changes the byte at an address.
-//! - `verify` on the line calls `verify_source_end`, and `dump --places` and `--trace-events` use `Following`. Each other command
-//!   that replays a guest calls `verify_source_watched` first.
+//! - On the line, `spans` verifies the records for each command that replays a guest, by `Following`, `Claim` and `Keeper`. `dump
+//!   --places` and `--trace-events` use `Following` alone. `verify_source`, `verify_source_watched` and `verify_source_end` run in
+//!   one thread; tests and programs for measuring call them.
 #![tactic(auto)]
 
 mod asking;
+mod claim;
 mod fault;
 mod following;
 mod forward;
+mod keeping;
 pub mod laws;
 mod opened;
 mod outputs;
@@ -59,9 +68,12 @@ mod verified_end;
 mod verifying;
 mod walk;
 
-pub use fault::{OutputFault, VerifyFault};
+pub use asking::given;
+pub use claim::Claim;
+pub use fault::{ClaimFault, OutputFault, VerifyFault};
 pub use following::Following;
 pub use place::Place;
+pub use recording::Keeper;
 pub use source::Source;
 pub use verified::Verified;
 pub use verified_end::VerifiedEnd;

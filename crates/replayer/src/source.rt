@@ -34,4 +34,12 @@ pub trait Source {
         ensures honest { honest self.new ↔ honest self.old }
         ensures withheld { withheld self.new ≡ (withholds result || withheld self.old) }
         ensures place { withholds result ≡ true → withheld_at self.new index };
+
+    /// The record at this place, read before it is asked for. One that isn't given so is not withheld: it may be asked for yet.
+    fn ahead(&mut self, alloc: Global, index: usize) -> Result<Record, ReadFault>
+        requires { index < length (records self.old) }
+        ensures record { honest self.old → IfOk result (λ r. slice_get (records self.old) index ≡ Some r) }
+        ensures records { records self.new ≡ records self.old }
+        ensures honest { honest self.new ↔ honest self.old }
+        ensures withheld { withheld self.new ≡ withheld self.old };
 }

@@ -85,7 +85,7 @@ pub(crate) fn opening_of(first: &Record) -> Result<Opening, VerifyFault>
     }
 }
 
-fn copied_frame(frame: &Frame) -> Result<Frame, VerifyFault>
+pub(crate) fn copied_frame(frame: &Frame) -> Result<Frame, VerifyFault>
     ensures copy { IfOk result (λ copy. copy ≡ frame.now) }
     ensures memory { IfErr result (λ e. e ≡ VerifyFault.Memory) }
 {
@@ -93,7 +93,7 @@ fn copied_frame(frame: &Frame) -> Result<Frame, VerifyFault>
 }
 
 /// The tid of the last thread that ran behind a frame, which is the one before where the frame has none.
-fn last_behind(frame: &Frame, before: u32) -> u32
+pub(crate) fn last_behind(frame: &Frame, before: u32) -> u32
     ensures { result ≡ thread_after frame.now before }
 {
     if frame.end.has_thread() {
@@ -175,7 +175,7 @@ fn complete(alloc: Global, walk: &mut Walk, index: usize) -> Result<(), VerifyFa
     Ok(())
 }
 
-fn copied_part(part: &Part) -> Result<Part, VerifyFault>
+pub(crate) fn copied_part(part: &Part) -> Result<Part, VerifyFault>
     ensures copy { IfOk result (λ copy. copy ≡ part.now) }
     ensures memory { IfErr result (λ e. e ≡ VerifyFault.Memory) }
 {

@@ -7,12 +7,16 @@ ghost use Rattle.replayer.specs.Verified.{RanFromLast};
 ghost use Rattle.reverse_step.specs.Changes.{IsLastChange};
 
 use crate::fault::SeekFault;
-use crate::searching::last_in;
+use crate::searching::{last_in, last_in_spans, spans_before};
 use guest_calls::Guest;
 use replayer::{Place, Verified};
 use rrv_model::refusal::Memory;
 use std::alloc::Global;
 use std::marker::Model;
+use std::thread::Threads;
+
+/// So many spans between checkpoints are searched at a time at most.
+const MOST_SPANS: usize = 64;
 
 /// A guest at a place of a verified recording, which it can leave for any other.
 #[derive(Drop)]
@@ -143,6 +147,42 @@ impl<'a> Cursor<'a> {
         while 0 < end {
             let start = verified.checkpoint_before(end - 1);
             let found = last_in(alloc, verified, start, end, address)?;
+            match found {
+                Some(t) => {
+                    self.place = verified.place_at(alloc, t)?;
+                    return Ok(Some(t));
+                }
+                None => end = start,
+            }
+        }
+        Ok(None)
+    }
+
+    /// What [`Cursor::last_change`] does, in spans between checkpoints side by side, by so many workers at most, each in a thread of
+    /// its own if one can be made. Spans are searched several at a time, those before the place first: at first as many as there
+    /// are workers, and then twice as many each time, up to 64.
+    pub fn last_change_in_spans<R: Threads + Sync>(
+        &mut self,
+        rt: &R,
+        alloc: Global,
+        workers: usize,
+        address: u32,
+    ) -> Result<Option<u64>, Memory>
+        ensures verified { self.new.verified ≡ self.old.verified }
+        ensures change { IfOk result (IsLastChange self.old.verified.opening self.old.verified.frames address
+            self.old.place) }
+        ensures at { IfOk result (λ found. IfSome found (λ t. self.new.place ≡ t)) }
+        ensures ran { IfOk result (λ found. IfSome found (λ t. RanFromLast self.new.verified t self.new.guest.ran)) }
+        ensures stays { IfOk result (λ found. IfNone found (self.new ≡ self.old)) }
+        ensures refused { OnErr result (self.new ≡ self.old) }
+    {
+        let verified = self.place.verified();
+        let mut end = self.place.at();
+        let mut count = workers;
+        while 0 < end {
+            let start = spans_before(verified, end, count);
+            let found = last_in_spans(rt, alloc, verified, start, end, address, workers)?;
+            count = count.saturating_mul(2).min(MOST_SPANS);
             match found {
                 Some(t) => {
                     self.place = verified.place_at(alloc, t)?;

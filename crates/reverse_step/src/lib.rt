@@ -12,6 +12,8 @@
 //! - `last_change`: the greatest place below this one whose instruction changes the byte at an address, or whether there is
 //!   one; the cursor then stands there, and stays if there is none. It goes back from checkpoint to checkpoint and runs each
 //!   instruction below the place once at most, and then seeks the place found; that cost is in no contract.
+//! - `last_change_in_spans`: the same, clause for clause, on several threads, each of which searches spans between checkpoints. How
+//!   many spans there are, and that they are searched at once, is in no contract.
 //! - `forward`, and `seek` to a place ahead, go on with a copy of the guest if no complete checkpoint lies in between. A copy is
 //!   one of each mapped page and thread: the guest itself would be lost if a growth is refused on the way, and the cursor has to
 //!   stay then. Each other move opens the guest anew, puts every checkpoint at or before its place onto the opening, one after the other, and runs on

@@ -10,7 +10,7 @@ returns-in_default-clause-refused g c =
     let shared = c.args.shared.now in
     let t = YieldsList-turn (YieldsList-from_vec {s = c.into_iter-image-iterator.result} c.args.images.items (search rules) (search rules))
     c.loop-image.yielded _ c.loop-image.yielded_by _ c.next.new.self c.in-Some.image c.in-Some.is c.next.ensures.steps in
-    let many = as_many (terms_of shared.input.now shared.seed shared.quantum shared.every shared.choices.now shared.then) 0
+    let many = as_many (terms_of shared) 0
     c.loop-image.yielded c.loop-image.jobs.items c.loop-image.invariant.2 in
     let past = c.in_default.ensures in
     let len = c.len.ensures in
@@ -19,7 +19,7 @@ returns-in_default-clause-refused g c =
 pub loop-image-preserved : goal.loop-image-preserved
 loop-image-preserved g c =
     let shared = c.args.shared.now in
-    let terms = terms_of shared.input.now shared.seed shared.quantum shared.every shared.choices.now shared.then in
+    let terms = terms_of shared in
     let place = c.in-Ok.ensures in
     let len = c.len.ensures in
     let at : c.in-Ok.place ≡ 0 + length c.loop-image.jobs.items = omega (arith, place.1, len) in (

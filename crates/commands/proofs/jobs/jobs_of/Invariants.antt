@@ -5,5 +5,5 @@ abbrev pub invariant-loop-image : goal.invariant-loop-image
 invariant-loop-image g l =
     (goal.iterator-loop-image g).can_next l.image-iterator ×
     (goal.iterator-loop-image g).is_finite l.image-iterator ×
-    AreJobs (terms_of l.shared.input.now l.shared.seed l.shared.quantum l.shared.every l.shared.choices.now l.shared.then) 0 l.yielded
+    AreJobs (terms_of l.shared) 0 l.yielded
     l.jobs.items

@@ -19,7 +19,7 @@ returns g c =
     let shared = c.args.shared.now in
     let r = c.record_all-log.ensures in
     let told = ok_is _ _ _ c.in_ok-report.was r.recorded.2 in record {
-      stored = has_recorded _ _ _ (terms_of shared.input.now shared.seed shared.quantum shared.every shared.choices.now shared.then)
+      stored = has_recorded _ _ _ (terms_of shared)
           c.args.images.items _ _ _ _ _ c.in_ok-report.report.guests.items r.recorded.1
           (subst (λ a. OnOk a (c.record_all-log.result.0.is_broken ≡ false)) c.in_ok-report.was r.whole) c.in_ok-jobs.ensures.jobs told.0;
     }

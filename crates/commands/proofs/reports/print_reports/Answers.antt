@@ -1,6 +1,7 @@
-use Rattle.std.proofs.Common.{arith, None}
+use Rattle.std.proofs.Common.{arith, None, ◌∙◌}
 use Rattle.std.proofs.lemmas.Option.{slice_get-get_or}
 use Rattle.session.proofs.Openings.{get_is}
+use Rattle.commands.specs.Names.{name_by}
 use Rattle.commands.proofs.Texts.{guests_on}
 use Rattle.commands.proofs.reports.print_reports.Goals as goal
 
@@ -10,8 +11,9 @@ loop-place-preserved g c =
     let i = c.loop-place.place in
     let within = c.loop-place-test.true in (
       before.0,
-      guests_on i c.args.reports.now c.args.guests.now c.args.lasts.now _ _ _ _ _ _
+      guests_on (name_by c.args.names) i c.args.reports.now c.args.guests.now c.args.lasts.now _ _ _ _ _ _ _
           (slice_get-get_or _ i (record { number = 0; records = 0; end = None }) within)
           (get_is _ i _ (omega (arith, within, c.requires.guests)) c.index-guests-place.is)
-          (slice_get-get_or _ i 0 (omega (arith, within, c.requires.lasts))) before.1 c.in_ok-print_report.ensures.printed,
+          (slice_get-get_or _ i 0 (omega (arith, within, c.requires.lasts)))
+          (c.as_bytes.ensures.value ∙ c.in_ok-name.ensures.name) before.1 c.in_ok-print_report.ensures.printed,
     )

@@ -1,6 +1,7 @@
 use Rattle.std.proofs.Common.{◌≡◌, length}
 use Rattle.std.specs.Prelude.{take}
 use Rattle.std.specs.Io.KnownBytes.{Appends}
+use Rattle.commands.specs.Names.{name_by}
 use Rattle.commands.specs.Reports.{guests_told}
 use Rattle.commands.proofs.reports.print_reports.Given as goal
 
@@ -8,4 +9,4 @@ abbrev pub invariant-loop-place : goal.invariant-loop-place
 invariant-loop-place g l =
     (l.place-end ≡ length l.reports)
     × Appends (g.W.Write.contents l.initial.out) (g.W.Write.contents l.out)
-    (guests_told 0 (take l.place l.reports) (take l.place l.guests) (take l.place l.lasts))
+    (guests_told (name_by l.names) 0 (take l.place l.reports) (take l.place l.guests) (take l.place l.lasts))

@@ -22,8 +22,8 @@ returns-in-Some-clause-printed g c =
     let v = c.args.verified.now in
     let made = c.in_ok-cursor.ensures in
     let at : c.in_ok-cursor.cursor.place ≡ c.place_in.result = omega (arith, made.at) in
-    let moved = c.in_ok-last_change.ensures in
-    let new = c.last_change.new.self in
+    let moved = c.in_ok-last_change_in_spans.ensures in
+    let new = c.last_change_in_spans.new.self in
     let contents = g.W.Write.contents in
     change_printed {E = Refusal} (Ok (tt {0})) v.opening v.frames c.args.ranges.now c.args.address (place_in (total v.frames) c.args.from)
     c.in-Some.field-0 new.place _ _
@@ -40,5 +40,6 @@ returns-clause-printed g c =
     let at : c.in_ok-cursor.cursor.place ≡ c.place_in.result = omega (arith, made.at) in
     unchanged_printed {E = Refusal} (Ok (tt {0})) v.opening v.frames c.args.ranges.now c.args.address
     (place_in (total v.frames) c.args.from) _ _
-    (last_change _ v c.args.address _ _ _ _ made.verified_is (at ∙ c.place_in.ensures) c.in-None.is c.in_ok-last_change.ensures.change)
+    (last_change _ v c.args.address _ _ _ _ made.verified_is (at ∙ c.place_in.ensures) c.in-None.is
+    c.in_ok-last_change_in_spans.ensures.change)
     c.in_ok-print_line-in-None.ensures.printed

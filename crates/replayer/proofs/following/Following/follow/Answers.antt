@@ -1,18 +1,18 @@
-use Rattle.std.proofs.Common.{refl, subst, sym}
+use Rattle.std.proofs.Common.{[], refl, subst, sym}
 use Rattle.std.proofs.lemmas.Result.{err_from_is_err_and}
 use Rattle.replayer.specs.Following.{FollowingValue, IsBehind}
-use Rattle.replayer.proofs.Behind.{behind_next, behind_refused}
+use Rattle.replayer.proofs.Behind.{reached_next, reached_refused}
 use Rattle.replayer.proofs.following.Following.follow.Goals as goal
 
 pub returns-in_err-follow_record-clause-refused : goal.returns-in_err-follow_record-clause-refused
 returns-in_err-follow_record-clause-refused c =
     let p = err_from_is_err_and c.from_residual.result c.from_residual.ensures.1 in
-    rw (p.1, p.2) (λ records h. behind_refused c.in_err-follow_record.field-0.0 records c.args.entry.now _
+    rw (p.1, p.2) (λ records h. reached_refused c.in_err-follow_record.field-0.0 records c.args.entry.now [] _
     (subst (λ (f : FollowingValue). IsBehind f records) (sym c.self.view_is) h) c.in_err-follow_record.ensures.refused)
 
 pub returns-clause-behind : goal.returns-clause-behind
 returns-clause-behind c = λ records h.
     let next = c.in_ok-follow_record.ensures in
     let index_is = next.leads.index_is in
-    behind_next records c.args.entry.now _ _ (subst (λ (f : FollowingValue). IsBehind f records) (sym c.self.view_is) h) refl
-    (rw index_is refl) next.counted next.last next.leads
+    reached_next records c.args.entry.now _ _ (subst (λ (f : FollowingValue). IsBehind f records) (sym c.self.view_is) h)
+    (record { number = refl; len = rw index_is refl; total = next.counted; last = next.last; leads = next.leads })

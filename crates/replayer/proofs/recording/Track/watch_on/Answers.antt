@@ -1,4 +1,4 @@
-use Rattle.std.proofs.Common.{arith, ◌≡◌, ◌≤◌, ◌+◌, ◌-◌, ◌<◌, Option, ℕ, drop, refl, subst, sym}
+use Rattle.std.proofs.Common.{arith, ◌+◌, Option, ℕ, drop, refl, subst, sym}
 use Rattle.guest_calls.specs.Guest.{state_of}
 use Rattle.replayer.specs.declared.position.Position.{Position}
 use Rattle.replayer.specs.Changes.{IsLastIn, place_after}

@@ -1,8 +1,7 @@
-use Rattle.std.proofs.Common.{arith, ◌≡◌, ◌+◌, None, ◌∙◌, ap, subst, sym}
+use Rattle.std.proofs.Common.{arith, ◌+◌, None, ◌∙◌, subst, sym}
 use Rattle.std.proofs.lemmas.Bool.{false≢true}
 use Rattle.rrv_model.specs.StateAt.{StateAt}
 use Rattle.guest_calls.specs.Guest.{state_of}
-use Rattle.replayer.specs.Changes.{byte_at}
 use Rattle.replayer.proofs.Changed.{change_more, none_yet, same_more}
 use Rattle.replayer.proofs.recording.Track.watch_one.Goals as goal
 use Rattle.replayer.proofs.recording.Track.watch_one.Goals.{In_ok-go_on}
