@@ -17,7 +17,7 @@ _rrv_place() {
     place=0
     while ((at < COMP_CWORD)); do
         case ${COMP_WORDS[at]} in
-            --quantum | --every | --input | --seed | --name | --choices | --then | --limit | --at | --memory)
+            --quantum | --every | --input | --seed | --name | --choices | --then | --limit | --times | --at | --memory)
                 ((at += 1))
                 if [[ ${COMP_WORDS[at]} == = ]]; then ((at += 1)); fi
                 if [[ ${COMP_WORDS[at + 1]} == : ]]; then ((at += 2)); fi
@@ -31,7 +31,7 @@ _rrv_place() {
 
 _rrv() {
     local word=${COMP_WORDS[COMP_CWORD]} before=${COMP_WORDS[COMP_CWORD - 1]} options='-h --help' place
-    local commands='new record check list elf dump verify replay back last choices core help'
+    local commands='new record check list elf copy dump verify replay back last choices core ask help'
     COMPREPLY=()
     # Bash parts an option and its value at the '=', and the two numbers of --memory at the ':'.
     if [[ $word == = ]]; then
@@ -44,21 +44,22 @@ _rrv() {
         return
     fi
     case ${COMP_WORDS[1]} in
-        new | check | elf | help) ;;
+        new | check | elf | copy | help) ;;
         list) options+=' --long --progress' ;;
         dump) options+=' --places --trace-events --progress' ;;
         record) options+=' --quantum --every --input --seed --name --choices --then --limit --fail --progress' ;;
         verify) options+=' --long --progress' ;;
-        choices | core) options+=' --progress' ;;
+        choices | core | ask) options+=' --progress' ;;
         replay) options+=' --at --memory --progress' ;;
-        back | last) options+=' --memory --progress' ;;
+        back) options+=' --memory --progress' ;;
+        last) options+=' --word --times --short --memory --progress' ;;
         *) return ;;
     esac
     case $before in
         --input | --choices) _rrv_files && return ;;
         --then) _rrv_words 'turns none' && return ;;
         --at) _rrv_words end && return ;;
-        --quantum | --every | --seed | --name | --limit | --memory | :) return ;;
+        --quantum | --every | --seed | --name | --limit | --times | --memory | :) return ;;
     esac
     if [[ $word == -* ]]; then
         _rrv_words "$options"
@@ -68,7 +69,7 @@ _rrv() {
     case ${COMP_WORDS[1]}:$place in
         help:0) _rrv_words "$commands" ;;
         help:*) ;;
-        *:0 | record:* | core:3) _rrv_files ;;
+        *:0 | record:* | core:3 | copy:2) _rrv_files ;;
         back:2 | last:2 | core:2) _rrv_words end ;;
     esac
 }

@@ -106,4 +106,6 @@ help_of name (inr (inr (inr (inr (inr (inr (inr (inr (inr (inl is)))))))))) = su
 help_of name (inr (inr (inr (inr (inr (inr (inr (inr (inr (inr (inl is))))))))))) = subst help_at (sym is) refl
 help_of name (inr (inr (inr (inr (inr (inr (inr (inr (inr (inr (inr (inl is)))))))))))) = subst help_at (sym is) refl
 help_of name (inr (inr (inr (inr (inr (inr (inr (inr (inr (inr (inr (inr (inl is))))))))))))) = subst help_at (sym is) refl
-help_of name (inr (inr (inr (inr (inr (inr (inr (inr (inr (inr (inr (inr (inr h))))))))))))) = absurd h
+help_of name (inr (inr (inr (inr (inr (inr (inr (inr (inr (inr (inr (inr (inr (inl is)))))))))))))) = subst help_at (sym is) refl
+help_of name (inr (inr (inr (inr (inr (inr (inr (inr (inr (inr (inr (inr (inr (inr (inl is))))))))))))))) = subst help_at (sym is) refl
+help_of name (inr (inr (inr (inr (inr (inr (inr (inr (inr (inr (inr (inr (inr (inr (inr h))))))))))))))) = absurd h

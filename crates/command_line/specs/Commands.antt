@@ -4,7 +4,7 @@ use Rattle.std.specs.Borrow.{Bor}
 use Rattle.clap.specs.Simple.{new_shape}
 use Rattle.clap.specs.Words.{App, Row, Rule, Shape, Text, first_of}
 use Rattle.command_line.specs.Arguments.{allowed, flag, needed, option, option_or, repeated, several}
-use Rattle.command_line.specs.Values.{HasAddress, HasFlag, HasForm, HasMemory, HasNumber, HasPlace, HasText, NamesGuest}
+use Rattle.command_line.specs.Values.{HasFlag, HasForm, HasMemory, HasNumber, HasNumberIn, HasPlace, HasText, HasWatched, NamesGuest}
 use Rattle.command_line.specs.Values.{NamesRecording, texts_of}
 use Rattle.command_line.specs.declared.request.Question.{Question}
 use Rattle.command_line.specs.declared.request.Question.TheVariants as questions
@@ -35,6 +35,11 @@ shown_progress = flag (codes "progress") ∷ []
 abbrev pub printed_memory : List Rule
 printed_memory = repeated (codes "memory") ∷ shown_progress
 
+-- which bytes are watched, how many of their changes are printed, and how
+abbrev pub watched_changes : List Rule
+watched_changes =
+    flag (codes "word") ∷ option_or (codes "times") (codes "1") ∷ flag (codes "short") ∷ printed_memory
+
 -- the numbers of a recording, what the guests read, their choices, and last the files
 abbrev pub recorded : List Rule
 recorded =
@@ -56,9 +61,10 @@ abbrev pub asking_commands : List Shape
 asking_commands =
     of_guest (codes "replay") (option (codes "at") ∷ printed_memory)
     ∷ of_guest_from (codes "back") (needed (codes "N") ∷ printed_memory)
-    ∷ of_guest_from (codes "last") (needed (codes "ADDR") ∷ printed_memory)
+    ∷ of_guest_from (codes "last") (needed (codes "ADDR") ∷ watched_changes)
     ∷ of_guest (codes "choices") shown_progress
     ∷ of_guest (codes "core") (needed (codes "AT") ∷ needed (codes "FILE") ∷ shown_progress)
+    ∷ of_guest (codes "ask") shown_progress
     ∷ []
 
 -- that which prints help
@@ -72,6 +78,7 @@ commands =
     ∷ of_program (codes "check")
     ∷ of_store (codes "list") (flag (codes "long") ∷ shown_progress)
     ∷ of_guest (codes "elf") []
+    ∷ of_guest (codes "copy") (needed (codes "TO") ∷ [])
     ∷ of_guest (codes "dump") (flag (codes "places") ∷ flag (codes "trace-events") ∷ shown_progress)
     ∷ of_guest (codes "verify") (flag (codes "long") ∷ shown_progress)
     ∷ (asking_commands ++ of_help ∷ [])
@@ -109,19 +116,22 @@ HasQuestion questions.Output rows = (first_of (codes "at") rows ≡ None) × (te
 HasQuestion (questions.State at memory) rows = HasPlace rows (codes "at") at × HasMemory rows memory.items
 HasQuestion (questions.Back from count memory) rows =
     HasPlace rows (codes "FROM") from × HasNumber rows (codes "N") count × HasMemory rows memory.items
-HasQuestion (questions.Last from address memory) rows =
-    HasPlace rows (codes "FROM") from × HasAddress rows (codes "ADDR") address × HasMemory rows memory.items
+HasQuestion (questions.Last from watched times short memory) rows =
+    HasPlace rows (codes "FROM") from × HasWatched rows watched × HasNumberIn 1 65536 rows (codes "times") times
+    × HasFlag rows (codes "short") short × HasMemory rows memory.items
 HasQuestion questions.Choices rows = Unit {0}
 HasQuestion (questions.Core at file) rows = HasPlace rows (codes "AT") at × HasText rows (codes "FILE") file.now
+HasQuestion questions.Lines rows = Unit {0}
 
 -- the name of a question's command
 abbrev pub question_name : Question → Text
 question_name questions.Output = codes "replay"
 question_name (questions.State at memory) = codes "replay"
 question_name (questions.Back from count memory) = codes "back"
-question_name (questions.Last from address memory) = codes "last"
+question_name (questions.Last from watched times short memory) = codes "last"
 question_name questions.Choices = codes "choices"
 question_name (questions.Core at file) = codes "core"
+question_name questions.Lines = codes "ask"
 
 -- The values of a request of a command. One row a command.
 abbrev pub HasValues : Request → List Row → Type 0
@@ -133,6 +143,7 @@ HasValues (requests.Check file) rows = HasText rows (codes "ELF") file.now
 HasValues (requests.List store replays progress) rows =
     HasText rows (codes "STORE") store.now × HasFlag rows (codes "long") replays × HasFlag rows (codes "progress") progress
 HasValues (requests.Elf guest) rows = NamesGuest rows guest
+HasValues (requests.Copy guest to) rows = NamesGuest rows guest × HasText rows (codes "TO") to.now
 HasValues (requests.Dump guest form progress) rows =
     NamesGuest rows guest × HasForm rows form × HasFlag rows (codes "progress") progress
 HasValues (requests.Verify guest long progress) rows =
@@ -149,6 +160,7 @@ name_of (requests.Record recording) = codes "record"
 name_of (requests.Check file) = codes "check"
 name_of (requests.List store replays progress) = codes "list"
 name_of (requests.Elf guest) = codes "elf"
+name_of (requests.Copy guest to) = codes "copy"
 name_of (requests.Dump guest form progress) = codes "dump"
 name_of (requests.Verify guest long progress) = codes "verify"
 name_of (requests.Ask guest question progress) = question_name question

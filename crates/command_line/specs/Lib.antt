@@ -3,3 +3,4 @@ pub mod Commands
 pub mod Lines
 pub mod Unread
 pub mod Values
+pub mod Asked

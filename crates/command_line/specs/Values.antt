@@ -1,5 +1,5 @@
 -- What the values of arguments stand for.
-use Rattle.std.specs.Prelude.{◌≡◌, ◌↔◌, ◌⊎◌, ◌≤◌, ◌==◌, ◌&&◌, not, if◌then◌else◌, ℕ, Bool, false, List, [], Option, None, Some, cond, codes, drop, length, map, option_map, take, true}
+use Rattle.std.specs.Prelude.{◌≡◌, ◌↔◌, ◌⊎◌, ◌+◌, ◌≤◌, ◌==◌, ◌&&◌, not, if◌then◌else◌, ℕ, Bool, false, List, [], Option, None, Some, cond, codes, drop, length, map, option_map, take, true}
 use Rattle.std.specs.Prelude.{IsSomeAnd, unwrap_or}
 use Rattle.std.specs.Borrow.{Bor}
 use Rattle.std.specs.List.{AllByRecursion, AllZip, after_first, before_first}
@@ -17,6 +17,7 @@ use Rattle.command_line.specs.declared.request.Place.TheVariants as places
 use Rattle.command_line.specs.declared.request.Recording.{Recording}
 use Rattle.command_line.specs.declared.request.Then.{Then}
 use Rattle.command_line.specs.declared.request.Then.TheVariants as thens
+use Rattle.command_line.specs.declared.request.Watched.{Watched}
 
 -- ---- numbers
 
@@ -141,6 +142,14 @@ pub record NamesRecording (rows : List Row) (r : Recording) : Type 0 where
   pub limit : HasNumberIf rows (codes "limit") r.limit
   pub fail : HasFlag rows (codes "fail") r.fail
   pub progress : HasFlag rows (codes "progress") r.progress
+
+-- the bytes whose changes are looked for: the four of a word if the flag is there, else one
+pub record HasWatched (rows : List Row) (watched : Watched) : Type 0 where
+  pub address : HasAddress rows (codes "ADDR") watched.address
+  pub is_word : Bool
+  pub word : HasFlag rows (codes "word") is_word
+  pub count : watched.count ≡ (if is_word then 4 else 1)
+  pub within : watched.address + watched.count ≤ 4294967296
 
 -- one flag of two is there, or none
 abbrev pub HasForm : List Row → DumpForm → Type 0

@@ -12,7 +12,7 @@ use crate::memory::memory;
 use crate::recording::recording;
 use crate::request::{Question, Request};
 use crate::unread::{Unread, Wanted};
-use crate::values::{address, flag, form, guest, number, place, text, text_or_none, texts};
+use crate::values::{flag, form, guest, number, place, text, text_or_none, texts, watched};
 use clap::{ArgMatches, Command};
 use std::alloc::{AllocError, Global};
 
@@ -115,6 +115,15 @@ const SUBCOMMANDS: &[Subcommand] = &[
         arguments: &[STORE, GUEST],
     },
     Subcommand {
+        name: "copy",
+        about: "copies a guest to another store",
+        arguments: &[
+            STORE,
+            GUEST,
+            Argument::Needed("TO", "the file of the other store"),
+        ],
+    },
+    Subcommand {
         name: "dump",
         about: "prints a line for each record of a guest",
         arguments: &[
@@ -173,6 +182,14 @@ const SUBCOMMANDS: &[Subcommand] = &[
             GUEST,
             FROM,
             Argument::Needed("ADDR", "the byte's address, 1 to 8 hexadecimal digits"),
+            Argument::Flag("word", "watch the four bytes from ADDR on"),
+            Argument::Defaulted(
+                "times",
+                "N",
+                "1",
+                "go on to the changes before it, up to N, 1 to 65536",
+            ),
+            Argument::Flag("short", "print a line for each change, not the state"),
             MEMORY,
             PROGRESS,
         ],
@@ -192,6 +209,11 @@ const SUBCOMMANDS: &[Subcommand] = &[
             Argument::Needed("FILE", "the core file to write"),
             PROGRESS,
         ],
+    },
+    Subcommand {
+        name: "ask",
+        about: "answers questions of a guest, a line of standard input each",
+        arguments: &[STORE, GUEST, PROGRESS],
     },
     Subcommand {
         name: "help",
@@ -282,6 +304,10 @@ pub(crate) fn request_of<'a>(alloc: Global, found: Found<'_, 'a>) -> Result<Requ
         "elf" => Ok(Request::Elf {
             guest: guest(values)?,
         }),
+        "copy" => Ok(Request::Copy {
+            guest: guest(values)?,
+            to: text(values, "TO")?,
+        }),
         "dump" => Ok(Request::Dump {
             guest: guest(values)?,
             form: form(values)?,
@@ -313,18 +339,28 @@ fn question<'a>(alloc: Global, found: Found<'_, 'a>) -> Result<Question<'a>, Unr
             count: number(values, "N", 0, u64::MAX)?,
             memory: memory(alloc, values)?,
         }),
-        "last" => Ok(Question::Last {
-            from: place(values, "FROM")?,
-            address: address(values, "ADDR")?,
-            memory: memory(alloc, values)?,
-        }),
+        "last" => last(alloc, values),
         "choices" => Ok(Question::Choices),
         "core" => Ok(Question::Core {
             at: place(values, "AT")?,
             file: text(values, "FILE")?,
         }),
+        "ask" => Ok(Question::Lines),
         _ => unreachable!(),
     }
+}
+
+/// What `last` asks for.
+fn last<'a>(alloc: Global, values: &ArgMatches<'a>) -> Result<Question<'a>, Unread<'a>>
+    ensures { Reads (λ question. IsQuestionOf question (codes "last", rows_in values.now)) result }
+{
+    Ok(Question::Last {
+        from: place(values, "FROM")?,
+        watched: watched(values)?,
+        times: number(values, "times", 1, 65_536)?,
+        short: flag(values, "short"),
+        memory: memory(alloc, values)?,
+    })
 }
 
 /// What `replay` asks for: the state at a place, where one is given, and else the output.

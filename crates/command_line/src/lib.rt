@@ -12,14 +12,18 @@
 //!   what it found. No word at all is the demonstration.
 //! - Numbers: decimal digits, with a plus before them or none, as a number of 64 bits or within the bounds of the argument; an
 //!   address is 1 to 8 hexadecimal digits, with `0x` before them or not. A place is a number or `end`. A range of memory is an
-//!   address, a colon and a length, and none is asked for without a place. Files of choices are none, one, or as many as
+//!   address, a colon and a length, and none is asked for without a place. The bytes that `last` watches, one or the four of a
+//!   word, have addresses below 2^32. Files of choices are none, one, or as many as
 //!   programs, and so are names, each of which fits a guest, also with the guest's place behind the only one of several. Each
 //!   value that is refused fits no request.
+//! - `asked_in`: what a line of `ask` asks: its name, and after the first space its value, which is a place, a number, an address
+//!   or a range of memory as the arguments of commands are, a file, or nothing. It is refused only if nothing is asked so.
 //! - `help`: what the parser says where help is asked for.
 //! - `seed`: Ok exactly for 32 hexadecimal digits, with the 16 bytes that they write.
 #![tactic(auto)]
 
 mod arguments;
+mod asked;
 mod commands;
 mod digits;
 mod lines;
@@ -30,7 +34,11 @@ mod request;
 mod unread;
 mod values;
 
+pub use asked::{Asked, BadLine, Inquiry, asked_in};
 pub use commands::program;
 pub use digits::{BadSeed, seed};
 pub use lines::{help, line};
-pub use request::{DumpForm, GuestOf, MemoryRange, Place, Question, Recording, Request, Then};
+pub use request::{
+    DumpForm, GuestOf, MemoryRange, Place, Question, Recording, Request, Then, Watched,
+};
+pub use unread::Wanted;

@@ -14,7 +14,7 @@ use clap::ArgMatches;
 use std::alloc::Global;
 
 /// The bytes that ADDR:LEN names; None where a text is no such.
-fn range_in(text: &str) -> Option<MemoryRange>
+pub(crate) fn range_in(text: &str) -> Option<MemoryRange>
     ensures some { IfSome result (IsMemoryRange text.now) }
     ensures none { result ≡ None → (range : MemoryRange) → IsMemoryRange text.now range → ⊥ }
 {

@@ -1,5 +1,7 @@
 //! What a line of words asks for.
 
+ghost use Rattle.std.specs.Prelude.{◌+◌, ◌≤◌};
+
 use std::alloc::Global;
 
 /// What a line asks for.
@@ -30,6 +32,11 @@ pub enum Request<'a> {
     /// `elf STORE GUEST`: puts out the program that a guest was recorded from.
     Elf {
         guest: GuestOf<'a>,
+    },
+    /// `copy STORE GUEST TO`: appends a guest's records to another store.
+    Copy {
+        guest: GuestOf<'a>,
+        to: &'a str,
     },
     /// `dump STORE GUEST`: prints the records of a guest.
     Dump {
@@ -67,11 +74,13 @@ pub enum Question<'a> {
         count: u64,
         memory: Vec<MemoryRange>,
     },
-    /// `last STORE GUEST FROM ADDR`: prints the state before the last change, below `from`, of the byte at `address`, with the
-    /// bytes of `memory`.
+    /// `last STORE GUEST FROM ADDR`: prints the last changes, below `from`, of the watched bytes, the last first and `times` at most:
+    /// of each the state before it or, if `short` says so, a line, with the bytes of `memory`.
     Last {
         from: Place,
-        address: u32,
+        watched: Watched,
+        times: u64,
+        short: bool,
         memory: Vec<MemoryRange>,
     },
     /// `choices STORE GUEST`: prints the choices of the turns.
@@ -81,6 +90,8 @@ pub enum Question<'a> {
         at: Place,
         file: &'a str,
     },
+    /// `ask STORE GUEST`: answers lines of standard input.
+    Lines,
 }
 
 /// A place in a recording.
@@ -110,6 +121,16 @@ pub struct MemoryRange {
     pub address: u32,
     /// How many bytes, 1 to 65,536.
     pub length: u32,
+}
+
+/// Bytes of a guest's memory whose changes are looked for.
+#[derive(Clone, Copy, Debug, PartialEq, Eq)]
+pub struct Watched {
+    /// The first byte's address.
+    pub address: u32,
+    /// How many bytes: 1, or the 4 of a word.
+    pub count: u32,
+    ghost within: { address + count ≤ 4294967296 },
 }
 
 /// What a recording does behind the last of its choices.

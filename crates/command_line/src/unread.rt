@@ -42,11 +42,13 @@ pub(crate) enum Unread<'a> {
 
 /// What the text of an argument has to be.
 #[derive(Clone, Copy, Debug)]
-pub(crate) enum Wanted {
+pub enum Wanted {
     /// A number within these bounds.
     Number { least: u64, most: u64 },
     /// An address.
     Address,
+    /// The address of four bytes.
+    WordAddress,
     /// A place.
     Place,
     /// The bytes of memory that are to be printed.
@@ -64,6 +66,9 @@ impl Display for Wanted {
         match *self {
             Wanted::Number { least, most } => write!(f, "a number from {least} to {most}"),
             Wanted::Address => f.write_str("1 to 8 hexadecimal digits"),
+            Wanted::WordAddress => {
+                f.write_str("the address of four bytes: 1 to 8 hexadecimal digits, up to fffffffc")
+            }
             Wanted::Place => f.write_str("a place: a number of instructions, or end"),
             Wanted::Range => f.write_str(
                 "ADDR:LEN, with 1 to 8 hexadecimal digits and a length from 1 to 65536",

@@ -1,13 +1,13 @@
 //! The values that the parser found, read as what they stand for.
 
-ghost use Rattle.std.specs.Prelude.{◌≡◌, map, option_map};
+ghost use Rattle.std.specs.Prelude.{◌≡◌, if◌then◌else◌, map, option_map};
 ghost use Rattle.clap.specs.Words.{all_of};
 ghost use Rattle.command_line.specs.Unread.{Reads, ReadsAs};
 ghost use Rattle.command_line.specs.Values.{HasAddress, HasFlag, HasForm, HasNumberIf, HasNumberIn, HasOption, HasPlace, HasText, HasThen};
-ghost use Rattle.command_line.specs.Values.{NamesGuest, rows_in, texts_of};
+ghost use Rattle.command_line.specs.Values.{HasWatched, NamesGuest, rows_in, texts_of};
 
 use crate::numbers::{address_in, number_in, place_in};
-use crate::request::{DumpForm, GuestOf, Place, Then};
+use crate::request::{DumpForm, GuestOf, Place, Then, Watched};
 use crate::unread::{Unread, Wanted};
 use clap::ArgMatches;
 
@@ -106,6 +106,32 @@ pub(crate) fn address<'a>(values: &ArgMatches<'a>, name: &'a str) -> Result<u32,
             wanted: Wanted::Address,
         }),
     }
+}
+
+/// How many bytes are watched.
+fn watched_count(is_word: bool) -> u32
+    ensures { result ≡ (if is_word then 4 else 1) }
+{
+    if is_word { 4 } else { 1 }
+}
+
+/// The bytes whose changes are looked for.
+pub(crate) fn watched<'a>(values: &ArgMatches<'a>) -> Result<Watched, Unread<'a>>
+    ensures { Reads (HasWatched (rows_in values.now)) result }
+{
+    let first = address(values, "ADDR")?;
+    let count = watched_count(flag(values, "word"));
+    if u32::MAX - first < count - 1 {
+        return Err(Unread::Bad {
+            name: "ADDR",
+            text: text(values, "ADDR")?,
+            wanted: Wanted::WordAddress,
+        });
+    }
+    Ok(Watched {
+        address: first,
+        count,
+    })
 }
 
 /// What follows the last of the choices.

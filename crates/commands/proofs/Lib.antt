@@ -1,13 +1,1 @@
-pub mod Sources
 pub mod Statuses
-pub mod Texts
-pub mod Summaries
-pub mod JobLists
-pub mod Cores
-pub mod MisfitLists
-pub mod ChoiceLists
-pub mod TurnTexts
-pub mod Lengths
-pub mod Recorded
-pub mod LongTexts
-pub mod NameLists

@@ -1,14 +1,13 @@
 -- Exit statuses.
-use Rattle.std.proofs.Common.{◌≡◌, ◌≢◌, ◌≤◌, inl, inr, ℕ, Bool, false, true, List, arith, refl, subst}
+use Rattle.std.proofs.Common.{◌≡◌, ◌≢◌, ◌≤◌, inl, inr, ℕ, true, arith, refl, subst}
 use Rattle.clap.specs.declared.error.kind.ErrorKind.{ErrorKind}
 use Rattle.clap.specs.declared.error.kind.ErrorKind.TheVariants as kinds
 use Rattle.command_line.specs.declared.request.Recording.{Recording}
 use Rattle.command_line.specs.declared.request.Request.{Request}
 use Rattle.command_line.specs.declared.request.Request.TheVariants as requests
-use Rattle.session.specs.declared.report.GuestReport.{GuestReport}
-use Rattle.commands.specs.declared.outcome.Outcome.{Outcome}
-use Rattle.commands.specs.declared.outcome.Outcome.TheVariants as outcomes
-use Rattle.commands.specs.Status.{IsOutcomeOf, IsStatusFor, IsStatusOf, TellsFailed, outcome_of}
+use Rattle.recording.specs.declared.outcome.Outcome.{Outcome}
+use Rattle.recording.specs.declared.outcome.Outcome.TheVariants as outcomes
+use Rattle.commands.specs.Status.{IsOutcomeOf, IsStatusFor, IsStatusOf, TellsFailed}
 
 pub mistake_status : (kind : ErrorKind) → kind ≢ kinds.OutOfMemory → kind ≢ kinds.DisplayHelp → kind ≢ kinds.DisplayVersion →
     IsStatusOf kind 2
@@ -33,9 +32,6 @@ mistake_status kinds.OutOfMemory memory help version = absurd (memory refl)
 -- ---- what a recording came to
 
 -- that a guest failed is told only where that is asked for
-pub only_if_told : (tells : Bool) (reports : List GuestReport) → outcome_of tells reports ≡ outcomes.GuestFailed → tells ≡ true
-only_if_told false reports is = absurd cc
-only_if_told true reports is = refl
 
 pub of_recording : (recording : Recording) (outcome : Outcome) → (outcome ≡ outcomes.GuestFailed → recording.fail ≡ true) →
     IsOutcomeOf (requests.Record recording) outcome

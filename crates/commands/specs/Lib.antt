@@ -1,14 +1,2 @@
-pub mod Told
-pub mod Files
 pub mod Status
-pub mod Stores
-pub mod Names
-pub mod Printed
-pub mod Limits
-pub mod Jobs
-pub mod Cores
-pub mod Misfits
-pub mod Turns
-pub mod LongList
-pub mod Reports
-pub mod Recorded
+pub mod Programs

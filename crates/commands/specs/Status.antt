@@ -1,6 +1,5 @@
 -- The exit status of a line.
-use Rattle.std.specs.Prelude.{◌≡◌, ◌⊎◌, ◌==◌, ◌&&◌, ℕ, Bool, true, false, not, if◌then◌else◌, List, Option, Some, IsSomeAnd}
-use Rattle.std.specs.List.{list_any}
+use Rattle.std.specs.Prelude.{◌≡◌, ◌⊎◌, ℕ, true, if◌then◌else◌, List, IsSomeAnd}
 use Rattle.clap.specs.declared.error.kind.ErrorKind.{ErrorKind}
 use Rattle.clap.specs.declared.error.kind.ErrorKind.TheVariants as kinds
 use Rattle.clap.specs.Words.{Text, subcommand_of}
@@ -8,11 +7,8 @@ use Rattle.command_line.specs.Commands.{Asks, program}
 use Rattle.command_line.specs.Lines.{Refuses}
 use Rattle.command_line.specs.declared.request.Request.{Request}
 use Rattle.command_line.specs.declared.request.Request.TheVariants as requests
-use Rattle.rrv_model.specs.declared.machine.GuestEnd.{GuestEnd}
-use Rattle.rrv_model.specs.declared.machine.GuestEnd.TheVariants as guest_ends
-use Rattle.session.specs.declared.report.GuestReport.{GuestReport}
-use Rattle.commands.specs.declared.outcome.Outcome.{Outcome}
-use Rattle.commands.specs.declared.outcome.Outcome.TheVariants as outcomes
+use Rattle.recording.specs.declared.outcome.Outcome.{Outcome}
+use Rattle.recording.specs.declared.outcome.Outcome.TheVariants as outcomes
 
 -- the exit status of a line that is refused by an error of this kind: 1 also of help that can't be printed
 abbrev pub IsStatusOf : ErrorKind → ℕ → Type 0
@@ -20,19 +16,6 @@ IsStatusOf kinds.OutOfMemory status = status ≡ 1
 IsStatusOf kinds.DisplayHelp status = (status ≡ 0) ⊎ (status ≡ 1)
 IsStatusOf kinds.DisplayVersion status = (status ≡ 0) ⊎ (status ≡ 1)
 IsStatusOf _ status = status ≡ 2
-
--- a guest ended by an exit with 0
-abbrev pub has_succeeded : Option GuestEnd → Bool
-has_succeeded (Some (guest_ends.Exited status)) = status == 0
-has_succeeded _ = false
-
--- it ended otherwise, or not at all
-abbrev pub has_failed : GuestReport → Bool
-has_failed report = not (has_succeeded report.end)
-
--- what a recording came to, where it is to be told or not that a guest failed
-abbrev pub outcome_of : (tells : Bool) → List GuestReport → Outcome
-outcome_of tells reports = if tells && list_any has_failed reports then outcomes.GuestFailed else outcomes.Done
 
 -- the request is to tell that a guest failed
 abbrev pub TellsFailed : Request → Type 0

@@ -2,13 +2,10 @@
 
 ghost use Rattle.std.specs.Prelude.{◌≡◌, IfErr, IfOk, OnOk, Some};
 ghost use Rattle.std.specs.Io.KnownBytes.{Appends};
-ghost use Rattle.commands.specs.Files.{pages_at_start, program_line, program_text};
-ghost use Rattle.commands.specs.Printed.{with_newline};
-ghost use Rattle.commands.specs.Stores.{RefusesPrint};
+ghost use Rattle.commands.specs.Programs.{pages_at_start, program_line, program_text};
+ghost use Rattle.stored_guests.specs.Printed.{with_newline};
+ghost use Rattle.stored_guests.specs.Stores.{RefusesPrint};
 
-use crate::files::image_in;
-use crate::printing::{finish, in_blocks, print_line};
-use crate::refusal::Refusal;
 use elf_load::Image;
 use guest_calls::Guest;
 use rrv_model::refusal::Memory;
@@ -16,6 +13,7 @@ use std::alloc::Global;
 use std::fmt;
 use std::io::Write;
 use std::rt::Files;
+use stored_guests::{Refusal, finish, image_in, in_blocks, print_line};
 use trace_text::write_word;
 
 /// The line of a program: the address of its first instruction, how many pages a guest of it has at its start, and its break there. As in

@@ -7,25 +7,14 @@ ghost use Rattle.command_line.specs.Lines.{IsWithinLimits};
 ghost use Rattle.commands.specs.Status.{IsOutcomeOf, IsStatus, IsStatusFor, IsStatusOf};
 
 use crate::checking::check;
+use crate::copies::copy;
 use crate::demonstration::demonstrate;
-use crate::guests::{dump, list};
-use crate::long_list::list_long;
-use crate::outcome::Outcome;
 use crate::piped::Piped;
-use crate::printing::print_whole;
-use crate::program_files::put_elf;
-use crate::questions::answer;
-use crate::record::record;
-use crate::refusal::Refusal;
-use crate::replaying::tell;
-use crate::shows::Shows;
-use crate::store::{make_store, open_store};
-use crate::terminals::Terminals;
-use crate::turns::dump_turns;
-use crate::verifying::verified_of;
 use clap::error::ErrorKind as LineFault;
-use command_line::{DumpForm, Question, Request, help, line};
+use command_line::{DumpForm, GuestOf, Question, Request, help, line};
+use recording::{Outcome, record};
 use replayer::VerifiedEnd;
+use showing::{answer, dump, dump_turns, list, list_long, put_elf, tell};
 use std::alloc::Global;
 use std::convert::AsStr;
 use std::fs::File;
@@ -35,6 +24,7 @@ use std::rt::Files;
 use std::sync::Wait;
 use std::thread::Threads;
 use std::time::Clock;
+use stored_guests::{Refusal, Shows, Terminals, make_store, open_store, print_whole, verified_of};
 
 /// Does what a line of words asks for, which are those after the program's name, and returns the exit status: 0 done (also for
 /// a call of help), 1 refused, 2 an invalid line, 3 done, but a guest failed, if the line is to tell that. What is asked for
@@ -148,7 +138,10 @@ fn ends_quietly(request: &Request<'_>) -> bool {
     match request {
         Request::List { .. } | Request::Elf { .. } | Request::Dump { .. } => true,
         Request::Ask { question, .. } => {
-            matches!(question, Question::Output | Question::State { .. })
+            matches!(
+                question,
+                Question::Output | Question::State { .. } | Question::Lines
+            )
         }
         _ => false,
     }
@@ -160,6 +153,55 @@ fn show_help<O: Write>(alloc: Global, command: Option<&str>, out: &mut O) -> Res
     match help.kind() {
         LineFault::OutOfMemory => Err(Refusal::Memory),
         _ => Ok(print_whole(alloc, &help, out)?),
+    }
+}
+
+/// Prints a line for each guest of a store; a long one if its records are to be replayed.
+fn list_guests<
+    R: Files<File = File> + AllocGlobal + Threads + Sync + Clock,
+    O: Write,
+    E: Write + Drop,
+>(
+    rt: &R,
+    path: &str,
+    replays: bool,
+    shows: Shows,
+    out: &mut O,
+    err: &mut E,
+) -> Result<(), Refusal> {
+    let mut store = open_store(rt, path)?;
+    if replays {
+        return list_long(rt, rt.alloc(), &mut store, shows, out, err);
+    }
+    list(rt.alloc(), &mut store, out)
+}
+
+/// Prints the records of a guest, by themselves or with what replaying them tells.
+fn dump_guest<
+    R: Files<File = File> + AllocGlobal + Threads + Sync + Clock,
+    O: Write,
+    E: Write + Drop,
+>(
+    rt: &R,
+    guest: GuestOf<'_>,
+    form: DumpForm,
+    shows: Shows,
+    out: &mut O,
+    err: &mut E,
+) -> Result<(), Refusal> {
+    let mut store = open_store(rt, guest.store)?;
+    match form {
+        DumpForm::Lines => dump(rt.alloc(), &mut store, guest.number, out),
+        form => dump_turns(
+            rt,
+            rt.alloc(),
+            &mut store,
+            guest.number,
+            form,
+            shows,
+            out,
+            err,
+        ),
     }
 }
 
@@ -187,41 +229,24 @@ fn perform<
         Request::Check { file } => check(rt, file, out)?,
         Request::List {
             store,
-            replays: false,
-            ..
-        } => list(alloc, &mut open_store(rt, store)?, out)?,
-        Request::List {
-            store,
+            replays,
             progress,
-            ..
         } => {
-            let mut store = open_store(rt, store)?;
-            list_long(
-                rt,
-                alloc,
-                &mut store,
-                Shows::new(progress, terminals),
-                out,
-                err,
-            )?;
+            let shows = Shows::new(progress, terminals);
+            list_guests(rt, store, replays, shows, out, err)?;
         }
         Request::Elf { guest } => {
             let mut store = open_store(rt, guest.store)?;
             put_elf(alloc, &mut store, guest.number, out)?;
         }
-        Request::Dump {
-            guest,
-            form: DumpForm::Lines,
-            ..
-        } => dump(alloc, &mut open_store(rt, guest.store)?, guest.number, out)?,
+        Request::Copy { guest, to } => copy(rt, guest, to, out)?,
         Request::Dump {
             guest,
             form,
             progress,
         } => {
-            let mut store = open_store(rt, guest.store)?;
             let shows = Shows::new(progress, terminals);
-            dump_turns(rt, alloc, &mut store, guest.number, form, shows, out, err)?;
+            dump_guest(rt, guest, form, shows, out, err)?;
         }
         Request::Verify {
             guest,
@@ -235,7 +260,7 @@ fn perform<
             guest,
             question,
             progress,
-        } => answer(rt, guest, &question, progress || terminals.err, out, err)?,
+        } => answer(rt, guest, &question, progress, terminals, out, err)?,
     }
     Ok(Outcome::Done)
 }

@@ -1,4 +1,4 @@
--- The printed lines of how a guest ended. Each ends with a newline.
+-- The printed lines of how a guest ended, and of a place. Each ends with a newline.
 use Rattle.std.specs.Prelude.{ℕ, ◌-◌, ◌%◌, ◌==◌, if◌then◌else◌, List, [], ◌++◌, flat_map, codes, Option, Some, None}
 use Rattle.std.specs.Fmt.{decimal}
 use Rattle.std.specs.FinMap.{entries}
@@ -84,6 +84,19 @@ abbrev pub fault_line : FaultKind → (place last : ℕ) → State → List ℕ
 fault_line kind place last s =
     codes "fault " ++ (fault_name kind ++ (codes " at " ++ (decimal place
     ++ (faulting_text kind last (thread_at s last) s.memory ++ newline))))
+
+-- ---- a place
+
+-- the address of a thread's next instruction, and that one's word; nothing if the thread isn't there
+abbrev pub next_text : ℕ → Option Thread → Memory → List ℕ
+next_text tid None m = []
+next_text tid (Some t) m = place_text tid t.regs.pc ++ instruction_text (mapped_word m t.regs.pc)
+
+-- a place, of so many, and what the thread of this tid comes to from there
+abbrev pub where_line : (place total tid : ℕ) → State → List ℕ
+where_line place total tid s =
+    codes "at " ++ (decimal place ++ (codes " of " ++ (decimal total
+    ++ (next_text tid (thread_at s tid) s.memory ++ newline))))
 
 -- ---- the other ends
 

@@ -133,7 +133,11 @@ fn write_faulting<W: fmt::Write>(
 
 /// A thread's tid and the address of its next instruction.
 #[tactic(auto, unfolding(crate::specs::Ends::place_text))]
-fn write_place<W: fmt::Write>(f: &mut fmt::Formatter<W>, tid: u32, pc: u32) -> fmt::Result
+pub(crate) fn write_place<W: fmt::Write>(
+    f: &mut fmt::Formatter<W>,
+    tid: u32,
+    pc: u32,
+) -> fmt::Result
     ensures { WritesOnOk W.write_str_gives f.old result (place_text tid pc) f.new }
 {
     write!(f, " thread {tid} pc ")?;
@@ -155,7 +159,10 @@ fn write_cause<W: fmt::Write>(
 }
 
 /// The word of an instruction.
-fn write_instruction<W: fmt::Write>(f: &mut fmt::Formatter<W>, word: Option<u32>) -> fmt::Result
+pub(crate) fn write_instruction<W: fmt::Write>(
+    f: &mut fmt::Formatter<W>,
+    word: Option<u32>,
+) -> fmt::Result
     ensures { WritesOnOk W.write_str_gives f.old result (instruction_text word) f.new }
 {
     match word {

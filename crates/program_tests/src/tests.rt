@@ -1,4 +1,4 @@
-//! Texts of refusals, what guests get from the host, and what is found where memory or a record is wanting.
+//! Texts of refusals, what guests get from the host, what is found where memory or a record is wanting, and of spans.
 
 use std::fmt::{Debug, Display};
 use std::process::Abort;
@@ -6,6 +6,7 @@ use std::test::Fail;
 
 mod from_host;
 mod given;
+mod in_spans;
 mod memory;
 mod refusals;
 

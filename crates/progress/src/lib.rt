@@ -4,7 +4,7 @@
 //!
 //! # Contracts
 //!
-//! The line that shows how far a command is, and `Clearing`, a stream that clears that line before it writes: a recording's
+//! The line that shows how far a command or a search is, and `Clearing`, a stream that clears that line before it writes: a recording's
 //! output and errors go through it to the standard streams. Neither has a contract: `tools/progress_cases` looks at both.
 #![tactic(auto)]
 
@@ -12,9 +12,11 @@ mod clearing;
 mod extent;
 mod meter;
 mod recording;
+mod searching;
 mod verifying;
 
 pub use clearing::Clearing;
 pub use extent::Count;
 pub use recording::RecordProgress;
+pub use searching::SearchProgress;
 pub use verifying::VerifyProgress;

@@ -20,6 +20,11 @@ impl<'a, R: Clock> Meter<'a, R> {
         }
     }
 
+    /// Begins anew.
+    pub(crate) fn restart(&mut self) {
+        self.last = Instant::now(self.rt).ok();
+    }
+
     /// Whether a line may be written now. Then none may be for a while.
     pub(crate) fn is_due(&mut self) -> bool {
         let Ok(now) = Instant::now(self.rt) else {

@@ -1,6 +1,8 @@
 //! What checkpoints among a guest's records claim, found without running an instruction.
 
 ghost use Rattle.std.specs.Prelude.{◌≡◌, ◌++◌, ◌∷◌, [], IfErr, IfOk, IsErrOf, OnOk};
+ghost use Rattle.rrv_model.specs.declared.record.Item.TheVariants as items;
+ghost use Rattle.rrv_model.specs.declared.record.Part.{Part};
 ghost use Rattle.rrv_model.specs.Recording.{PartFits, base_after, row_after};
 ghost use Rattle.rrv_model.specs.State.{State};
 ghost use Rattle.guest_calls.specs.Guest.{state_of};
@@ -87,6 +89,7 @@ impl Claim {
             ((x y : Standing) → Fits (claimed_by self.old) x → Continues entry.now x y → Fits (claimed_by self.new) y) }
         ensures nowhere { IsErrOf result ClaimFault.LeadsNowhere
             → (x y : Standing) → Fits (claimed_by self.old) x → Continues entry.now x y → ⊥ }
+        ensures memory { IsErrOf result ClaimFault.Memory → (p : Part) × (entry.now.item ≡ items.Part p) }
     {
         if entry.guest != self.number || entry.index as usize != self.len {
             return Err(ClaimFault::LeadsNowhere);

@@ -1,6 +1,6 @@
 //! A guest that follows its records, one after another.
 
-ghost use Rattle.std.specs.Prelude.{◌≡◌, ◌+◌, ◌++◌, ◌∷◌, [], List, IfErr, IfOk, OnOk};
+ghost use Rattle.std.specs.Prelude.{◌≡◌, ◌+◌, ◌++◌, ◌∷◌, [], List, IfErr, IfOk, IsErrOf, OnOk};
 ghost use Rattle.rrv_model.specs.declared.record.Record.{Record};
 ghost use Rattle.guest_calls.specs.Guest.{state_of};
 ghost use Rattle.replayer.specs.Following.{IsBehind, Names, StepsBy, standing_of};
@@ -108,6 +108,8 @@ impl Following {
         ensures named { IfErr result (λ e. Names e self.old.len) }
         ensures fails { IfErr result (λ e. RefusesNext e self.old.number self.old.len entry.now
             (state_of self.old.base) self.old.row (state_of self.old.guest)) }
+        ensures memory { IsErrOf result VerifyFault.Memory
+            → (entry.now.guest ≡ self.old.number) × (entry.now.index ≡ self.old.len) }
     {
         follow_record(alloc, &mut self.walk, self.number, self.len, entry)?;
         self.len = entry.index as usize + 1;

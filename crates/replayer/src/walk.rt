@@ -1,6 +1,6 @@
 //! A replay, record by record.
 
-ghost use Rattle.std.specs.Prelude.{◌≡◌, ◌≤◌, ◌^◌, ◌*◌, ◌+◌, ◌++◌, ◌∷◌, [], true, IfErr, IfOk, OnErr, OnOk, length};
+ghost use Rattle.std.specs.Prelude.{◌≡◌, ◌≤◌, ◌^◌, ◌*◌, ◌+◌, ◌++◌, ◌∷◌, [], true, IfErr, IfOk, IsErrOf, OnErr, OnOk, length};
 ghost use Rattle.rrv_model.specs.declared.record.Item.TheVariants as items;
 ghost use Rattle.rrv_model.specs.Checkpoint.{Describes};
 ghost use Rattle.rrv_model.specs.Recording.{EndsIn};
@@ -226,6 +226,7 @@ pub(crate) fn follow_record(
         (state_of walk.new.base) walk.new.parts.items (state_of walk.new.guest)) }
     ensures refused { IfErr result (λ e. RefusesNext e number index entry.now
         (state_of walk.old.base) walk.old.parts.items (state_of walk.old.guest)) }
+    ensures memory { IsErrOf result VerifyFault.Memory → (entry.now.guest ≡ number) × (entry.now.index ≡ index) }
 {
     if entry.guest != number || entry.index as usize != index {
         return Err(VerifyFault::Mismatch { index });

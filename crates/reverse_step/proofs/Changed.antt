@@ -6,6 +6,7 @@ use Rattle.rrv_model.specs.declared.record.Frame.{Frame}
 use Rattle.rrv_model.specs.declared.record.Opening.{Opening}
 use Rattle.replayer.specs.Changes.{IsLastIn, NoneIn}
 use Rattle.replayer.proofs.Changed.{none_join}
+use Rattle.reverse_step.specs.Changes.{IsFirstIn}
 
 pub some_join : (o : Opening) (frames : List Frame) (a start end place t : ℕ) → IsLastIn o frames a start end (Some t) → end ≤ place →
     NoneIn o frames a end place →
@@ -27,3 +28,25 @@ pub early_alone : {E : Type 0} (o : Opening) (frames : List Frame) (a start midd
     IfOk early (IsLastIn o frames a start end)
 early_alone o frames a start middle end (Ok found) low high h k = last_join o frames a start middle end found None low high h k
 early_alone o frames a start middle end (Err e) low high h k = tt {0}
+
+-- the instruction behind those of which none changes it
+pub first_here : (o : Opening) (frames : List Frame) (a start at next end t : ℕ) → start ≤ at → next ≤ at + 1 → next ≤ end →
+    NoneIn o frames a start at → IsLastIn o frames a at next (Some t) → IsFirstIn o frames a start end (Some t)
+first_here o frames a start at next end t low one high none last = (
+  omega (arith, low, last.0),
+  omega (arith, high, last.1),
+  last.2,
+  λ u above below change. none u above (omega (arith, below, one, last.1)) change,
+)
+
+-- one way of which none does, and then one of which one does
+pub first_behind : (o : Opening) (frames : List Frame) (a start from next end t : ℕ) (found : Option ℕ) → start ≤ from → next ≤ end →
+    NoneIn o frames a start from → IsLastIn o frames a from next (Some t) → IsFirstIn o frames a from next found →
+    IsFirstIn o frames a start end found
+first_behind o frames a start from next end t None low high none last first = absurd (first t last.0 last.1 last.2)
+first_behind o frames a start from next end t (Some u) low high none last first = (
+  omega (arith, low, first.0),
+  omega (arith, high, first.1),
+  first.2,
+  none_join o frames a start from u none first.3,
+)

@@ -4,10 +4,10 @@ ghost use Rattle.std.specs.Prelude.{◌≡◌, ◌≤◌, ◌<◌, ◌-◌, ◌+
 ghost use Rattle.rrv_model.specs.StateAt.{StateAt, total};
 ghost use Rattle.guest_calls.specs.Guest.{state_of};
 ghost use Rattle.replayer.specs.Verified.{RanFromLast};
-ghost use Rattle.reverse_step.specs.Changes.{IsLastChange};
+ghost use Rattle.reverse_step.specs.Changes.{IsLastChange, IsNextChange};
 
 use crate::fault::SeekFault;
-use crate::searching::{last_in, last_in_spans, spans_before};
+use crate::searching::{SearchWatch, first_in, last_in, last_in_spans, spans_before};
 use guest_calls::Guest;
 use replayer::{Place, Verified};
 use rrv_model::refusal::Memory;
@@ -45,6 +45,13 @@ impl<'a> Cursor<'a> {
     {
         let place = verified.place_at(alloc, 0)?;
         Ok(Cursor { place })
+    }
+
+    /// The recording.
+    pub fn verified(&self) -> &'a Verified
+        ensures { result.now ≡ self.now.verified }
+    {
+        self.place.verified()
     }
 
     /// The place: how many instructions ran before it.
@@ -192,5 +199,37 @@ impl<'a> Cursor<'a> {
             }
         }
         Ok(None)
+    }
+
+    /// Goes to the first place after this one whose instruction changes the byte at an address, and returns it; stays if none does.
+    /// `Memory` if a growth is refused; the cursor then stays. How far it is goes to `watch`.
+    pub fn next_change<V: SearchWatch>(
+        &mut self,
+        alloc: Global,
+        address: u32,
+        watch: &mut V,
+    ) -> Result<Option<u64>, Memory>
+        ensures verified { self.new.verified ≡ self.old.verified }
+        ensures change { IfOk result (IsNextChange self.old.verified.opening self.old.verified.frames address
+            self.old.place) }
+        ensures at { IfOk result (λ found. IfSome found (λ t. self.new.place ≡ t)) }
+        ensures ran { IfOk result (λ found. IfSome found (λ t. RanFromLast self.new.verified t self.new.guest.ran)) }
+        ensures stays { IfOk result (λ found. IfNone found (self.new ≡ self.old)) }
+        ensures refused { OnErr result (self.new ≡ self.old) }
+    {
+        let verified = self.place.verified();
+        let end = verified.total();
+        let at = self.place.at();
+        if at == end {
+            return Ok(None);
+        }
+        let found = first_in(alloc, verified, at + 1, end, address, watch)?;
+        match found {
+            Some(t) => {
+                self.place = verified.place_at(alloc, t)?;
+                Ok(Some(t))
+            }
+            None => Ok(None),
+        }
     }
 }

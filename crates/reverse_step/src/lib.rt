@@ -12,6 +12,9 @@
 //! - `last_change`: the greatest place below this one whose instruction changes the byte at an address, or whether there is
 //!   one; the cursor then stands there, and stays if there is none. It goes back from checkpoint to checkpoint and runs each
 //!   instruction below the place once at most, and then seeks the place found; that cost is in no contract.
+//! - `next_change`: the least place after this one whose instruction changes the byte at an address, if there is one; the cursor
+//!   then stands there, and stays if there is none. It runs on from the place, some thousand instructions at a time, tells a
+//!   `SearchWatch` how far it is, and runs those among which there is one again, one by one.
 //! - `last_change_in_spans`: the same, clause for clause, on several threads, each of which searches spans between checkpoints. How
 //!   many spans there are, and that they are searched at once, is in no contract.
 //! - `forward`, and `seek` to a place ahead, go on with a copy of the guest if no complete checkpoint lies in between. A copy is
@@ -28,3 +31,4 @@ mod searching;
 
 pub use cursor::Cursor;
 pub use fault::SeekFault;
+pub use searching::SearchWatch;

@@ -4,11 +4,21 @@ ghost use Rattle.std.specs.Prelude.{◌≤◌, ◌<◌, IfOk};
 ghost use Rattle.std.specs.Thread.{IsSync};
 ghost use Rattle.rrv_model.specs.StateAt.{total};
 ghost use Rattle.replayer.specs.Changes.{IsLastIn};
+ghost use Rattle.reverse_step.specs.Changes.{IsFirstIn};
 
 use replayer::Verified;
 use rrv_model::refusal::Memory;
 use std::alloc::Global;
 use std::thread::{Threads, join};
+
+/// How many instructions are watched at once, of which the first that changes a byte is then looked for one by one.
+const STRETCH: u64 = 4096;
+
+/// Who is told how far a search is.
+pub trait SearchWatch {
+    /// It has come to this place.
+    fn reached(&mut self, place: u64);
+}
 
 /// The last place from a start on, and below an end, whose instruction changes the byte at an address.
 pub(crate) fn last_in(
@@ -98,4 +108,59 @@ pub(crate) fn last_in_spans<R: Threads + Sync>(
         Some(t) => Ok(Some(t)),
         None => early,
     }
+}
+
+/// The first place from a start on, and below an end, whose instruction changes the byte at an address: each is looked at.
+fn first_of(
+    alloc: Global,
+    verified: &Verified,
+    start: u64,
+    end: u64,
+    address: u32,
+) -> Result<Option<u64>, Memory>
+    requires low { start ≤ end }
+    requires high { end ≤ total verified.now.frames }
+    ensures { IfOk result (IsFirstIn verified.now.opening verified.now.frames address start end) }
+{
+    let mut place = verified.place_at(alloc, start)?;
+    while place.at() < end {
+        let at = place.at();
+        let (next, changed) = place.watch(alloc, at + 1, address)?;
+        match changed {
+            Some(t) => return Ok(Some(t)),
+            None => place = next,
+        }
+    }
+    Ok(None)
+}
+
+/// The same, of which those before a stretch with such an instruction are passed over. How far it is goes to `watch`.
+pub(crate) fn first_in<V: SearchWatch>(
+    alloc: Global,
+    verified: &Verified,
+    start: u64,
+    end: u64,
+    address: u32,
+    watch: &mut V,
+) -> Result<Option<u64>, Memory>
+    requires low { start ≤ end }
+    requires high { end ≤ total verified.now.frames }
+    ensures { IfOk result (IsFirstIn verified.now.opening verified.now.frames address start end) }
+{
+    let mut place = verified.place_at(alloc, start)?;
+    while place.at() < end {
+        let from = place.at();
+        let stretch = STRETCH.min(end - from);
+        let (next, changed) = place.watch(alloc, from + stretch, address)?;
+        let stop = next.at();
+        watch.reached(stop);
+        match changed {
+            Some(_) => {
+                let found = first_of(alloc, verified, from, stop, address)?;
+                return Ok(found);
+            }
+            None => place = next,
+        }
+    }
+    Ok(None)
 }

@@ -3,11 +3,12 @@
 //! Tests: none; `tools/program_lines` and other tools run it.
 #![tactic(auto)]
 
-use commands::{Terminals, report_unread, run_on};
+use commands::{report_unread, run_on};
 use host::Patient;
 use std::io::IsTerminal;
 use std::process::ExitCode;
 use std::{env, io};
+use stored_guests::Terminals;
 
 /// The words after the program's name.
 fn words_of(rt: &HostRuntime) -> io::Result<Vec<String>> {
@@ -17,6 +18,7 @@ fn words_of(rt: &HostRuntime) -> io::Result<Vec<String>> {
 
 fn main(rt: HostRuntime) -> ExitCode {
     let terminals = Terminals {
+        input: rt.stdin().is_terminal(),
         out: rt.stdout().is_terminal(),
         err: rt.stderr().is_terminal(),
     };

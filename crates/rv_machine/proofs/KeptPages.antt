@@ -195,7 +195,7 @@ pages_kept m m' slots kept are j = by_slot (slice_index_or slots j None) (are j)
 fetched_is : (m : Memory) (pc : ℕ) → pc % 4 ≡ 0 → executable m pc 4 ≡ true → fetched m pc ≡ Ok (word_at m pc)
 fetched_is m pc aligned fetches = rw (aligned, fetches) refl
 
-outcome_is : (i : Option Instr) (answer : Stepped) (old new : Hart) → Performs i answer old new → outcome_of answer new ≡ executed i old
+pub outcome_is : (i : Option Instr) (answer : Stepped) (old new : Hart) → Performs i answer old new → outcome_of answer new ≡ executed i old
 unfolding executed
 outcome_is None answer old new h = h.0
 outcome_is (Some i) answer old new h = h.outcome

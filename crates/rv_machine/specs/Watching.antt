@@ -1,6 +1,8 @@
 -- Steps over which a byte is watched.
-use Rattle.std.specs.Prelude.{◌≡◌, ◌≢◌, ℕ, zero, suc, ◌+◌, Option}
+use Rattle.std.specs.Prelude.{◌≡◌, ◌≢◌, ℕ, zero, suc, ◌+◌, Bool, Option, Some}
 use Rattle.std.specs.Option.{option_map}
+use Rattle.rrv_model.specs.declared.instr.Instr.{Instr}
+use Rattle.rrv_model.specs.declared.instr.Instr.TheVariants as instrs
 use Rattle.rrv_model.specs.Memory.{Memory}
 use Rattle.rrv_model.specs.Step.{Hart, HartStep, Next}
 use Rattle.rv_machine.specs.declared.watching.Watch.{Watch}
@@ -8,6 +10,13 @@ use Rattle.rv_machine.specs.declared.watching.Watch.{Watch}
 -- the byte at an address, if there is one
 abbrev pub byte_of : Memory → ℕ → Option ℕ
 byte_of m a = option_map (λ c. c.byte) (m a)
+
+-- an instruction that may change memory (sections 2.6, 8.2 and 8.4)
+abbrev pub may_change : Option Instr → Bool
+may_change (Some (instrs.Store kind rs1 rs2 immediate)) = Bool.true
+may_change (Some (instrs.Sc ordering rd rs1 rs2)) = Bool.true
+may_change (Some (instrs.Amo op ordering rd rs1 rs2)) = Bool.true
+may_change _ = Bool.false
 
 -- the steps up to the last that changes a byte, with step n: these and n if it changes the byte, else as many as before
 pub record Notes (before after : Option ℕ) (n changed later : ℕ) : Type 0 where

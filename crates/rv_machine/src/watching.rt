@@ -1,16 +1,17 @@
 //! Instructions of a hart over which a byte is watched.
 
-ghost use Rattle.std.specs.Prelude.{◌≡◌, ◌↔◌, ◌+◌, ◌<◌, ◌≤◌, ◌/◌, ◌%◌, ◌^◌, IsTrue};
+ghost use Rattle.std.specs.Prelude.{◌≡◌, ◌↔◌, ◌+◌, ◌<◌, ◌≤◌, ◌/◌, ◌%◌, ◌^◌, IsTrue, false};
 ghost use Rattle.rrv_model.specs.State.{AreRegs};
 ghost use Rattle.rrv_model.specs.Step.{Hart};
 ghost use Rattle.guest_pages.specs.Space.{memory_of};
+ghost use Rattle.rv_machine.specs.Decoded.{instr_of};
 ghost use Rattle.rv_machine.specs.DecodedPages.{IsDecodedPage};
 ghost use Rattle.rv_machine.specs.HartRuns.{Runs, RunsAtMost};
 ghost use Rattle.rv_machine.specs.Outcome.{hart};
-ghost use Rattle.rv_machine.specs.Watching.{HartWatched, IsWatched, Looks, byte_of};
+ghost use Rattle.rv_machine.specs.Watching.{HartWatched, IsWatched, Looks, byte_of, may_change};
 
 use crate::code_space::CodeSpace;
-use crate::decoded::perform;
+use crate::decoded::{Decoded, perform};
 use crate::decoded_pages::DecodedPage;
 use crate::flow::go_on;
 use crate::hart::step;
@@ -60,6 +61,35 @@ fn look(watch: &mut Watch, space: &Space)
     }
 }
 
+/// Whether an instruction may change memory.
+#[inline(always)]
+fn may_change(decoded: &Decoded) -> bool
+    ensures { result ≡ may_change (instr_of decoded.now) }
+{
+    match *decoded {
+        Decoded::Sb(_, _, _) | Decoded::Sh(_, _, _) | Decoded::Sw(_, _, _) => true,
+        Decoded::Sc(_, _, _, _) | Decoded::Amo(_, _, _, _, _) => true,
+        _ => false,
+    }
+}
+
+/// Looks at the byte after this instruction more, if that may have changed memory.
+#[inline(always)]
+fn look_after(watch: &mut Watch, space: &Space, decoded: &Decoded)
+    requires { watch.old.count + 1 < 2 ^ 32 }
+    ensures address { watch.new.address ≡ watch.old.address }
+    ensures count { watch.new.count ≡ watch.old.count + 1 }
+    ensures looks { (may_change (instr_of decoded.now) ≡ false
+        → watch.old.byte ≡ byte_of (memory_of space.now) watch.old.address)
+        → Looks (memory_of space.now) watch.old watch.new }
+{
+    if may_change(decoded) {
+        look(watch, space);
+    } else {
+        watch.count += 1;
+    }
+}
+
 /// Up to limit instructions, as long as they stand in a decoded page.
 #[inline(always)]
 fn watch_page(
@@ -98,7 +128,7 @@ fn watch_page(
         let decoded = &instrs[index];
         let flow = perform::<WATCHED>(regs, space, reservation, decoded, number, index);
         match stopped(count, go_on(regs, pc, flow)) {
-            None => look(watch, space),
+            None => look_after(watch, space, decoded),
             Some(ended) => return ended,
         }
     }

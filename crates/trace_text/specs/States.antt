@@ -63,6 +63,10 @@ registers_lines (suc n) regs = registers_lines n regs ++ registers_line regs (4 
 abbrev pub thread_lines : ℕ → Thread → List ℕ
 thread_lines tid t = thread_line tid t ++ registers_lines 8 t.regs
 
+-- those of each thread, by rising tid
+abbrev pub threads_lines : State → List ℕ
+threads_lines s = flat_map (λ e. thread_lines e.0 e.1) (entries s.threads)
+
 -- ---- pages
 
 -- two hexadecimal digits
@@ -80,4 +84,4 @@ pages_line m =
 abbrev pub state_lines : ℕ → ℕ → State → List ℕ
 state_lines place total s =
     place_line place total ++ (end_line s.ended ++ (break_line s.program_break ++ (reservation_line s.reservation
-    ++ (flat_map (λ e. thread_lines e.0 e.1) (entries s.threads) ++ pages_line s.memory))))
+    ++ (threads_lines s ++ pages_line s.memory))))

@@ -8,6 +8,7 @@
 //! - `StateLines`: the exact lines of a guest's state at a place: its end, its break, its reservation, its threads by rising
 //!   tid with their registers, and the digest of its pages. `digest_of`: SHA-256 of all mapped pages by rising number, each as
 //!   its number, its permissions and its bytes. `replay --at`, `back` and `last` print these.
+//! - `ThreadLines`: the exact lines of the threads alone, which `ask` prints.
 //! - `write_each`: the texts of a guest's threads, as a `ThreadText` writes each, by rising tid.
 //! - `MemoryLines`: the exact lines of a range of memory, which `--memory` adds to the state.
 #![tactic(auto)]
@@ -25,5 +26,5 @@ pub use fault_names::fault_name;
 pub use guest_lines::{ListLine, ReportLine};
 pub use memory_digest::digest_of;
 pub use memory_lines::MemoryLines;
-pub use state_lines::StateLines;
+pub use state_lines::{StateLines, ThreadLines};
 pub use text::{EndText, RecordLine, VerifyLine, write_word, written_bytes};

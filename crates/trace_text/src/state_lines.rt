@@ -5,7 +5,7 @@ ghost use Rattle.std.specs.Fmt.{WritesOnOk};
 ghost use Rattle.guest_calls.specs.Guest.{state_of};
 ghost use Rattle.trace_text.specs.States.{addresses_text, break_line, byte_text, pages_line, register_text};
 ghost use Rattle.trace_text.specs.States.{registers_line, registers_lines, reservation_line, state_lines};
-ghost use Rattle.trace_text.specs.States.{thread_line, thread_lines, wait_text};
+ghost use Rattle.trace_text.specs.States.{thread_line, thread_lines, threads_lines, wait_text};
 
 use crate::each_thread::{ThreadText, write_each};
 use crate::memory_digest::digest_of;
@@ -51,6 +51,29 @@ impl<'a> fmt::Display for StateLines<'a> {
         write_reservation(f, self.guest.reservation())?;
         write_each::<Whole, W>(f, self.guest.threads())?;
         write_pages(f, self.guest)
+    }
+}
+
+/// The lines of a guest's threads by rising tid, each with its registers.
+#[derive(Drop)]
+pub struct ThreadLines<'a> {
+    guest: &'a Guest,
+}
+
+impl<'a> ThreadLines<'a> {
+    /// The lines of this guest's threads.
+    pub fn new(guest: &'a Guest) -> Self
+        ensures { result.guest.now ≡ guest.now }
+    {
+        ThreadLines { guest }
+    }
+}
+
+impl<'a> fmt::Display for ThreadLines<'a> {
+    ghost output = { λ lines. Some (threads_lines (state_of lines.guest.now)) };
+
+    fn fmt<W: fmt::Write>(&self, f: &mut fmt::Formatter<W>) -> fmt::Result {
+        write_each::<Whole, W>(f, self.guest.threads())
     }
 }
 

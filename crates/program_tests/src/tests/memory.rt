@@ -57,7 +57,7 @@ fn page_at(alloc: Global, at: u32) -> Result<PagePart, AllocError> {
 }
 
 /// The one part of a checkpoint after this many instructions.
-fn part_at(alloc: Global, at: u32) -> Result<Item, AllocError> {
+pub(super) fn part_at(alloc: Global, at: u32) -> Result<Item, AllocError> {
     let tid = 1;
     let thread = thread_at(at);
     let page = page_at(alloc, at)?;
@@ -106,7 +106,7 @@ pub(super) fn push(records: &mut Vec<Record>, item: Item) -> Result<(), Fail> {
 }
 
 /// Its recording: four frames, with a checkpoint after the second and the fourth.
-fn recording(alloc: Global) -> Result<Vec<Record>, Fail> {
+pub(super) fn recording(alloc: Global) -> Result<Vec<Record>, Fail> {
     let mut records = Vec::new(alloc);
     push(&mut records, opening(alloc, &COUNT_UP, b"a")?)?;
     for at in [128, 256] {

@@ -2,7 +2,8 @@
 
 use super::{same, shows};
 use command_line::BadSeed;
-use commands::{Refusal, report, report_unread};
+use commands::{report, report_unread};
+use copying::CopyFault;
 use elf_load::ElfFault;
 use guest_calls::{SetPageFault, SetRestFault};
 use recover::{OpenFault, ReadFault};
@@ -15,6 +16,7 @@ use std::fmt::Display;
 use std::io::{self, ErrorKind};
 use std::process::Abort;
 use std::test::Fail;
+use stored_guests::Refusal;
 use trace_disk::CannotOpen;
 
 /// Ends the test where one of these is shown by another text than the one beside it.
@@ -118,6 +120,28 @@ fn refusals_of_a_read(rt: HostRuntime) -> Result<(), Fail> {
     ];
     for (fault, want) in faults {
         shows(&rt, &Refusal::of_record(4, fault), want)?;
+    }
+    Ok(())
+}
+
+#[test]
+fn refusals_of_a_copy(rt: HostRuntime) -> Result<(), Fail> {
+    let damaged = CopyFault::Unread {
+        index: 4,
+        fault: ReadFault::Damaged,
+    };
+    shows(&rt, &damaged, "record 4: damaged record")?;
+    shows(&rt, &Refusal::from(damaged), "record 4 unreadable")?;
+    shows(&rt, &Refusal::SameStore, "same store")?;
+    let faults = [
+        (CopyFault::DeviceFailed, "device failed"),
+        (CopyFault::StoreFull, "store full"),
+        (CopyFault::TooManyGuests, "too many guests"),
+        (CopyFault::Memory, "out of memory"),
+    ];
+    for (fault, want) in faults {
+        shows(&rt, &fault, want)?;
+        shows(&rt, &Refusal::from(fault), want)?;
     }
     Ok(())
 }

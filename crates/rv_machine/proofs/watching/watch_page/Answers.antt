@@ -1,9 +1,12 @@
-use Rattle.std.proofs.Common.{◌≡◌, ◌/◌, ◌%◌, refl, ◌∙◌, arith}
+use Rattle.std.proofs.Common.{◌≡◌, ◌/◌, ◌%◌, ap, refl, sym, ◌∙◌, arith}
 use Rattle.guest_pages.specs.Space.{memory_of}
 use Rattle.rv_machine.specs.Flows.{address_at}
 use Rattle.rv_machine.specs.Outcome.{hart}
 use Rattle.rv_machine.proofs.HartSteps.{StepsOnce, at_most, counts, goes_on, no_steps, one_more, steps_all, stops}
 use Rattle.rv_machine.proofs.KeptPages.{address_of_pc, does_at, next_aligned, page_step}
+use Rattle.rrv_model.specs.Memory.{Memory}
+use Rattle.rv_machine.specs.Watching.{byte_of}
+use Rattle.rv_machine.proofs.Unchanged.{memory_stays}
 use Rattle.rv_machine.proofs.Watches.{look_watches}
 use Rattle.rv_machine.proofs.watching.watch_page.Goals as goal
 
@@ -37,9 +40,13 @@ loop-count-preserved c =
       snapshots = did.snapshots ∙ now.snapshots;
       some = λ e. absurd (omega arith);
       aligned = next_aligned _ _ now.aligned step;
-      counts = omega (arith, now.counts, c.look.ensures.count);
-      address = c.look.ensures.address ∙ now.address;
-      watches = λ first watched. look_watches _ _ first _ _ step c.look.ensures (now.watches first watched);
+      counts = omega (arith, now.counts, c.look_after.ensures.count);
+      address = c.look_after.ensures.address ∙ now.address;
+      watches = λ first watched.
+          let was = now.watches first watched in
+          let looks = c.look_after.ensures.looks (λ quiet. was.byte ∙ ap (λ (m : Memory). byte_of m c.loop-count.watch.address)
+          (sym (memory_stays _ _ _ _ _ _ (rw c.go_on.ensures.answer at c.in-None.ensures) quiet did))) in
+          look_watches _ _ first _ _ step looks was;
     }
 
 pub returns-in-Some-clause-runs : goal.returns-in-Some-clause-runs

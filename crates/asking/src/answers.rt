@@ -1,0 +1,36 @@
+//! The answer to a question.
+
+ghost use Rattle.std.specs.Prelude.{◌≡◌, IfErr, OnOk};
+ghost use Rattle.asking.specs.Answers.{Answers, Stays};
+
+use crate::going::go;
+use crate::places::first_thread;
+use crate::printing::print_found;
+use crate::unanswered::Unanswered;
+use command_line::Inquiry;
+use reverse_step::{Cursor, SearchWatch};
+use std::alloc::Global;
+use std::io::Write;
+use std::thread::Threads;
+
+/// Goes where a question leads, with so many workers at most, and prints what it asks about there. If it leads to no place of the
+/// recording, or there is no memory, the cursor stays. How far the search for the next change is goes to `watch`.
+pub fn answer<R: Threads + Sync, V: SearchWatch, W: Write>(
+    rt: &R,
+    alloc: Global,
+    workers: usize,
+    cursor: &mut Cursor<'_>,
+    inquiry: Inquiry,
+    watch: &mut V,
+    out: &mut W,
+) -> Result<(), Unanswered>
+    ensures verified { cursor.new.verified ≡ cursor.old.verified }
+    ensures answered { OnOk result
+        (Answers inquiry cursor.old cursor.new (W.contents out.old) (W.contents out.new)) }
+    ensures stays { IfErr result (Stays inquiry cursor.old cursor.new) }
+{
+    let is_found = go(rt, alloc, workers, cursor, inquiry, watch)?;
+    let tid = first_thread(cursor.verified(), cursor.place());
+    print_found(cursor, tid, inquiry, is_found, out)?;
+    Ok(())
+}

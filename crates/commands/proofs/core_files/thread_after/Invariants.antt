@@ -1,6 +1,0 @@
-use Rattle.std.proofs.Common.{◌≡◌, ◌+◌, take}
-use Rattle.rrv_model.specs.StateAt.{total}
-use Rattle.commands.proofs.core_files.thread_after.Given as goal
-
-abbrev pub invariant-loop-frame : goal.invariant-loop-frame
-invariant-loop-frame l = l.left + total (take l.frame-index l.frames) ≡ l.t

@@ -1,4 +1,0 @@
-use Rattle.commands.proofs.record.record_shown.Goals as goal
-
-pub invariant_of-shared : goal.invariant_of-shared
-invariant_of-shared g c = record { fits = c.requires.quantum }

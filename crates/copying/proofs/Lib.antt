@@ -1,0 +1,4 @@
+pub mod Bodies
+pub mod Copied
+pub mod Kept
+pub mod Numbered

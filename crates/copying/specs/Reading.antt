@@ -1,0 +1,46 @@
+-- What is read of the guest that is copied.
+use Rattle.std.specs.Prelude.{◌≡◌, ◌≢◌, ◌≤◌, ◌+◌, ℕ, List, length, take, drop, slice_get, Some}
+use Rattle.store_model.specs.declared.limits.TheConstants.{MAX_BODY}
+use Rattle.rrv_model.specs.declared.record.Record.{Record}
+use Rattle.rrv_model.specs.RecordText.{HasText}
+use Rattle.rrv_model.specs.Recovered.{body_text, of_guest, OpensAtZero}
+use Rattle.recover.specs.declared.spot.Spot.{Spot}
+use Rattle.recover.specs.declared.fault.ReadFault.TheVariants as reads
+use Rattle.recover.specs.Spots.{records_of, StandOn}
+use Rattle.trace_disk.specs.Devices.{Device}
+use Rattle.copying.specs.declared.fault.CopyFault.{CopyFault}
+use Rattle.copying.specs.declared.fault.CopyFault.TheVariants as faults
+use Rattle.copying.specs.Copied.{copies_of, AreCopies}
+
+-- A record of this number and this index, with an opening at 0 alone and with a text. On an honest disk it is the guest's, under this number.
+pub record IsReadAs {S : Type 0} (device : Device S) (source : S) (spots : List Spot) (guest index number : ℕ)
+    (r : Record) : Type 0 where
+  pub guest_is : r.guest ≡ number
+  pub index_is : r.index ≡ index
+  pub opens : OpensAtZero r
+  pub text : HasText r
+  pub read : StandOn device.honest device.state source spots → slice_get (copies_of number guest spots) index ≡ Some r
+
+-- The body is the text of so many records of this number, by their indexes from one on. On an honest disk they are the guest's, under this number.
+pub record IsNextBody {S : Type 0} (device : Device S) (source : S) (spots : List Spot) (guest from number : ℕ)
+    (body : List ℕ) (count : ℕ) : Type 0 where
+  pub batch : List Record
+  pub some : 1 ≤ count
+  pub within : from + count ≤ length (of_guest guest (records_of spots))
+  pub count_is : length batch ≡ count
+  pub body_is : body ≡ body_text batch
+  pub fits : length body ≤ MAX_BODY
+  pub are : AreCopies number from batch
+  pub read : StandOn device.honest device.state source spots
+      → batch ≡ take count (drop from (copies_of number guest spots))
+
+-- a record could not be read, or a growth was refused
+abbrev pub IsReadFault : CopyFault → Type 0
+IsReadFault (faults.Unread index fault) = Unit {0}
+IsReadFault faults.Memory = Unit {0}
+IsReadFault _ = ⊥
+
+-- no record is damaged
+abbrev pub IsUndamaged : CopyFault → Type 0
+IsUndamaged (faults.Unread index fault) = fault ≢ reads.Damaged
+IsUndamaged _ = Unit {0}

@@ -1,0 +1,5 @@
+pub mod Asking
+pub mod LongList
+pub mod Turns
+pub mod Printed
+pub mod Refused

@@ -1,0 +1,47 @@
+-- What is found of a guest in a store, and why it isn't.
+use Rattle.std.specs.Prelude.{◌≡◌, ◌⊎◌, ℕ, ◌≤◌, List, [], length, Result, IfErr, IfOk}
+use Rattle.rrv_model.specs.declared.record.Record.{Record}
+use Rattle.recover.specs.declared.fault.OpenFault.{OpenFault}
+use Rattle.recover.specs.declared.spot.Spot.{Spot}
+use Rattle.recover.specs.Opened.{IsFailure, IsFaultOf}
+use Rattle.recover.specs.Spots.{StandOn}
+use Rattle.replayer.specs.declared.fault.VerifyFault.TheVariants as verify_faults
+use Rattle.replayer.specs.Sourced.{RefusesSource}
+use Rattle.stored_guests.specs.declared.refusal.Refusal.{Refusal}
+use Rattle.stored_guests.specs.declared.refusal.Refusal.TheVariants as refusals
+use Rattle.stored_guests.specs.Told.{open_told}
+use Rattle.trace_disk.specs.Devices.{Device}
+
+-- the bytes are no store that can be opened, or the device failed, or there was no memory
+abbrev pub RefusesStore : List ℕ → Refusal → Type 0
+RefusesStore bytes e =
+    (fault : OpenFault) × (e ≡ open_told fault) × (IsFailure fault ⊎ IsFaultOf bytes fault)
+
+-- the device failed, or there was no memory
+abbrev pub IsFailed : Refusal → Type 0
+IsFailed e = (e ≡ refusals.DeviceFailed) ⊎ (e ≡ refusals.Memory)
+
+-- What is read of a store is so where its records stand on an honest disk, on which they then stand still; else the device failed, or there
+-- was no memory.
+pub record ReadsStore {D T : Type 0} (device : Device D) (spots : List Spot) (result : Result T Refusal) (old new : D)
+    (IsRead : T → Type 0) : Type 0 where
+  pub read : StandOn device.honest device.state old spots → IfOk result IsRead
+  pub refused : StandOn device.honest device.state old spots → IfErr result IsFailed
+  pub on : StandOn device.honest device.state old spots → StandOn device.honest device.state new spots
+
+-- a guest has no records, or some that are no recording, and then the first bad one is named, or one that was not read, or
+-- there was no memory
+abbrev pub RefusesGuest : Refusal → List Record → Type 0
+RefusesGuest refusals.NoSuchGuest records = records ≡ []
+RefusesGuest refusals.Memory records = 1 ≤ length records
+RefusesGuest (refusals.Verify verify_faults.Memory) records = ⊥
+RefusesGuest (refusals.Verify fault) records = (1 ≤ length records) × RefusesSource fault records
+RefusesGuest _ records = ⊥
+
+-- why lines aren't printed
+abbrev pub RefusesPrint : Refusal → Type 0
+RefusesPrint e = (e ≡ refusals.Memory) ⊎ (e ≡ refusals.OutputFailed)
+
+-- why lines of what a disk holds aren't printed
+abbrev pub RefusesList : Refusal → Type 0
+RefusesList e = (e ≡ refusals.DeviceFailed) ⊎ RefusesPrint e

@@ -1,0 +1,93 @@
+-- How the refusals of the layers below are told.
+use Rattle.std.specs.Prelude.{ℕ}
+use Rattle.asking.specs.declared.unanswered.Unanswered.{Unanswered}
+use Rattle.asking.specs.declared.unanswered.Unanswered.TheVariants as unanswered
+use Rattle.changes.specs.declared.unprinted.Unprinted.{Unprinted}
+use Rattle.changes.specs.declared.unprinted.Unprinted.TheVariants as unprinted
+use Rattle.copying.specs.declared.fault.CopyFault.{CopyFault}
+use Rattle.copying.specs.declared.fault.CopyFault.TheVariants as copy_faults
+use Rattle.elf_load.specs.declared.fault.ElfFault.{ElfFault}
+use Rattle.elf_load.specs.declared.fault.ElfFault.TheVariants as elf_faults
+use Rattle.recover.specs.declared.fault.OpenFault.{OpenFault}
+use Rattle.recover.specs.declared.fault.OpenFault.TheVariants as open_faults
+use Rattle.recover.specs.declared.fault.ReadFault.{ReadFault}
+use Rattle.recover.specs.declared.fault.ReadFault.TheVariants as read_faults
+use Rattle.replayer.specs.declared.fault.OutputFault.{OutputFault}
+use Rattle.replayer.specs.declared.fault.OutputFault.TheVariants as output_faults
+use Rattle.replayer.specs.declared.fault.VerifyFault.{VerifyFault}
+use Rattle.replayer.specs.declared.fault.VerifyFault.TheVariants as verify_faults
+use Rattle.reverse_step.specs.declared.fault.SeekFault.{SeekFault}
+use Rattle.reverse_step.specs.declared.fault.SeekFault.TheVariants as seek_faults
+use Rattle.session.specs.declared.fault.SessionFault.{SessionFault}
+use Rattle.session.specs.declared.fault.SessionFault.TheVariants as session_faults
+use Rattle.trace_disk.specs.declared.file_disk.CreateFault.{CreateFault}
+use Rattle.trace_disk.specs.declared.file_disk.CreateFault.TheVariants as create_faults
+use Rattle.stored_guests.specs.declared.file_fault.FileFault.{FileFault}
+use Rattle.stored_guests.specs.declared.file_fault.FileFault.TheVariants as file_faults
+use Rattle.stored_guests.specs.declared.refusal.Refusal.{Refusal}
+use Rattle.stored_guests.specs.declared.refusal.Refusal.TheVariants as refusals
+
+abbrev pub create_told : CreateFault → Refusal
+create_told create_faults.CannotOpen = refusals.CannotOpenStore
+create_told create_faults.DeviceFailed = refusals.DeviceFailed
+
+abbrev pub open_told : OpenFault → Refusal
+open_told open_faults.DeviceFailed = refusals.DeviceFailed
+open_told open_faults.Memory = refusals.Memory
+open_told fault = refusals.Open fault
+
+abbrev pub session_told : SessionFault → Refusal
+session_told session_faults.DeviceFailed = refusals.DeviceFailed
+session_told session_faults.Memory = refusals.Memory
+session_told (session_faults.SinkFailed guest) = refusals.OutputFailed
+session_told fault = refusals.Session fault
+
+abbrev pub seek_told : SeekFault → Refusal
+seek_told seek_faults.Memory = refusals.Memory
+seek_told fault = refusals.Seek fault
+
+abbrev pub unanswered_told : Unanswered → Refusal
+unanswered_told (unanswered.Seek fault) = seek_told fault
+unanswered_told unanswered.OutputFailed = refusals.OutputFailed
+
+abbrev pub unprinted_told : Unprinted → Refusal
+unprinted_told unprinted.Memory = refusals.Memory
+unprinted_told unprinted.OutputFailed = refusals.OutputFailed
+
+abbrev pub output_told : OutputFault → Refusal
+output_told output_faults.SinkFailed = refusals.OutputFailed
+output_told output_faults.Memory = refusals.Memory
+
+-- of output whose reader went away
+abbrev pub gone_told : Refusal → Refusal
+gone_told refusals.OutputFailed = refusals.ReaderGone
+gone_told refusal = refusal
+
+-- of a guest's record
+abbrev pub read_told : ℕ → ReadFault → Refusal
+read_told index read_faults.DeviceFailed = refusals.DeviceFailed
+read_told index read_faults.Damaged = refusals.Verify (verify_faults.Unreadable index)
+read_told index read_faults.Memory = refusals.Memory
+
+-- of a guest that was to be copied
+abbrev pub copy_told : CopyFault → Refusal
+copy_told (copy_faults.Unread index fault) = read_told index fault
+copy_told copy_faults.DeviceFailed = refusals.DeviceFailed
+copy_told copy_faults.Memory = refusals.Memory
+copy_told fault = refusals.Copy fault
+
+abbrev pub verify_told : VerifyFault → Refusal
+verify_told verify_faults.Memory = refusals.Memory
+verify_told fault = refusals.Verify fault
+
+-- of a guest's file
+abbrev pub elf_told : ℕ → ElfFault → Refusal
+elf_told guest elf_faults.Memory = refusals.Memory
+elf_told guest fault = refusals.Elf guest fault
+
+-- of a file of a recording; if it is a program, then of this guest
+abbrev pub file_told : ℕ → FileFault → Refusal
+file_told guest (file_faults.Unread kind) = refusals.CannotReadFile
+file_told guest (file_faults.TooLong most) = refusals.CannotReadFile
+file_told guest (file_faults.NoProgram fault target) = elf_told guest fault
+file_told guest file_faults.Memory = refusals.Memory
