@@ -73,6 +73,7 @@ pub record Answers (inquiry : Inquiry) (old new : CursorValue) (before after : O
   pub is_at : StateAt new.verified.opening new.verified.frames new.place state
   pub tid : ℕ
   pub next : 0 < total new.verified.frames → RunsNext new.verified.frames (shown_place (total new.verified.frames) new.place) tid
+  pub none : total new.verified.frames ≡ 0 → tid ≡ 0
   pub printed : Appends before after (found_text is_found new.place (total new.verified.frames) tid state inquiry)
 
 -- a question that leads nowhere leaves the cursor as it was

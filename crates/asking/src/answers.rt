@@ -1,6 +1,7 @@
 //! The answer to a question.
 
-ghost use Rattle.std.specs.Prelude.{◌≡◌, IfErr, OnOk};
+ghost use Rattle.std.specs.Prelude.{◌≡◌, ◌≢◌, IfErr, OnOk};
+ghost use Rattle.asking.specs.declared.unanswered.Unanswered.{Unanswered};
 ghost use Rattle.asking.specs.Answers.{Answers, Stays};
 
 use crate::going::go;
@@ -14,7 +15,7 @@ use std::io::Write;
 use std::thread::Threads;
 
 /// Goes where a question leads, with so many workers at most, and prints what it asks about there. If it leads to no place of the
-/// recording, or there is no memory, the cursor stays. How far the search for the next change is goes to `watch`.
+/// recording, or there is no memory, the cursor stays and nothing is printed. How far a search is goes to `watch`.
 pub fn answer<R: Threads + Sync, V: SearchWatch, W: Write>(
     rt: &R,
     alloc: Global,
@@ -28,6 +29,7 @@ pub fn answer<R: Threads + Sync, V: SearchWatch, W: Write>(
     ensures answered { OnOk result
         (Answers inquiry cursor.old cursor.new (W.contents out.old) (W.contents out.new)) }
     ensures stays { IfErr result (Stays inquiry cursor.old cursor.new) }
+    ensures quiet { IfErr result (λ e. e ≢ Unanswered.OutputFailed → out.new ≡ out.old) }
 {
     let is_found = go(rt, alloc, workers, cursor, inquiry, watch)?;
     let tid = first_thread(cursor.verified(), cursor.place());

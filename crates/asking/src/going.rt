@@ -13,18 +13,19 @@ use std::alloc::Global;
 use std::thread::Threads;
 
 /// Goes to the last change of a byte, and returns whether there is one.
-fn go_last<R: Threads + Sync>(
+fn go_last<R: Threads + Sync, V: SearchWatch>(
     rt: &R,
     alloc: Global,
     workers: usize,
     cursor: &mut Cursor<'_>,
     address: u32,
+    watch: &mut V,
 ) -> Result<bool, Memory>
     ensures verified { cursor.new.verified ≡ cursor.old.verified }
     ensures leads { IfOk result (Leads (inquiries.Last address) cursor.old cursor.new) }
     ensures stays { OnErr result (cursor.new ≡ cursor.old) }
 {
-    match cursor.last_change_in_spans(rt, alloc, workers, address)? {
+    match cursor.last_change_in_spans(rt, alloc, workers, address, watch)? {
         Some(_) => Ok(true),
         None => Ok(false),
     }
@@ -75,7 +76,7 @@ pub(crate) fn go<R: Threads + Sync, V: SearchWatch>(
             cursor.forward(alloc, count)?;
             Ok(true)
         }
-        Inquiry::Last(address) => Ok(go_last(rt, alloc, workers, cursor, address)?),
+        Inquiry::Last(address) => Ok(go_last(rt, alloc, workers, cursor, address, watch)?),
         Inquiry::Next(address) => Ok(go_next(alloc, cursor, address, watch)?),
         Inquiry::Memory(_) | Inquiry::Threads | Inquiry::Where => Ok(true),
     }

@@ -40,6 +40,7 @@ pub fn first_thread(verified: &Verified, place: u64) -> u32
     requires { place ≤ total verified.now.frames }
     ensures shown { 0 < total verified.now.frames
         → RunsNext verified.now.frames (shown_place (total verified.now.frames) place) result }
+    ensures none { total verified.now.frames ≡ 0 → result ≡ 0 }
 {
     let steps = verified.total();
     let at = if place < steps {

@@ -14,7 +14,7 @@ use crate::unprinted::Unprinted;
 use asking::first_thread;
 use command_line::{MemoryRange, Watched};
 use guest_calls::Guest;
-use reverse_step::Cursor;
+use reverse_step::{Cursor, SearchWatch};
 use std::alloc::Global;
 use std::fmt::Display;
 use std::io::Write;
@@ -123,13 +123,14 @@ fn print_change<W: Write>(
 }
 
 /// Prints the last changes before a cursor's place, so many at most, the last first, and returns how many there were.
-fn print_each<R: Threads + Sync, W: Write>(
+fn print_each<R: Threads + Sync, V: SearchWatch, W: Write>(
     rt: &R,
     alloc: Global,
     workers: usize,
     cursor: &mut Cursor<'_>,
     shown: Shown<'_>,
     times: u64,
+    watch: &mut V,
     out: &mut W,
 ) -> Result<u64, Unprinted>
     ensures printed { IfOk result (PrintsEach cursor.old.verified shown.entry times cursor.old.place
@@ -140,7 +141,7 @@ fn print_each<R: Threads + Sync, W: Write>(
     let mut lasts = Vec::from_elem(alloc, Some(place), watched.count as usize)?;
     let lasts = lasts.as_mut_slice();
     for count in 0..times {
-        match previous(rt, alloc, workers, cursor, place, watched, lasts)? {
+        match previous(rt, alloc, workers, cursor, place, watched, lasts, watch)? {
             Some(found) => place = found,
             None => return Ok(count),
         }
@@ -150,20 +151,21 @@ fn print_each<R: Threads + Sync, W: Write>(
 }
 
 /// Prints the last changes before a cursor's place, so many at most, the last first; or that there is none. Searches have so many workers
-/// at most.
-pub fn print_changes<R: Threads + Sync, W: Write>(
+/// at most, and how far they are goes to `watch`.
+pub fn print_changes<R: Threads + Sync, V: SearchWatch, W: Write>(
     rt: &R,
     alloc: Global,
     workers: usize,
     cursor: &mut Cursor<'_>,
     shown: Shown<'_>,
     times: u64,
+    watch: &mut V,
     out: &mut W,
 ) -> Result<(), Unprinted>
     ensures printed { OnOk result (PrintsChanges cursor.old.verified shown.entry times cursor.old.place
         (W.contents out.old) (W.contents out.new)) }
 {
-    match print_each(rt, alloc, workers, cursor, shown, times, out)? {
+    match print_each(rt, alloc, workers, cursor, shown, times, watch, out)? {
         0 => print(out, &"unchanged\n"),
         _ => Ok(()),
     }

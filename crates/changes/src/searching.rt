@@ -6,7 +6,7 @@ ghost use Rattle.reverse_step.specs.Changes.{IsLastChange};
 ghost use Rattle.changes.specs.Changes.{AreKnown, AreLasts, GoesTo, IsKnown, IsLatest, later};
 
 use command_line::Watched;
-use reverse_step::{Cursor, SeekFault};
+use reverse_step::{Cursor, SearchWatch, SeekFault};
 use rrv_model::refusal::Memory;
 use std::alloc::Global;
 use std::thread::Threads;
@@ -39,7 +39,7 @@ pub(crate) fn step_on(alloc: Global, cursor: &mut Cursor<'_>) -> Result<(), Memo
 
 /// The last change, below a place, of the byte at an address, if this is the last one that is known: it is looked for if that is the place
 /// itself, since else it lies below it already.
-fn last_below<R: Threads + Sync>(
+fn last_below<R: Threads + Sync, V: SearchWatch>(
     rt: &R,
     alloc: Global,
     workers: usize,
@@ -47,6 +47,7 @@ fn last_below<R: Threads + Sync>(
     place: u64,
     address: u32,
     known: Option<u64>,
+    watch: &mut V,
 ) -> Result<Option<u64>, Memory>
     requires within { place ≤ total cursor.old.verified.frames }
     requires known { IsKnown cursor.old.verified.opening cursor.old.verified.frames address place known }
@@ -57,11 +58,11 @@ fn last_below<R: Threads + Sync>(
         return Ok(known);
     }
     go_to(alloc, cursor, place)?;
-    cursor.last_change_in_spans(rt, alloc, workers, address)
+    cursor.last_change_in_spans(rt, alloc, workers, address, watch)
 }
 
 /// Looks for the last changes, below a place, of the watched bytes.
-fn look<R: Threads + Sync>(
+fn look<R: Threads + Sync, V: SearchWatch>(
     rt: &R,
     alloc: Global,
     workers: usize,
@@ -69,6 +70,7 @@ fn look<R: Threads + Sync>(
     place: u64,
     watched: Watched,
     lasts: &mut [Option<u64>],
+    watch: &mut V,
 ) -> Result<(), Memory>
     requires within { place ≤ total cursor.old.verified.frames }
     requires count { length lasts.old ≡ watched.count }
@@ -81,7 +83,7 @@ fn look<R: Threads + Sync>(
     for k in 0..watched.count {
         let known = lasts[k as usize];
         let address = watched.address + k;
-        lasts[k as usize] = last_below(rt, alloc, workers, cursor, place, address, known)?;
+        lasts[k as usize] = last_below(rt, alloc, workers, cursor, place, address, known, watch)?;
     }
     Ok(())
 }
@@ -108,8 +110,8 @@ fn latest(places: &[Option<u64>]) -> Option<u64>
     latest
 }
 
-/// Goes to the last change, below a place, of some of the watched bytes, and returns it, if there is one.
-pub(crate) fn previous<R: Threads + Sync>(
+/// Goes to the last change, below a place, of some of the watched bytes, and returns it, if there is one. How far it is goes to `watch`.
+pub(crate) fn previous<R: Threads + Sync, V: SearchWatch>(
     rt: &R,
     alloc: Global,
     workers: usize,
@@ -117,6 +119,7 @@ pub(crate) fn previous<R: Threads + Sync>(
     place: u64,
     watched: Watched,
     lasts: &mut [Option<u64>],
+    watch: &mut V,
 ) -> Result<Option<u64>, Memory>
     requires within { place ≤ total cursor.old.verified.frames }
     requires count { length lasts.old ≡ watched.count }
@@ -125,7 +128,7 @@ pub(crate) fn previous<R: Threads + Sync>(
     ensures count { length lasts.new ≡ watched.count }
     ensures goes { IfOk result (GoesTo cursor.old.verified watched place cursor.new.place lasts.new) }
 {
-    look(rt, alloc, workers, cursor, place, watched, lasts)?;
+    look(rt, alloc, workers, cursor, place, watched, lasts, watch)?;
     let Some(found) = latest(lasts) else {
         return Ok(None);
     };

@@ -8,6 +8,8 @@
 //!   Ok, a writer that tells its bytes got the line of the guest under its new number. If there is none, nothing is done. That a store is
 //!   not copied to itself is tested.
 //! - `Piped::told` (private): failed output is told as a reader who went away only if one was found to have gone.
+//! - `print_program` (private): if it returns Ok, a writer that tells its bytes got the line of the program: its entry, the pages
+//!   of its guest's opening state, and its break. In which words a file is refused is tested.
 //! - `run`: status 2 only for a bad line, 0 never for one, and 3 only for a recording that is to tell whether a guest
 //!   failed. A call of help ends with 0 or 1: no contract says that its output failed.
 #![tactic(auto)]

@@ -5,6 +5,7 @@ use mathlib.Core.Logic.{dite}
 use native.Mathlib.Decide.{dec_le}
 use Rattle.store_model.specs.CrashModel.{DiskState}
 use Rattle.store_model.specs.declared.limits.TheConstants.{MAX_BODY}
+use Rattle.rrv_model.specs.declared.limits.TheConstants.{BATCH_ITEMS}
 use Rattle.rrv_model.specs.declared.record.Record.{Record}
 use Rattle.rrv_model.specs.RecordText.{record_text, HasText}
 use Rattle.rrv_model.specs.Recovered.{body_text, of_guest}
@@ -93,11 +94,12 @@ module _ {S : Type 0} (device : Device S) where
 
   -- that is all, of some
   pub next_body : (source : S) (spots : List Spot) (guest from number : ℕ) (body : List ℕ) (count : ℕ) →
-      HasRead device source spots guest from number body count → 1 ≤ count → from + count ≤ length (of_guest guest (records_of spots))
-      → IsNextBody device source spots guest from number body count
-  next_body source spots guest from number body count h some within = record {
+      HasRead device source spots guest from number body count → 1 ≤ count → count ≤ BATCH_ITEMS
+      → from + count ≤ length (of_guest guest (records_of spots)) → IsNextBody device source spots guest from number body count
+  next_body source spots guest from number body count h some few within = record {
     batch = h.batch;
     some = some;
+    few = few;
     within = within;
     count_is = h.count_is;
     body_is = h.body_is;

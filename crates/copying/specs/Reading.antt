@@ -1,6 +1,7 @@
 -- What is read of the guest that is copied.
-use Rattle.std.specs.Prelude.{◌≡◌, ◌≢◌, ◌≤◌, ◌+◌, ℕ, List, length, take, drop, slice_get, Some}
+use Rattle.std.specs.Prelude.{◌≡◌, ◌≢◌, ◌≤◌, ◌<◌, ◌+◌, ℕ, List, length, take, drop, slice_get, Some}
 use Rattle.store_model.specs.declared.limits.TheConstants.{MAX_BODY}
+use Rattle.rrv_model.specs.declared.limits.TheConstants.{BATCH_ITEMS}
 use Rattle.rrv_model.specs.declared.record.Record.{Record}
 use Rattle.rrv_model.specs.RecordText.{HasText}
 use Rattle.rrv_model.specs.Recovered.{body_text, of_guest, OpensAtZero}
@@ -26,6 +27,7 @@ pub record IsNextBody {S : Type 0} (device : Device S) (source : S) (spots : Lis
     (body : List ℕ) (count : ℕ) : Type 0 where
   pub batch : List Record
   pub some : 1 ≤ count
+  pub few : count ≤ BATCH_ITEMS
   pub within : from + count ≤ length (of_guest guest (records_of spots))
   pub count_is : length batch ≡ count
   pub body_is : body ≡ body_text batch
@@ -34,11 +36,11 @@ pub record IsNextBody {S : Type 0} (device : Device S) (source : S) (spots : Lis
   pub read : StandOn device.honest device.state source spots
       → batch ≡ take count (drop from (copies_of number guest spots))
 
--- a record could not be read, or a growth was refused
-abbrev pub IsReadFault : CopyFault → Type 0
-IsReadFault (faults.Unread index fault) = Unit {0}
-IsReadFault faults.Memory = Unit {0}
-IsReadFault _ = ⊥
+-- a record from one on, of as many as fit into a body, could not be read; or a growth was refused
+abbrev pub IsReadFault : (from : ℕ) → CopyFault → Type 0
+IsReadFault from (faults.Unread index fault) = (from ≤ index) × (index < from + BATCH_ITEMS)
+IsReadFault from faults.Memory = Unit {0}
+IsReadFault from _ = ⊥
 
 -- no record is damaged
 abbrev pub IsUndamaged : CopyFault → Type 0

@@ -1,6 +1,6 @@
 //! The opening of a guest: the memory and the thread with which it starts.
 //!
-//! Tests: machine_tests, machine_cases.
+//! Tests: guest_tests, machine_cases.
 //!
 //! # Contracts
 //!

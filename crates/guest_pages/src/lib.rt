@@ -1,6 +1,6 @@
 //! A guest's address space: whole pages, each with its permissions, and snapshots of them.
 //!
-//! Tests: machine_tests, machine_cases.
+//! Tests: guest_tests, machine_cases.
 //!
 //! # Contracts
 //!

@@ -1,6 +1,6 @@
 //! Pages of a guest under two-level tables that share them: a page is counted, and a shared one is copied before it is written.
 //!
-//! Tests: machine_tests, machine_cases, through guest_pages.
+//! Tests: guest_tests, machine_cases, through guest_pages.
 //!
 //! # Contracts
 //!

@@ -4,19 +4,14 @@
 //!
 //! # Contracts
 //!
-//! The line that shows how far a command or a search is, and `Clearing`, a stream that clears that line before it writes: a recording's
-//! output and errors go through it to the standard streams. Neither has a contract: `tools/progress_cases` looks at both.
+//! What the line has that shows how far a command is: how often it is written (`Meter`), its text (`Extent`), and `Clearing`, a stream that
+//! clears it before it writes. The crates that record, verify and search show it. None has a contract: `tools/progress_cases` looks at them.
 #![tactic(auto)]
 
 mod clearing;
 mod extent;
 mod meter;
-mod recording;
-mod searching;
-mod verifying;
 
 pub use clearing::Clearing;
-pub use extent::Count;
-pub use recording::RecordProgress;
-pub use searching::SearchProgress;
-pub use verifying::VerifyProgress;
+pub use extent::{Count, Extent};
+pub use meter::Meter;

@@ -7,13 +7,14 @@ const PAUSE: u64 = 250;
 
 /// Tells when a line may be written: at most four times a second, and not in the first quarter.
 #[derive(Drop)]
-pub(crate) struct Meter<'a, R: Clock> {
+pub struct Meter<'a, R: Clock> {
     rt: &'a R,
     last: Option<Instant>,
 }
 
 impl<'a, R: Clock> Meter<'a, R> {
-    pub(crate) fn new(rt: &'a R) -> Self {
+    /// A meter that begins now.
+    pub fn new(rt: &'a R) -> Self {
         Meter {
             rt,
             last: Instant::now(rt).ok(),
@@ -21,12 +22,12 @@ impl<'a, R: Clock> Meter<'a, R> {
     }
 
     /// Begins anew.
-    pub(crate) fn restart(&mut self) {
+    pub fn restart(&mut self) {
         self.last = Instant::now(self.rt).ok();
     }
 
     /// Whether a line may be written now. Then none may be for a while.
-    pub(crate) fn is_due(&mut self) -> bool {
+    pub fn is_due(&mut self) -> bool {
         let Ok(now) = Instant::now(self.rt) else {
             return false;
         };

@@ -32,6 +32,7 @@ mod misfits;
 mod names;
 mod outcome;
 mod programs;
+mod record_progress;
 mod reports;
 mod shared;
 

@@ -167,13 +167,14 @@ impl<'a> Cursor<'a> {
 
     /// What [`Cursor::last_change`] does, in spans between checkpoints side by side, by so many workers at most, each in a thread of
     /// its own if one can be made. Spans are searched several at a time, those before the place first: at first as many as there
-    /// are workers, and then twice as many each time, up to 64.
-    pub fn last_change_in_spans<R: Threads + Sync>(
+    /// are workers, and then twice as many each time, up to 64. How far it is goes to `watch`, each time.
+    pub fn last_change_in_spans<R: Threads + Sync, V: SearchWatch>(
         &mut self,
         rt: &R,
         alloc: Global,
         workers: usize,
         address: u32,
+        watch: &mut V,
     ) -> Result<Option<u64>, Memory>
         ensures verified { self.new.verified ≡ self.old.verified }
         ensures change { IfOk result (IsLastChange self.old.verified.opening self.old.verified.frames address
@@ -189,6 +190,7 @@ impl<'a> Cursor<'a> {
         while 0 < end {
             let start = spans_before(verified, end, count);
             let found = last_in_spans(rt, alloc, verified, start, end, address, workers)?;
+            watch.reached(start);
             count = count.saturating_mul(2).min(MOST_SPANS);
             match found {
                 Some(t) => {

@@ -1,7 +1,7 @@
 //! Words and instructions: the instruction table of RV32I, Zifencei, M and A, both ways
 //! (RISC-V Unprivileged ISA 20191213).
 //!
-//! Tests: machine_tests, machine_cases.
+//! Tests: guest_tests, machine_cases.
 //!
 //! # Contracts
 //!

@@ -1,7 +1,7 @@
 //! Instructions of a hart, one or several: RV32I, Zifencei, M and A, at user level
 //! (RISC-V Unprivileged ISA 20191213, chapters 2, 3, 7 and 8).
 //!
-//! Tests: machine_tests, machine_cases.
+//! Tests: guest_tests, machine_cases.
 //!
 //! # Contracts
 //!

@@ -1,9 +1,19 @@
 -- Answers to lines.
-use Rattle.std.proofs.Common.{◌≡◌, List, ◌∷◌, ℕ, Option, subst}
+use Rattle.std.proofs.Common.{◌≡◌, ◌≢◌, inl, inr, List, ◌∷◌, ℕ, Option, Result, Ok, Err, IfOk, OnOk, false, refl, sym, ◌∙◌, subst, true≢false}
+use Rattle.std.specs.Prelude.{codes}
+use Rattle.std.specs.Str.{bytes_eq}
+use Rattle.std.proofs.lemmas.Slice.Eq.{bytes_eq-Decides}
 use Rattle.std.specs.Io.KnownBytes.{Appends}
 use Rattle.clap.specs.Words.{Text}
+use Rattle.command_line.specs.Asked.{IsAsked, IsInquiry}
+use Rattle.command_line.specs.declared.asked.Asked.{Asked}
+use Rattle.command_line.specs.declared.asked.Asked.TheVariants as asks
+use Rattle.command_line.specs.declared.asked.Inquiry.{Inquiry}
+use Rattle.command_line.specs.declared.asked.Inquiry.TheVariants as inquiries
 use Rattle.reverse_step.specs.Cursors.{CursorValue}
-use Rattle.showing.specs.Asking.{AnswersInput, IsRun, point_line}
+use Rattle.stored_guests.specs.declared.refusal.Refusal.{Refusal}
+use Rattle.stored_guests.specs.declared.refusal.Refusal.TheVariants as refusals
+use Rattle.showing.specs.Asking.{AnswersInput, AnswersLine, IsRun, PrintsRefusal, RefusesAsked, point_line}
 
 -- one answer more
 pub answered_on : (start there now : CursorValue) (a b told answered c : Option (List ℕ)) (line : Option Text) → IsRun start there a b →
@@ -12,3 +22,50 @@ answered_on start there now a b told answered c line run same answer ended = (
   line ∷ run.0,
   (there, b, answered, run.1, subst (λ (o : Option (List ℕ)). AnswersInput line there now o answered) same answer, ended),
 )
+
+-- what holds of a value, with what holds if there is one
+pub ok_both : {T E P : Type 0} {Q R : T → Type 0} (r : Result T E) → ((t : T) → P → Q t → R t) → OnOk r P → IfOk r Q → IfOk r R
+ok_both (Ok t) f p q = f t p q
+ok_both (Err e) f p q = tt
+
+differ : (one other : Text) → bytes_eq one other ≡ false → one ≡ other → ⊥
+differ one other not e = true≢false (sym ((bytes_eq-Decides one other).1 e) ∙ not)
+
+-- a question of a recording is not called so
+quits_alone : (name value : Text) (i : Inquiry) → name ≡ codes "quit" → IsInquiry name value i → ⊥
+quits_alone name value (inquiries.At p) is h = differ (codes "quit") (codes "at") refl (sym is ∙ h.0)
+quits_alone name value (inquiries.Back n) is h = differ (codes "quit") (codes "back") refl (sym is ∙ h.0)
+quits_alone name value (inquiries.Forward n) is h = differ (codes "quit") (codes "forward") refl (sym is ∙ h.0)
+quits_alone name value (inquiries.Last a) is h = differ (codes "quit") (codes "last") refl (sym is ∙ h.0)
+quits_alone name value (inquiries.Next a) is h = differ (codes "quit") (codes "next") refl (sym is ∙ h.0)
+quits_alone name value (inquiries.Memory r) is h = differ (codes "quit") (codes "memory") refl (sym is ∙ h.0)
+quits_alone name value inquiries.Threads is h = differ (codes "quit") (codes "threads") refl (sym is ∙ h.0)
+quits_alone name value inquiries.Where is h = differ (codes "quit") (codes "where") refl (sym is ∙ h.0)
+
+-- a line that asks for the end asks nothing else
+pub one_quit : (line : Text) (asked : Asked) → IsAsked line asked → IsAsked line asks.Quit → asked ≡ asks.Quit
+one_quit line (asks.Of i) h q = absurd (quits_alone _ _ i q.0 h)
+one_quit line (asks.Core file) h q = absurd (differ (codes "quit") (codes "core") refl (sym q.0 ∙ h.0))
+one_quit line asks.Choices h q = absurd (differ (codes "quit") (codes "choices") refl (sym q.0 ∙ h.0))
+one_quit line asks.Help h q = absurd (differ (codes "quit") (codes "help") refl (sym q.0 ∙ h.0))
+one_quit line asks.Quit h q = refl
+
+-- a line that asks for the end isn't refused
+pub quit_is_answered : (line : Text) (asked : Asked) (old new : CursorValue) (e : Refusal) → IsAsked line asked →
+    RefusesAsked asked old new e
+    → IsAsked line asks.Quit → ⊥
+quit_is_answered line asked old new e h refuses q = subst (λ (a : Asked). RefusesAsked a old new e) (one_quit line asked h q) refuses
+
+-- what a line asks is refused, and nothing was printed before that is told
+pub refused_line : (line : Text) (asked : Asked) (old new : CursorValue) (before told after : Option (List ℕ)) (e : Refusal) →
+    IsAsked line asked
+    → RefusesAsked asked old new e → e ≢ refusals.OutputFailed → told ≡ before → PrintsRefusal told after →
+    AnswersLine line old new before after
+refused_line line asked old new before told after e h refuses other quiet prints = inr (inl (record {
+  asked = asked;
+  is_asked = h;
+  refusal = e;
+  refuses = refuses;
+  not_output = other;
+  told = subst (λ (o : Option (List ℕ)). PrintsRefusal o after) quiet prints;
+}))

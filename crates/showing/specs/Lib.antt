@@ -3,3 +3,4 @@ pub mod LongList
 pub mod Turns
 pub mod Printed
 pub mod Refused
+pub mod Told

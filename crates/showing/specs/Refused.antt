@@ -38,3 +38,7 @@ RefusesDump _ records = ⊥
 -- why a core file isn't written
 abbrev pub RefusesCore : Refusal → Type 0
 RefusesCore e = (e ≡ refusals.Memory) ⊎ (e ≡ refusals.CannotWriteCore)
+
+-- or isn't made
+abbrev pub RefusesCoreFile : Refusal → Type 0
+RefusesCoreFile e = RefusesCore e ⊎ (e ≡ refusals.CannotMakeCore)

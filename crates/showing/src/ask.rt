@@ -1,19 +1,22 @@
 //! Lines of input that ask about a guest's recording.
 
-ghost use Rattle.std.specs.Prelude.{◌≡◌, IfErr, IfOk, List, OnOk, Option, false, ℕ};
+ghost use Rattle.std.specs.Prelude.{◌≡◌, ◌≢◌, IfErr, IfOk, List, OnOk, Option, Some, false, ℕ};
 ghost use Rattle.std.specs.Io.KnownBytes.{Appends};
 ghost use Rattle.command_line.specs.Asked.{IsAsked};
 ghost use Rattle.command_line.specs.declared.asked.Asked.TheVariants as asks;
-ghost use Rattle.showing.specs.Asking.{AnswersAsked, AnswersInput, AnswersLine, IsRun, RefusesAsked, point_line};
+ghost use Rattle.stored_guests.specs.declared.refusal.Refusal.{Refusal};
+ghost use Rattle.showing.specs.Asking.{AnswersAsked, AnswersInput, AnswersLine, GoesOnAfter, IsRun, PrintsRefusal, RefusesAsked, point_line};
 
 use crate::choosing::print_choices;
 use crate::core_files::write_core_of;
 use crate::input_lines::{InputLine, InputLines, MAX_LINE};
+use crate::refused::unanswered;
+use crate::search_progress::SearchProgress;
 use asking::answer;
 use command_line::{Asked, asked_in};
-use progress::SearchProgress;
 use replayer::Verified;
 use reverse_step::{Cursor, SearchWatch};
+use std::alloc::Global;
 use std::fmt::Display;
 use std::fs::File;
 use std::io::{BufWriter, Read, Write};
@@ -42,9 +45,19 @@ const HELP: &str = "\
     quit             end\n";
 
 /// Prints why a line has no answer.
-fn print_refused<W: Write, T: Display>(out: &mut W, why: &T) -> Result<(), OutputFailed> {
-    let text = format_args!("rrv: {why}");
-    print_line(out, &text)
+fn print_refused<W: Write, T: Display>(
+    alloc: Global,
+    out: &mut W,
+    why: &T,
+) -> Result<(), OutputFailed>
+    ensures told { OnOk result (PrintsRefusal (W.contents out.old) (W.contents out.new)) }
+{
+    print_text(out, &"rrv: ")?;
+    match why.to_string(alloc) {
+        Ok(why) => print_line(out, &why),
+        // there is no memory for its text
+        Err(_) => print_line(out, &"out of memory"),
+    }
 }
 
 /// Answers what is asked, with so many workers at most. After a refusal the cursor is as before.
@@ -60,9 +73,12 @@ fn answer_asked<R: Files<File = File> + AllocGlobal + Threads + Sync, V: SearchW
     ensures answered { OnOk result
         (AnswersAsked asked.entry cursor.old cursor.new (W.contents out.old) (W.contents out.new)) }
     ensures refused { IfErr result (RefusesAsked asked.entry cursor.old cursor.new) }
+    ensures quiet { IfErr result (λ e. e ≢ Refusal.OutputFailed → out.new ≡ out.old) }
 {
     match asked {
-        Asked::Of(inquiry) => { Ok(answer(rt, rt.alloc(), workers, cursor, inquiry, watch, out)?) },
+        Asked::Of(inquiry) => {
+            answer(rt, rt.alloc(), workers, cursor, inquiry, watch, out).map_err(unanswered)
+        }
         Asked::Core { file } => write_core_of(rt, cursor, file),
         Asked::Choices => Ok(print_choices(cursor.verified().frames(), out)?),
         Asked::Help => Ok(print_text(out, &HELP)?),
@@ -82,12 +98,12 @@ fn answer_line<R: Files<File = File> + AllocGlobal + Threads + Sync, V: SearchWa
     ensures verified { cursor.new.verified ≡ cursor.old.verified }
     ensures answered { OnOk result
         (AnswersLine line.now cursor.old cursor.new (W.contents out.old) (W.contents out.new)) }
-    ensures ends { IfOk result (λ goes_on. goes_on ≡ false → IsAsked line.now asks.Quit) }
+    ensures ends { IfOk result (GoesOnAfter (Some line.now)) }
 {
     let asked = match asked_in(line) {
         Ok(asked) => asked,
         Err(bad) => {
-            print_refused(out, &bad)?;
+            print_refused(rt.alloc(), out, &bad)?;
             return Ok(true);
         }
     };
@@ -95,7 +111,7 @@ fn answer_line<R: Files<File = File> + AllocGlobal + Threads + Sync, V: SearchWa
         Ok(()) => Ok(!matches!(asked, Asked::Quit)),
         Err(Refusal::OutputFailed) => Err(Refusal::OutputFailed),
         Err(refusal) => {
-            print_refused(out, &refusal)?;
+            print_refused(rt.alloc(), out, &refusal)?;
             Ok(true)
         }
     }
@@ -111,18 +127,18 @@ fn answer_input<R: Files<File = File> + AllocGlobal + Threads + Sync, V: SearchW
     out: &mut W,
 ) -> Result<bool, Refusal>
     ensures verified { cursor.new.verified ≡ cursor.old.verified }
-    ensures answered { OnOk result ((given : Option (List ℕ))
+    ensures answered { IfOk result (λ goes_on. (given : Option (List ℕ)) × GoesOnAfter given goes_on
         × AnswersInput given cursor.old cursor.new (W.contents out.old) (W.contents out.new)) }
 {
     match line {
         InputLine::Text(text) => { answer_line(rt, workers, cursor, text.as_str(), watch, out) }
         InputLine::TooLong => {
             let why = format_args!("line is longer than {MAX_LINE} bytes");
-            print_refused(out, &why)?;
+            print_refused(rt.alloc(), out, &why)?;
             Ok(true)
         }
         InputLine::NotText => {
-            print_refused(out, &"line is not UTF-8")?;
+            print_refused(rt.alloc(), out, &"line is not UTF-8")?;
             Ok(true)
         }
     }

@@ -6,7 +6,7 @@ ghost use Rattle.rrv_model.specs.State.{State};
 ghost use Rattle.rrv_model.specs.StateAt.{StateAt, total};
 ghost use Rattle.core_file.specs.Core.{core_of};
 ghost use Rattle.asking.specs.Places.{RunsNext, shown_place};
-ghost use Rattle.showing.specs.Refused.{RefusesCore};
+ghost use Rattle.showing.specs.Refused.{RefusesCore, RefusesCoreFile};
 
 use crate::states::cursor_at;
 use asking::{first_thread, place_in};
@@ -63,11 +63,15 @@ pub(crate) fn write_core_of<R: Files<File = File> + AllocGlobal>(
     rt: &R,
     cursor: &Cursor<'_>,
     path: &str,
-) -> Result<(), Refusal> {
-    let file = File::create_new(rt, path).map_err(|_| Refusal::CannotMakeCore)?;
+) -> Result<(), Refusal>
+    ensures refused { IfErr result RefusesCoreFile }
+{
+    let Ok(file) = File::create_new(rt, path) else {
+        return Err(Refusal::CannotMakeCore);
+    };
     let result = match in_blocks(rt.alloc(), file) {
         Ok(mut out) => put_core(rt.alloc(), cursor.verified(), cursor, &mut out),
-        Err(refusal) => Err(refusal),
+        Err(_) => Err(Refusal::Memory),
     };
     if result.is_err() {
         let _ = fs::remove_file(rt, path);

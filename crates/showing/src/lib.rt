@@ -16,16 +16,15 @@
 //!   writer that tells its bytes got just these lines of trace_text and end_text: a line for each guest of the store, by rising
 //!   number; for each record of the guest; of the number of records and instructions of the recording, its end and, if asked
 //!   for, what ended the guest; the state n instructions before a place (none for `replay --at`), with the bytes of memory that
-//!   are asked for; and what `changes::print_changes` ensures of the changes before a place. A place outside is refused as `PastEnd` or `BeforeStart`. That each command calls its
-//!   own of these, over a buffer of blocks, is tested.
+//!   are asked for; and what `changes::print_changes` ensures of the changes before a place. A place outside is refused as
+//!   `PastEnd` or `BeforeStart`. That each command calls its own of these, over a buffer of blocks, is tested.
 //! - `answer_line` (private): a line of `ask` is answered as `asking::answer` ensures it of what the line asks, or with the choices of the
-//!   recording; it is refused only if it asks nothing, or for the reason that what it asks for has; and only `quit` ends. The cursor
-//!   keeps its recording, and after a refusal its place.
+//!   recording. It is refused only if it asks nothing, or for a reason that what it asks for may have, by a line that begins with
+//!   `rrv: `. The cursor keeps its recording, and after a refusal its place. `answer_input` (private): so is a line that is too long, or
+//!   no text; and just `quit` ends.
 //! - `answer_lines` (private): if it returns Ok, a writer that tells its bytes got the answers to some lines, one after the other, each
 //!   from where the one before it left the cursor, and after each a line of a point. That these are the lines of standard input, and how
 //!   long one may be, is tested. So is what is shown at a terminal.
-//! - `print_program` (private): if it returns Ok, a writer that tells its bytes got the line of the program: its entry, the pages
-//!   of its guest's opening state, and its break. In which words a file is refused is tested.
 #![tactic(auto)]
 
 mod ask;
@@ -36,7 +35,9 @@ mod input_lines;
 mod long_list;
 mod program_files;
 mod questions;
+mod refused;
 mod replaying;
+mod search_progress;
 mod states;
 mod tally;
 mod turns;

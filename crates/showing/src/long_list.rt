@@ -15,7 +15,7 @@ ghost use Rattle.stored_guests.specs.Stores.{ReadsStore, RefusesList};
 
 use crate::guests::name_of;
 use crate::tally::Tally;
-use progress::{Clearing, Count, VerifyProgress};
+use progress::{Clearing, Count};
 use recover::Lists;
 use replayer::{Following, Watch};
 use rrv_model::machine::GuestEnd;
@@ -27,7 +27,7 @@ use std::io::Write;
 use std::sync::atomic::AtomicBool;
 use std::time::Clock;
 use stored_guests::{
-    OutputFailed, Refusal, Shows, Store, finish, in_blocks, print_line, record_in,
+    OutputFailed, Refusal, Shows, Store, VerifyProgress, finish, in_blocks, print_line, record_in,
 };
 use trace_disk::Disk;
 use trace_text::{ListLine, write_word};

@@ -4,6 +4,7 @@ use crate::ask::ask;
 use crate::choosing::show_choices;
 use crate::core_files::write_core;
 use crate::replaying::put_out;
+use crate::search_progress::SearchProgress;
 use crate::states::{show_back, show_last};
 use changes::Shown;
 use command_line::{GuestOf, Question};
@@ -12,6 +13,7 @@ use std::fs::File;
 use std::io::Write;
 use std::rt::Files;
 use std::sync::Wait;
+use std::sync::atomic::AtomicBool;
 use std::thread::Threads;
 use std::time::Clock;
 use stored_guests::{Refusal, Terminals, verified_of};
@@ -31,7 +33,8 @@ pub fn answer<
     out: &mut O,
     err: &mut E,
 ) -> Result<(), Refusal> {
-    let verified: Verified = verified_of(rt, guest, progress || terminals.err, err)?;
+    let is_shown = progress || terminals.err;
+    let verified: Verified = verified_of(rt, guest, is_shown, err)?;
     let alloc = rt.alloc();
     match question {
         Question::Output => put_out(rt, alloc, &verified, out, err),
@@ -53,13 +56,12 @@ pub fn answer<
                 is_short: *short,
                 ranges: memory,
             };
-            show_last(rt, alloc, &verified, *from, shown, *times, out)
+            let line = AtomicBool::new(false);
+            let mut watch = SearchProgress::new(rt, err, &line, verified.total(), is_shown);
+            show_last(rt, &verified, *from, shown, *times, &mut watch, out)
         }
         Question::Choices => show_choices(alloc, &verified, out),
         Question::Core { at, file } => write_core(rt, &verified, *at, file),
-        Question::Lines => {
-            let is_shown = progress || terminals.err;
-            ask(rt, &verified, terminals.prompts(), is_shown, out, err)
-        }
+        Question::Lines => ask(rt, &verified, terminals.prompts(), is_shown, out, err),
     }
 }

@@ -7,14 +7,17 @@ ghost use Rattle.asking.specs.Places.{place_in};
 ghost use Rattle.changes.specs.Printed.{IsStateText, PrintsChanges};
 ghost use Rattle.showing.specs.Refused.{GoesBack, Reaches};
 
+use crate::refused::unprinted;
+use crate::search_progress::SearchProgress;
 use asking::place_in;
 use changes::{Shown, print_changes, print_state};
 use command_line::{MemoryRange, Place};
 use replayer::Verified;
-use reverse_step::Cursor;
+use reverse_step::{Cursor, SearchWatch};
 use std::alloc::Global;
 use std::io::Write;
 use std::thread::Threads;
+use std::time::Clock;
 use stored_guests::{Refusal, finish, in_blocks, workers};
 
 /// A cursor at a place.
@@ -59,27 +62,39 @@ fn print_back<W: Write>(
     ensures reaches { Reaches result (total verified.now.frames) (place_in (total verified.now.frames) from) count }
 {
     let cursor = cursor_back(alloc, verified, place_in(from, verified), count)?;
-    print_state(&cursor, ranges, out)?;
-    Ok(())
+    print_state(&cursor, ranges, out).map_err(unprinted)
 }
 
 /// Prints the last changes, below a place, of some bytes, so many at most, the last first; or that there is none.
-fn print_last<W: Write, R: Threads + Sync>(
+fn print_last<W: Write, V: SearchWatch, R: AllocGlobal + Threads + Sync>(
     rt: &R,
-    alloc: Global,
     verified: &Verified,
     from: Place,
     shown: Shown<'_>,
     times: u64,
+    watch: &mut V,
     out: &mut W,
 ) -> Result<(), Refusal>
-    ensures printed { OnOk result (PrintsChanges verified.now shown.entry times (place_in (total verified.now.frames) from)
+    ensures printed { OnOk result
+        (PrintsChanges verified.now shown.entry times (place_in (total verified.now.frames) from)
         (W.contents out.old) (W.contents out.new)) }
     ensures reaches { Reaches result (total verified.now.frames) (place_in (total verified.now.frames) from) 0 }
 {
+    let alloc = rt.alloc();
     let mut cursor = cursor_at(alloc, verified, place_in(from, verified))?;
-    print_changes(rt, alloc, workers(rt), &mut cursor, shown, times, out)?;
-    Ok(())
+    match print_changes(
+        rt,
+        alloc,
+        workers(rt),
+        &mut cursor,
+        shown,
+        times,
+        watch,
+        out,
+    ) {
+        Ok(()) => Ok(()),
+        Err(fault) => Err(unprinted(fault)),
+    }
 }
 
 /// Prints the state so many instructions before a place, in blocks.
@@ -96,17 +111,19 @@ pub(crate) fn show_back<O: Write>(
     finish(&mut out)
 }
 
-/// Prints the last changes of some bytes, in blocks.
-pub(crate) fn show_last<O: Write, R: Threads + Sync>(
+/// Prints the last changes of some bytes, in blocks. How far the search is goes to `watch`.
+pub(crate) fn show_last<O: Write, E: Write + Drop, R: AllocGlobal + Threads + Sync + Clock>(
     rt: &R,
-    alloc: Global,
     verified: &Verified,
     from: Place,
     shown: Shown<'_>,
     times: u64,
+    watch: &mut SearchProgress<'_, R, E>,
     out: &mut O,
 ) -> Result<(), Refusal> {
-    let mut out = in_blocks(alloc, out)?;
-    print_last(rt, alloc, verified, from, shown, times, &mut out)?;
+    let mut out = in_blocks(rt.alloc(), out)?;
+    let printed = print_last(rt, verified, from, shown, times, watch, &mut out);
+    watch.clear();
+    printed?;
     finish(&mut out)
 }

@@ -8,7 +8,7 @@ ghost use Rattle.recover.specs.Spots.{records_of, StandOn};
 ghost use Rattle.showing.specs.Turns.{IsDumped, PrintsTurns, RefusesTurns, dump_end, turn_text};
 
 use command_line::DumpForm;
-use progress::{Clearing, Count, VerifyProgress};
+use progress::{Clearing, Count};
 use recover::Lists;
 use replayer::{Following, Watch};
 use rrv_model::record::Record;
@@ -17,8 +17,8 @@ use std::io::Write;
 use std::sync::atomic::AtomicBool;
 use std::time::Clock;
 use stored_guests::{
-    OutputFailed, Refusal, Shows, Store, finish, guest_in, in_blocks, print_line, print_text,
-    record_in,
+    OutputFailed, Refusal, Shows, Store, VerifyProgress, finish, guest_in, in_blocks, print_line,
+    print_text, record_in,
 };
 use trace_disk::Disk;
 use trace_text::RecordLine;

@@ -1,9 +1,5 @@
 -- How the refusals of the layers below are told.
 use Rattle.std.specs.Prelude.{ℕ}
-use Rattle.asking.specs.declared.unanswered.Unanswered.{Unanswered}
-use Rattle.asking.specs.declared.unanswered.Unanswered.TheVariants as unanswered
-use Rattle.changes.specs.declared.unprinted.Unprinted.{Unprinted}
-use Rattle.changes.specs.declared.unprinted.Unprinted.TheVariants as unprinted
 use Rattle.copying.specs.declared.fault.CopyFault.{CopyFault}
 use Rattle.copying.specs.declared.fault.CopyFault.TheVariants as copy_faults
 use Rattle.elf_load.specs.declared.fault.ElfFault.{ElfFault}
@@ -45,14 +41,6 @@ session_told fault = refusals.Session fault
 abbrev pub seek_told : SeekFault → Refusal
 seek_told seek_faults.Memory = refusals.Memory
 seek_told fault = refusals.Seek fault
-
-abbrev pub unanswered_told : Unanswered → Refusal
-unanswered_told (unanswered.Seek fault) = seek_told fault
-unanswered_told unanswered.OutputFailed = refusals.OutputFailed
-
-abbrev pub unprinted_told : Unprinted → Refusal
-unprinted_told unprinted.Memory = refusals.Memory
-unprinted_told unprinted.OutputFailed = refusals.OutputFailed
 
 abbrev pub output_told : OutputFault → Refusal
 output_told output_faults.SinkFailed = refusals.OutputFailed

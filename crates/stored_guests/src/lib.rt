@@ -11,7 +11,7 @@
 //!   are those of `verify_source`. This and what follows of printed records is said of an honest disk on which the records
 //!   stand; a file isn't one.
 //! - `read_program`: all bytes of the file, and at most 2,097,152, else why they aren't read: `TooLong` comes only if there are
-//!   more. `image_of` (private): the image of a program, or the refusal that its file has.
+//!   more. `image_of`: the image of a program, or the refusal that its file has.
 //! - `verified`: the record that it reports as unreadable is one that the source says it withheld.
 //!   `StoredGuest`, the source over a store, says so of the place that it was last asked for and did not give.
 //! - `print_put`: bytes for descriptor 2 are appended to the errors, all others to the output, whole.
@@ -26,6 +26,7 @@ mod shows;
 mod store;
 mod stored;
 mod terminals;
+mod verify_progress;
 mod verifying;
 
 pub use elf_target::ElfTarget;
@@ -39,4 +40,5 @@ pub use shows::Shows;
 pub use store::{Store, guest_in, look_at, make_store, open_log, open_store, opened, record_in};
 pub use stored::StoredGuest;
 pub use terminals::Terminals;
+pub use verify_progress::VerifyProgress;
 pub use verifying::{verified, verified_in, verified_of, workers};

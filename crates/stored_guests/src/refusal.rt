@@ -1,13 +1,11 @@
 //! Why a line of the program did not do what it asks for.
 
 ghost use Rattle.std.specs.Prelude.{◌≡◌, ◌≢◌, false};
-ghost use Rattle.stored_guests.specs.Told.{copy_told, create_told, elf_told, file_told, open_told, output_told, read_told, seek_told, session_told, unanswered_told, unprinted_told, verify_told};
+ghost use Rattle.stored_guests.specs.Told.{copy_told, create_told, elf_told, file_told, open_told, output_told, read_told, seek_told, session_told, verify_told};
 ghost use Rattle.stored_guests.specs.declared.refusal.Refusal.TheVariants as refusals;
 
 use crate::file_fault::{FileFault, FirstLine};
 use crate::printing::OutputFailed;
-use asking::Unanswered;
-use changes::Unprinted;
 use command_line::BadSeed;
 use copying::CopyFault;
 use elf_load::ElfFault;
@@ -174,28 +172,6 @@ impl From<SeekFault> for Refusal {
         match fault {
             SeekFault::Memory => Refusal::Memory,
             fault => Refusal::Seek { fault },
-        }
-    }
-}
-
-impl From<Unanswered> for Refusal {
-    ghost from_gives = { λ fault e. e ≡ unanswered_told fault };
-
-    fn from(fault: Unanswered) -> Self {
-        match fault {
-            Unanswered::Seek { fault } => Refusal::from(fault),
-            Unanswered::OutputFailed => Refusal::OutputFailed,
-        }
-    }
-}
-
-impl From<Unprinted> for Refusal {
-    ghost from_gives = { λ fault e. e ≡ unprinted_told fault };
-
-    fn from(fault: Unprinted) -> Self {
-        match fault {
-            Unprinted::Memory => Refusal::Memory,
-            Unprinted::OutputFailed => Refusal::OutputFailed,
         }
     }
 }

@@ -1,4 +1,4 @@
-use Rattle.std.proofs.Common.{◌<◌, ℕ, subst}
+use Rattle.std.proofs.Common.{◌≡◌, ◌<◌, ℕ, subst}
 use Rattle.guest_calls.specs.Guest.{state_of}
 use Rattle.replayer.specs.Verified.{VerifiedValue}
 use Rattle.rrv_model.specs.StateAt.{total}
@@ -20,5 +20,6 @@ returns-clause-answered g c =
           (subst (λ (n : ℕ). 0 < total c.verified.result.now.frames
           → RunsNext c.verified.result.now.frames (shown_place (total c.verified.result.now.frames) n) tid)
           c.place.ensures.place c.first_thread-tid.ensures.shown);
+      none = subst (λ (v : VerifiedValue). total v.frames ≡ 0 → tid ≡ 0) c.verified.ensures c.first_thread-tid.ensures.none;
       printed = c.in_ok-print_found.ensures.printed;
     }

@@ -8,7 +8,7 @@ returns-then-not-goes_on-clause-answered g c = λ quiet.
     let answered = c.in_ok-goes_on.ensures.answered in
     answered_on c.args.cursor.now c.loop.cursor c.answer_input.new.cursor (contents c.args.out.now) (contents c.loop.out)
     (contents c.prompt.new.out) (contents c.answer_input.new.out) (contents c.end_answer.new.out) answered.0 (c.loop.invariant.ran quiet)
-    (ap contents (c.prompt.ensures.quiet quiet)) answered.1 c.in_ok-end_answer.ensures.ended
+    (ap contents (c.prompt.ensures.quiet quiet)) answered.2 c.in_ok-end_answer.ensures.ended
 
 pub loop-preserved : goal.loop-preserved
 loop-preserved g c = record {
@@ -18,5 +18,5 @@ loop-preserved g c = record {
       let answered = c.in_ok-goes_on.ensures.answered in
       answered_on c.args.cursor.now c.loop.cursor c.answer_input.new.cursor (contents c.args.out.now) (contents c.loop.out)
       (contents c.prompt.new.out) (contents c.answer_input.new.out) (contents c.end_answer.new.out) answered.0
-      (c.loop.invariant.ran quiet) (ap contents (c.prompt.ensures.quiet quiet)) answered.1 c.in_ok-end_answer.ensures.ended;
+      (c.loop.invariant.ran quiet) (ap contents (c.prompt.ensures.quiet quiet)) answered.2 c.in_ok-end_answer.ensures.ended;
 }

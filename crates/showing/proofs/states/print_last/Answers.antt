@@ -5,8 +5,8 @@ use Rattle.asking.specs.Places.{place_in}
 use Rattle.changes.specs.Printed.{PrintsChanges}
 use Rattle.showing.proofs.states.print_last.Goals as goal
 
-pub returns-clause-printed : goal.returns-clause-printed
-returns-clause-printed g c =
+pub returns-in-Ok-clause-printed : goal.returns-in-Ok-clause-printed
+returns-in-Ok-clause-printed g c =
     let v = c.args.verified.now in
     let made = c.in_ok-cursor.ensures in
     let at : c.in_ok-cursor.cursor.place ≡ c.place_in.result = omega (arith, made.at) in
@@ -15,4 +15,4 @@ returns-clause-printed g c =
     (at ∙ c.place_in.ensures)
     (subst (λ (x : VerifiedValue). PrintsChanges x c.args.shown c.args.times c.in_ok-cursor.cursor.place (g.W.Write.contents c.args.out.now)
     (g.W.Write.contents c.print_changes.new.out))
-    made.verified_is c.in_ok-print_changes.ensures.printed)
+    made.verified_is c.in-Ok.ensures.printed)

@@ -1,8 +1,6 @@
 //! How far a verification is.
 
-use crate::clearing::Clearing;
-use crate::extent::{Count, Extent};
-use crate::meter::Meter;
+use progress::{Clearing, Count, Extent, Meter};
 use replayer::Watch;
 use std::io::Write;
 use std::sync::atomic::{AtomicBool, Ordering};

@@ -1,7 +1,6 @@
 //! How far a search is.
 
-use crate::clearing::Clearing;
-use crate::meter::Meter;
+use progress::{Clearing, Meter};
 use reverse_step::SearchWatch;
 use std::io::Write;
 use std::sync::atomic::{AtomicBool, Ordering};
@@ -9,7 +8,7 @@ use std::time::Clock;
 
 /// Shows how far a search is in a recording.
 #[derive(Drop)]
-pub struct SearchProgress<'a, R: Clock, E: Write + Drop> {
+pub(crate) struct SearchProgress<'a, R: Clock, E: Write + Drop> {
     meter: Meter<'a, R>,
     error: Clearing<'a, E>,
     is_shown: &'a AtomicBool,
@@ -20,7 +19,7 @@ pub struct SearchProgress<'a, R: Clock, E: Write + Drop> {
 impl<'a, R: Clock, E: Write + Drop> SearchProgress<'a, R, E> {
     /// Shows it on this stream, where `is_shown` says whether a line is shown; nothing where `is_on` is false. The recording has so many
     /// instructions.
-    pub fn new(
+    pub(crate) fn new(
         rt: &'a R,
         error: E,
         is_shown: &'a AtomicBool,
@@ -37,12 +36,12 @@ impl<'a, R: Clock, E: Write + Drop> SearchProgress<'a, R, E> {
     }
 
     /// A search may begin: the line isn't written in its first quarter of a second.
-    pub fn begin(&mut self) {
+    pub(crate) fn begin(&mut self) {
         self.meter.restart();
     }
 
     /// Clears the line.
-    pub fn clear(&mut self) {
+    pub(crate) fn clear(&mut self) {
         self.error.clear();
     }
 }

@@ -1,8 +1,7 @@
 //! How far a recording is.
 
-use crate::extent::{Count, Extent};
-use crate::meter::Meter;
 use host::Streams;
+use progress::{Count, Extent, Meter};
 use session::Gate;
 use std::io::Write;
 use std::sync::atomic::{AtomicBool, Ordering};
@@ -47,7 +46,7 @@ fn total_of(counts: &[Count; GUESTS]) -> Count {
 
 /// A gate that lets every step be made, and shows how far the recording is.
 #[derive(Drop)]
-pub struct RecordProgress<'a, R: Clock + Wait, O: Write + Drop, E: Write + Drop> {
+pub(crate) struct RecordProgress<'a, R: Clock + Wait, O: Write + Drop, E: Write + Drop> {
     rt: &'a R,
     streams: &'a Mutex<Streams<O, E>>,
     is_shown: &'a AtomicBool,
@@ -57,7 +56,7 @@ pub struct RecordProgress<'a, R: Clock + Wait, O: Write + Drop, E: Write + Drop>
 
 impl<'a, R: Clock + Wait, O: Write + Drop, E: Write + Drop> RecordProgress<'a, R, O, E> {
     /// Shows it on the errors' stream of these, where `is_shown` says whether a line is shown; nothing where `is_on` is false.
-    pub fn new(
+    pub(crate) fn new(
         rt: &'a R,
         streams: &'a Mutex<Streams<O, E>>,
         is_shown: &'a AtomicBool,

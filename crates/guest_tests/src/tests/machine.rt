@@ -1,4 +1,5 @@
-//! What the tests share.
+//! Tests of the machine below a guest: snapshots of an address space, growths of it that are refused, and laws. They share what
+//! stands here.
 
 mod code_space;
 mod laws;
