@@ -195,7 +195,7 @@ pages_kept m m' slots kept are j = by_slot (slice_index_or slots j None) (are j)
 fetched_is : (m : Memory) (pc : ℕ) → pc % 4 ≡ 0 → executable m pc 4 ≡ true → fetched m pc ≡ Ok (word_at m pc)
 fetched_is m pc aligned fetches = rw (aligned, fetches) refl
 
-pub outcome_is : (i : Option Instr) (answer : Stepped) (old new : Hart) → Performs i answer old new → outcome_of answer new ≡ executed i old
+outcome_is : (i : Option Instr) (answer : Stepped) (old new : Hart) → Performs i answer old new → outcome_of answer new ≡ executed i old
 unfolding executed
 outcome_is None answer old new h = h.0
 outcome_is (Some i) answer old new h = h.outcome
@@ -259,6 +259,7 @@ end_is_none page at decoded low high is =
 none_ends : (pc : ℕ) (flow : Flow) (old new : Hart) {space later : SpaceValue} → stepped_of flow ≡ stepped.Next →
     Does pc None (Ok flow) old new space later → ⊥
 none_ends pc flows.Next old new e does = let other = does.performs.0 in absurd (cc)
+none_ends pc (flows.Stored stored) old new e does = let other = does.performs.0 in absurd (cc)
 none_ends pc (flows.Jump target) old new e does = let other = does.performs.0 in absurd (cc)
 none_ends pc flows.Call old new e does = absurd (cc)
 none_ends pc (flows.Fault kind) old new e does = absurd (cc)
@@ -302,18 +303,22 @@ page_once n at first old new page decoded flow {space = space} {later = later} a
     page_kept first.memory old.memory page (steps_keep n first (hart_at pc old) steps) are at decoded low is in
     word_once pc old new (instr_of decoded) flow {space = space} {later = later} aligned here.fetches here.decodes does
 
--- so is the one where a hart stands, which has come there by steps, in a page that was decoded before
-pub page_step : (n : ℕ) (first old new : Hart) (page : DecodedPage) (decoded : Decoded) (flow : Result Flow Refusal)
-    {space later : SpaceValue} → IsDecodedPage first.memory page → HartSteps n first old → old.regs.pc / 4096 ≡ page.number →
-    old.regs.pc % 4 ≡ 0 → decoded ≡ slice_index_or page.instrs.items (old.regs.pc % 4096 / 4) decoded →
-    Does old.regs.pc (instr_of decoded) flow old new space later →
-    StepsOnce (answer_of flow) old (hart_at (place_of old.regs.pc flow) new)
-page_step n first old new page decoded flow {space = space} {later = later} are steps place aligned is does =
-    let there : page.number * 4096 + old.regs.pc % 4096 / 4 * 4 ≡ old.regs.pc = omega arith in
-    let low : old.regs.pc % 4096 / 4 < 1024 = omega arith in
-    let here : IsDecodedAt old.memory old.regs.pc decoded = subst (λ (a : ℕ). IsDecodedAt old.memory a decoded) there
-    (page_kept first.memory old.memory page (steps_keep n first old steps) are (old.regs.pc % 4096 / 4) decoded low is) in
-    word_once old.regs.pc old new (instr_of decoded) flow {space = space} {later = later} aligned here.fetches here.decodes does
+-- one that goes on is one of the page's 1,024, and is one step
+pub record GoesOn (page : DecodedPage) (at : ℕ) (flow : Flow) (old new : Hart) : Type 0 where
+  pub within : at < 1024
+  pub step : HartStep (hart_at (page.number * 4096 + at * 4) old)
+      (Next (hart_at (place_after (page.number * 4096 + at * 4) flow) new))
+
+pub goes_on_in : (n at : ℕ) (first old new : Hart) (page : DecodedPage) (decoded : Decoded) (flow : Flow) (result : Result Flow Refusal)
+    {space later : SpaceValue} → IsDecodedPage first.memory page → HartSteps n first (hart_at (page.number * 4096 + at * 4) old) →
+    at ≤ 1024 → decoded ≡ slice_index_or page.instrs.items at decoded → result ≡ Ok flow → stepped_of flow ≡ stepped.Next →
+    Does (address_at page.number at) (instr_of decoded) result old new space later → GoesOn page at flow old new
+goes_on_in n at first old new page decoded flow result {space = space} {later = later} are steps high is told next does =
+    let within : at < 1024 = goes_on_within page at decoded flow result old new {space = space} {later = later} high is told next does in
+    let did = does_at (page.number * 4096 + at * 4) (address_at page.number at) (instr_of decoded) result old new
+    {space = space} {later = later} (address_in_page page.number at within) does in
+    let once = page_once n at first old new page decoded result {space = space} {later = later} are steps within is did in
+    record { within = within; step = (rw (told, next) at once).step }
 
 -- whatever ran, it left what no store may change
 pub run_keeps : (end : RunEnd) (limit count : ℕ) (old new : Hart) → HartRunsAtMost end limit count old new →

@@ -1,6 +1,7 @@
 -- What an instruction answers that is done at a place which the registers don't tell.
-use Rattle.std.specs.Prelude.{ℕ, ◌+◌, ◌*◌, min, Result, Ok, Err}
+use Rattle.std.specs.Prelude.{ℕ, ◌+◌, ◌*◌, min, Bool, Result, Ok, Err}
 use Rattle.rrv_model.specs.declared.refusal.Memory.{Memory as Refusal}
+use Rattle.rrv_model.specs.Memory.{is_within}
 use Rattle.rrv_model.specs.Step.{Hart}
 use Rattle.rrv_model.specs.Words.{plus}
 use Rattle.rv_machine.specs.declared.Stepped.{Stepped}
@@ -19,6 +20,7 @@ hart_at pc h = record h { regs = record h.regs { pc = pc } }
 -- what a step answers
 abbrev pub stepped_of : Flow → Stepped
 stepped_of flows.Next = stepped.Next
+stepped_of (flows.Stored stored) = stepped.Next
 stepped_of (flows.Jump target) = stepped.Next
 stepped_of flows.Call = stepped.Call
 stepped_of (flows.Fault kind) = stepped.Fault kind
@@ -26,6 +28,7 @@ stepped_of (flows.Fault kind) = stepped.Fault kind
 -- where the hart goes on after an instruction at pc
 abbrev pub place_after : ℕ → Flow → ℕ
 place_after pc flows.Next = plus pc 4
+place_after pc (flows.Stored stored) = plus pc 4
 place_after pc (flows.Jump target) = target
 place_after pc flows.Call = plus pc 4
 place_after pc (flows.Fault kind) = pc
@@ -38,3 +41,8 @@ answer_of (Err refusal) = Err refusal
 abbrev pub place_of : ℕ → Result Flow Refusal → ℕ
 place_of pc (Ok flow) = place_after pc flow
 place_of pc (Err refusal) = pc
+
+-- whether the byte at an address may have changed
+abbrev pub may_change : Result Flow Refusal → ℕ → Bool
+may_change (Ok (flows.Stored stored)) a = is_within stored 4 a
+may_change _ a = Bool.false

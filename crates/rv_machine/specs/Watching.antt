@@ -1,8 +1,6 @@
 -- Steps over which a byte is watched.
-use Rattle.std.specs.Prelude.{◌≡◌, ◌≢◌, ℕ, zero, suc, ◌+◌, Bool, Option, Some}
+use Rattle.std.specs.Prelude.{◌≡◌, ◌≢◌, ℕ, zero, suc, Option}
 use Rattle.std.specs.Option.{option_map}
-use Rattle.rrv_model.specs.declared.instr.Instr.{Instr}
-use Rattle.rrv_model.specs.declared.instr.Instr.TheVariants as instrs
 use Rattle.rrv_model.specs.Memory.{Memory}
 use Rattle.rrv_model.specs.Step.{Hart, HartStep, Next}
 use Rattle.rv_machine.specs.declared.watching.Watch.{Watch}
@@ -10,13 +8,6 @@ use Rattle.rv_machine.specs.declared.watching.Watch.{Watch}
 -- the byte at an address, if there is one
 abbrev pub byte_of : Memory → ℕ → Option ℕ
 byte_of m a = option_map (λ c. c.byte) (m a)
-
--- an instruction that may change memory (sections 2.6, 8.2 and 8.4)
-abbrev pub may_change : Option Instr → Bool
-may_change (Some (instrs.Store kind rs1 rs2 immediate)) = Bool.true
-may_change (Some (instrs.Sc ordering rd rs1 rs2)) = Bool.true
-may_change (Some (instrs.Amo op ordering rd rs1 rs2)) = Bool.true
-may_change _ = Bool.false
 
 -- the steps up to the last that changes a byte, with step n: these and n if it changes the byte, else as many as before
 pub record Notes (before after : Option ℕ) (n changed later : ℕ) : Type 0 where
@@ -34,14 +25,13 @@ WatchedSteps {S = S} step byte (suc n) old changed new =
 abbrev pub HartWatched : ℕ → ℕ → Hart → ℕ → Hart → Type 0
 HartWatched a n old changed new = WatchedSteps (λ h later. HartStep h (Next later)) (λ h. byte_of h.memory a) n old changed new
 
--- a watch that began at one hart, at another
-pub record IsWatched (watch : Watch) (first now : Hart) : Type 0 where
-  pub steps : HartWatched watch.address watch.count first watch.changed now
+-- a watch that began at one hart, at another, so many steps on
+pub record IsWatched (watch : Watch) (count : ℕ) (first now : Hart) : Type 0 where
+  pub steps : HartWatched watch.address count first watch.changed now
   pub byte : watch.byte ≡ byte_of now.memory watch.address
 
--- a look at a memory, one step on
-pub record Looks (m : Memory) (old new : Watch) : Type 0 where
+-- a look at a memory after so many steps
+pub record Looks (m : Memory) (count : ℕ) (old new : Watch) : Type 0 where
   pub address : new.address ≡ old.address
-  pub count : new.count ≡ old.count + 1
   pub byte : new.byte ≡ byte_of m old.address
-  pub notes : Notes old.byte new.byte new.count old.changed new.changed
+  pub notes : Notes old.byte new.byte count old.changed new.changed

@@ -12,10 +12,12 @@ use rrv_model::refusal::Memory;
 /// What an instruction came to whose place is kept elsewhere than in the registers.
 #[derive(Clone, Copy, Debug, PartialEq, Eq)]
 pub enum Flow {
-    /// It is done, and the hart goes on at the next one.
+    /// It is done, memory is as before, and the hart goes on at the next one.
     Next,
-    /// It is done, and the hart goes on at this address.
+    /// It is done, memory is as before, and the hart goes on at this address.
     Jump(u32),
+    /// It is done, may have changed four bytes of memory from this address on, and the hart goes on at the next one.
+    Stored(u32),
     /// It is an ECALL, and the hart goes on at the next one.
     Call,
     /// It failed, and changed no register, no memory and no reservation.
@@ -58,7 +60,7 @@ pub(crate) fn go_on(regs: &mut Regs, pc: u32, flow: Result<Flow, Memory>) -> Res
     ensures regs { AreRegs regs.new }
 {
     let (place, stepped) = match flow {
-        Ok(Flow::Next) => (pc.wrapping_add(4), Ok(Stepped::Next)),
+        Ok(Flow::Next | Flow::Stored(_)) => (pc.wrapping_add(4), Ok(Stepped::Next)),
         Ok(Flow::Jump(target)) => (target, Ok(Stepped::Next)),
         Ok(Flow::Call) => (pc.wrapping_add(4), Ok(Stepped::Call)),
         Ok(Flow::Fault(kind)) => (pc, Ok(Stepped::Fault(kind))),

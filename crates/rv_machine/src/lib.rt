@@ -14,9 +14,9 @@
 //!   executed and that no store may change. What maps, protects, unmaps or puts in pages lets their decoded pages go; a `fill`
 //!   of bytes that no store may change lets all go.
 //!
-//! The instructions of a decoded page run in stretches from jump to jump (`run_page`); another one is fetched and decoded where it
-//! stands (`step`). Both go on in `perform`, which is given the instruction's page and index and tells where the hart goes on (`Flow`), and
-//! it in `compute`, `memory` and `atomic`.
+//! The instructions of a decoded page run in stretches from jump to jump (`run_page`, `watch_page`); another one is fetched and decoded
+//! where it stands (`step`). Both go on in `perform`, which is given the instruction's page and index and tells where the hart goes on and
+//! where it stored (`Flow`), and it in `compute`, `memory` and `atomic`.
 #![tactic(auto)]
 
 mod access;

@@ -101,7 +101,7 @@ fn run_undecoded(
 
 /// What a run comes to that has done so many instructions and ends with this one, which is at `pc`.
 #[inline(always)]
-fn leave(regs: &mut Regs, pc: u32, count: u32, flow: Result<Flow, Memory>) -> Run
+pub(crate) fn leave(regs: &mut Regs, pc: u32, count: u32, flow: Result<Flow, Memory>) -> Run
     requires regs { AreRegs regs.old }
     requires count { count + 1 < 2 ^ 32 }
     ensures run { result ≡ run_of count (answer_of flow) }
@@ -118,7 +118,7 @@ fn leave(regs: &mut Regs, pc: u32, count: u32, flow: Result<Flow, Memory>) -> Ru
 /// How many may still run from an index of a page on, if they would end, straight on, at this one.
 // The remainder changes nothing: without it the compiler counts this down at each instruction, where a jump alone needs it.
 #[inline(always)]
-fn left_at(until: usize, index: usize) -> usize
+pub(crate) fn left_at(until: usize, index: usize) -> usize
     requires page { index < 1024 }
     requires within { index ≤ until }
     ensures { result + index ≡ until }
@@ -155,7 +155,7 @@ fn run_page<const LEAST: usize>(
     while LEAST == PAGE_INSTRS || index < end {
         let flow = perform::<LEAST>(regs, space, reservation, &instrs[index], number, index);
         match flow {
-            Ok(Flow::Next) => index += 1,
+            Ok(Flow::Next | Flow::Stored(_)) => index += 1,
             Ok(Flow::Jump(target))
                 if target.wrapping_sub(base) < 4096 && LEAST < left_at(until, index) => {
                 let first = (target.wrapping_sub(base) / 4) as usize;

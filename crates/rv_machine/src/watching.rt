@@ -1,34 +1,36 @@
 //! Instructions of a hart over which a byte is watched.
 
 ghost use Rattle.std.specs.Prelude.{◌≡◌, ◌↔◌, ◌+◌, ◌<◌, ◌≤◌, ◌/◌, ◌%◌, ◌^◌, IsTrue, false};
+ghost use Rattle.rrv_model.specs.Memory.{is_within};
 ghost use Rattle.rrv_model.specs.State.{AreRegs};
 ghost use Rattle.rrv_model.specs.Step.{Hart};
 ghost use Rattle.guest_pages.specs.Space.{memory_of};
-ghost use Rattle.rv_machine.specs.Decoded.{instr_of};
 ghost use Rattle.rv_machine.specs.DecodedPages.{IsDecodedPage};
 ghost use Rattle.rv_machine.specs.HartRuns.{Runs, RunsAtMost};
 ghost use Rattle.rv_machine.specs.Outcome.{hart};
-ghost use Rattle.rv_machine.specs.Watching.{HartWatched, IsWatched, Looks, byte_of, may_change};
+ghost use Rattle.rv_machine.specs.Watching.{HartWatched, IsWatched, Looks, byte_of};
 
 use crate::code_space::CodeSpace;
-use crate::decoded::{Decoded, perform};
+use crate::decoded::perform;
 use crate::decoded_pages::DecodedPage;
-use crate::flow::go_on;
+use crate::flow::{Flow, address_in};
 use crate::hart::step;
-use crate::run::{Run, RunEnd, stopped};
+use crate::page_decoding::PAGE_INSTRS;
+use crate::run::{Run, RunEnd, leave, left_at, stopped};
 use guest_pages::Space;
 use rrv_model::machine::{Regs, Reservation};
 
 /// The caller of `perform` that watches a byte.
 const WATCHED: usize = 2;
 
+/// The same, while as many instructions may run as a page has.
+const WATCHED_PAGE: usize = 3;
+
 /// A byte that is watched while instructions run.
 #[derive(Clone, Copy, Debug)]
 pub(crate) struct Watch {
     address: u32,
     byte: Option<u8>,
-    /// How many have run.
-    count: u32,
     /// How many had run up to the last that changed the byte; 0 if none did.
     changed: u32,
 }
@@ -47,116 +49,115 @@ fn is_same(one: Option<u8>, other: Option<u8>) -> bool
     one == other
 }
 
-/// Looks at the byte after one instruction more.
-#[inline(always)]
-fn look(watch: &mut Watch, space: &Space)
-    requires { watch.old.count + 1 < 2 ^ 32 }
-    ensures { Looks (memory_of space.now) watch.old watch.new }
+/// Looks at the byte after count instructions.
+// A call that is not inlined: few instructions store where the byte is, and the others would have to go around this.
+#[cold]
+#[inline(never)]
+fn look(watch: &mut Watch, space: &Space, count: u32)
+    ensures { Looks (memory_of space.now) count watch.old watch.new }
 {
-    watch.count += 1;
     let byte = space.byte(u64::from(watch.address));
     if !is_same(watch.byte, byte) {
         watch.byte = byte;
-        watch.changed = watch.count;
+        watch.changed = count;
     }
 }
 
-/// Whether an instruction may change memory.
+/// Looks at the byte after count instructions, if the last of them, which stored at an address, may have changed it.
 #[inline(always)]
-fn may_change(decoded: &Decoded) -> bool
-    ensures { result ≡ may_change (instr_of decoded.now) }
-{
-    match *decoded {
-        Decoded::Sb(_, _, _) | Decoded::Sh(_, _, _) | Decoded::Sw(_, _, _) => true,
-        Decoded::Sc(_, _, _, _) | Decoded::Amo(_, _, _, _, _) => true,
-        _ => false,
-    }
-}
-
-/// Looks at the byte after this instruction more, if that may have changed memory.
-#[inline(always)]
-fn look_after(watch: &mut Watch, space: &Space, decoded: &Decoded)
-    requires { watch.old.count + 1 < 2 ^ 32 }
+fn look_after(watch: &mut Watch, space: &Space, stored: u32, count: u32)
     ensures address { watch.new.address ≡ watch.old.address }
-    ensures count { watch.new.count ≡ watch.old.count + 1 }
-    ensures looks { (may_change (instr_of decoded.now) ≡ false
+    ensures looks { (is_within stored 4 watch.old.address ≡ false
         → watch.old.byte ≡ byte_of (memory_of space.now) watch.old.address)
-        → Looks (memory_of space.now) watch.old watch.new }
+        → Looks (memory_of space.now) count watch.old watch.new }
 {
-    if may_change(decoded) {
-        look(watch, space);
-    } else {
-        watch.count += 1;
+    if watch.address.wrapping_sub(stored) < 4 {
+        look(watch, space, count);
     }
 }
 
-/// Up to limit instructions, as long as they stand in a decoded page.
+/// Some instructions, at least one, of a decoded page, after `done` others: as `run_page` does them, with a look at the byte after each
+/// that may have changed memory.
 #[inline(always)]
-fn watch_page(
+fn watch_page<const LEAST: usize, const CALLER: usize>(
     regs: &mut Regs,
     space: &mut Space,
     reservation: &mut Reservation,
     page: &DecodedPage,
+    done: u32,
     limit: u32,
     watch: &mut Watch,
 ) -> Run
     requires regs { AreRegs regs.old }
     requires decoded { IsDecodedPage (memory_of space.old) page.now }
-    requires aligned { regs.old.pc % 4 ≡ 0 }
     requires place { regs.old.pc / 4096 ≡ page.now.number }
-    requires limit { 1 ≤ limit }
-    requires room { watch.old.count + limit < 2 ^ 32 }
+    requires aligned { regs.old.pc % 4 ≡ 0 }
+    requires some { 1 ≤ LEAST }
+    requires limit { LEAST ≤ limit }
+    requires room { done + limit < 2 ^ 32 }
     ensures runs { RunsAtMost limit result (hart regs.old (memory_of space.old) reservation.old)
         (hart regs.new (memory_of space.new) reservation.new) space.old space.new }
-    ensures counts { result.end ≡ RunEnd.Limit → watch.new.count ≡ watch.old.count + result.count }
     ensures address { watch.new.address ≡ watch.old.address }
     ensures watches { result.end ≡ RunEnd.Limit → (first : Hart)
-        → IsWatched watch.old first (hart regs.old (memory_of space.old) reservation.old)
-        → IsWatched watch.new first (hart regs.new (memory_of space.new) reservation.new) }
+        → IsWatched watch.old done first (hart regs.old (memory_of space.old) reservation.old)
+        → IsWatched watch.new (done + result.count) first (hart regs.new (memory_of space.new) reservation.new) }
 {
     let number = page.number;
+    let base = number * 4096;
     let instrs = page.instrs.as_slice();
-    for count in 0..limit {
-        let pc = regs.pc;
-        if pc / 4096 != number {
-            return Run {
-                count,
-                end: RunEnd::Limit,
-            };
-        }
-        let index = (pc % 4096 / 4) as usize;
-        let decoded = &instrs[index];
-        let flow = perform::<WATCHED>(regs, space, reservation, decoded, number, index);
-        match stopped(count, go_on(regs, pc, flow)) {
-            None => look_after(watch, space, decoded),
-            Some(ended) => return ended,
+    let mut index = (regs.pc % 4096 / 4) as usize;
+    // straight on, as many as may run would end here
+    let mut until = index + limit as usize;
+    let mut end = until.min(PAGE_INSTRS);
+    while LEAST == PAGE_INSTRS || index < end {
+        let flow = perform::<CALLER>(regs, space, reservation, &instrs[index], number, index);
+        match flow {
+            Ok(Flow::Next) => index += 1,
+            Ok(Flow::Stored(stored)) => {
+                let count = done + limit - left_at(until, index) as u32 + 1;
+                look_after(watch, space, stored, count);
+                index += 1;
+            }
+            Ok(Flow::Jump(target))
+                if target.wrapping_sub(base) < 4096 && LEAST < left_at(until, index) => {
+                let first = (target.wrapping_sub(base) / 4) as usize;
+                until = first + left_at(until, index) - 1;
+                index = first;
+                end = until.min(PAGE_INSTRS);
+            }
+            _ if index == PAGE_INSTRS => break,
+            _ => {
+                let count = limit - left_at(until, index) as u32;
+                return leave(regs, address_in(number, index), count, flow);
+            }
         }
     }
+    regs.pc = base + index as u32 * 4;
     Run {
-        count: limit,
+        count: limit - (until - index) as u32,
         end: RunEnd::Limit,
     }
 }
 
-/// One instruction, decoded where it stands.
+/// One instruction, decoded where it stands, after `done` others.
 fn watch_alone(
     regs: &mut Regs,
     space: &mut Space,
     reservation: &mut Reservation,
+    done: u32,
     watch: &mut Watch,
 ) -> Run
     requires regs { AreRegs regs.old }
-    requires room { watch.old.count + 1 < 2 ^ 32 }
+    requires room { done + 1 < 2 ^ 32 }
     ensures runs { RunsAtMost 1 result (hart regs.old (memory_of space.old) reservation.old)
         (hart regs.new (memory_of space.new) reservation.new) space.old space.new }
-    ensures counts { result.end ≡ RunEnd.Limit → watch.new.count ≡ watch.old.count + result.count }
     ensures address { watch.new.address ≡ watch.old.address }
     ensures watches { result.end ≡ RunEnd.Limit → (first : Hart)
-        → IsWatched watch.old first (hart regs.old (memory_of space.old) reservation.old)
-        → IsWatched watch.new first (hart regs.new (memory_of space.new) reservation.new) }
+        → IsWatched watch.old done first (hart regs.old (memory_of space.old) reservation.old)
+        → IsWatched watch.new (done + result.count) first (hart regs.new (memory_of space.new) reservation.new) }
 {
     match stopped(0, step(regs, space, reservation)) {
-        None => look(watch, space),
+        None => look(watch, space, done + 1),
         Some(ended) => return ended,
     }
     Run {
@@ -165,46 +166,91 @@ fn watch_alone(
     }
 }
 
-/// Some instructions, at least one.
+/// Some instructions, at least one, of a decoded page, after `done` others.
+#[inline(always)]
+fn watch_decoded(
+    regs: &mut Regs,
+    space: &mut Space,
+    reservation: &mut Reservation,
+    page: &DecodedPage,
+    done: u32,
+    limit: u32,
+    watch: &mut Watch,
+) -> Run
+    requires regs { AreRegs regs.old }
+    requires decoded { IsDecodedPage (memory_of space.old) page.now }
+    requires place { regs.old.pc / 4096 ≡ page.now.number }
+    requires aligned { regs.old.pc % 4 ≡ 0 }
+    requires limit { 1 ≤ limit }
+    requires room { done + limit < 2 ^ 32 }
+    ensures runs { RunsAtMost limit result (hart regs.old (memory_of space.old) reservation.old)
+        (hart regs.new (memory_of space.new) reservation.new) space.old space.new }
+    ensures address { watch.new.address ≡ watch.old.address }
+    ensures watches { result.end ≡ RunEnd.Limit → (first : Hart)
+        → IsWatched watch.old done first (hart regs.old (memory_of space.old) reservation.old)
+        → IsWatched watch.new (done + result.count) first (hart regs.new (memory_of space.new) reservation.new) }
+{
+    if limit as usize >= PAGE_INSTRS {
+        return watch_page::<PAGE_INSTRS, WATCHED_PAGE>(
+            regs,
+            space,
+            reservation,
+            page,
+            done,
+            limit,
+            watch,
+        );
+    }
+    watch_page::<1, WATCHED>(regs, space, reservation, page, done, limit, watch)
+}
+
+/// Some instructions, at least one, after `done` others.
+#[inline(always)]
 fn watch_some(
     regs: &mut Regs,
     space: &mut CodeSpace,
     reservation: &mut Reservation,
+    done: u32,
     limit: u32,
     watch: &mut Watch,
 ) -> Run
     requires regs { AreRegs regs.old }
     requires limit { 1 ≤ limit }
-    requires room { watch.old.count + limit < 2 ^ 32 }
+    requires room { done + limit < 2 ^ 32 }
     ensures runs { RunsAtMost limit result (hart regs.old (memory_of space.old) reservation.old)
         (hart regs.new (memory_of space.new) reservation.new) space.old space.new }
-    ensures counts { result.end ≡ RunEnd.Limit → watch.new.count ≡ watch.old.count + result.count }
     ensures address { watch.new.address ≡ watch.old.address }
     ensures watches { result.end ≡ RunEnd.Limit → (first : Hart)
-        → IsWatched watch.old first (hart regs.old (memory_of space.old) reservation.old)
-        → IsWatched watch.new first (hart regs.new (memory_of space.new) reservation.new) }
+        → IsWatched watch.old done first (hart regs.old (memory_of space.old) reservation.old)
+        → IsWatched watch.new (done + result.count) first (hart regs.new (memory_of space.new) reservation.new) }
 {
     if regs.pc % 4 != 0 {
-        return watch_alone(regs, &mut space.space, reservation, watch);
+        return watch_alone(regs, &mut space.space, reservation, done, watch);
     }
     let number = regs.pc / 4096;
     space.pages.ready(&space.space, number);
     let Some(page) = space.pages.find(number) else {
-        return watch_alone(regs, &mut space.space, reservation, watch);
+        return watch_alone(regs, &mut space.space, reservation, done, watch);
     };
-    watch_page(regs, &mut space.space, reservation, page, limit, watch)
+    watch_decoded(
+        regs,
+        &mut space.space,
+        reservation,
+        page,
+        done,
+        limit,
+        watch,
+    )
 }
 
 impl CodeSpace {
     /// A watch of the byte at an address, before any instruction.
     fn watch(&self, address: u32) -> Watch
-        ensures { result
-            ≡ record { address = address; byte = byte_of (memory_of self.now) address; count = 0; changed = 0 } }
+        ensures { result ≡ record { address = address; byte = byte_of (memory_of self.now) address; changed = 0 } }
     {
         Watch {
             address,
             byte: self.space.byte(u64::from(address)),
-            count: 0,
             changed: 0,
         }
     }
@@ -229,7 +275,7 @@ pub fn run_watched(
     let mut watch = space.watch(address);
     let mut done = 0;
     while done < limit {
-        let run = watch_some(regs, space, reservation, limit - done, &mut watch);
+        let run = watch_some(regs, space, reservation, done, limit - done, &mut watch);
         done += run.count;
         match run.end {
             RunEnd::Limit => {}

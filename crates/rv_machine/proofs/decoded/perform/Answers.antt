@@ -15,6 +15,7 @@ returns-in-Lr g c = rw c.in-Lr.is (record {
   performs = c.load_reserved.ensures.executes _ c.in-Lr.field-0;
   refused = tt;
   takes = tt;
+  stays = λ a same. refl;
   regs = c.load_reserved.ensures.regs;
   snapshots = refl;
 })

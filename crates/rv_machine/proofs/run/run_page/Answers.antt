@@ -1,9 +1,12 @@
 use Rattle.std.proofs.Common.{◌≡◌, ◌+◌, ◌-◌, ◌*◌, ◌%◌, ◌<◌, ◌^◌, Ok, refl, ap, ◌∙◌, arith}
 use Rattle.guest_pages.specs.Space.{memory_of}
 use Rattle.rv_machine.specs.declared.flow.Flow.TheVariants as flows
+use Rattle.rv_machine.specs.Flows.{place_after, stepped_of}
 use Rattle.rv_machine.specs.Outcome.{hart}
+use Rattle.rrv_model.specs.Words.{plus}
+use Rattle.rv_machine.specs.declared.Stepped.TheVariants as stepped
 use Rattle.rv_machine.proofs.HartSteps.{no_steps_at, one_more_at, runs_to}
-use Rattle.rv_machine.proofs.KeptPages.{address_in_page, does_at, goes_on_within, next_aligned, page_once}
+use Rattle.rv_machine.proofs.KeptPages.{address_in_page, does_at, goes_on_in, next_aligned, page_once}
 use Rattle.rv_machine.proofs.run.run_page.Goals as goal
 use Rattle.rv_machine.proofs.run.run_page.Goals.{then-this-eq-PAGE_INSTRS, else-this-eq-PAGE_INSTRS+then-index-end}
 
@@ -23,25 +26,22 @@ loop-instrs-init g c = record {
 pub loop-instrs-preserved-in-Next-1 : goal.loop-instrs-preserved-in-Next-1
 loop-instrs-preserved-in-Next-1 g c =
     let now = c.loop-instrs.invariant in
-    let found = rw c.as_slice-instrs.ensures.value at c.index-instrs-index.is in
-    let is : c.perform-flow.result ≡ Ok flows.Next = c.in-Ok-Next.is ∙ ap Ok (rw c.in-Ok-Next.is at c.in-Ok-Next.field-0-is) in
-    let within : c.loop-instrs.index < 1024 = goes_on_within c.args.page.now c.loop-instrs.index c.index-instrs-index.result flows.Next
-    c.perform-flow.result _ _ (omega arith) found is refl c.perform-flow.ensures in
-    let did = does_at (c.args.page.now.number * 4096 + c.loop-instrs.index * 4) _ _ c.perform-flow.result _ _
-    (address_in_page c.args.page.now.number c.loop-instrs.index within) c.perform-flow.ensures in
+    let did = c.perform-flow.ensures in
+    let next : stepped_of c.in-Ok-Next.field-0 ≡ stepped.Next = grind arith in
+    let place : place_after (c.args.page.now.number * 4096 + c.loop-instrs.index * 4) c.in-Ok-Next.field-0
+    ≡ plus (c.args.page.now.number * 4096 + c.loop-instrs.index * 4) 4 = grind arith in
+    let goes = goes_on_in _ c.loop-instrs.index _ _ _ c.args.page.now c.index-instrs-index.result c.in-Ok-Next.field-0 c.perform-flow.result
+    c.requires.decoded now.steps (omega arith) (rw c.as_slice-instrs.ensures.value at c.index-instrs-index.is) c.in-Ok-Next.is next did in
+    let within = goes.within in
     let low : c.loop-instrs.index < c.loop-instrs.end = elim c.if-this-eq-PAGE_INSTRS.branch [
       | then-this-eq-PAGE_INSTRS w ↦ omega (arith, within, now.whole w.if-this-eq-PAGE_INSTRS.true)
       | else-this-eq-PAGE_INSTRS+then-index-end w ↦ w.if-index-end.true
     ] in
-    let once = page_once _ c.loop-instrs.index _ _ _ c.args.page.now c.index-instrs-index.result c.perform-flow.result c.requires.decoded
-    now.steps
-    within found did in
-    let step = (rw is at once).step in
     record {
       regs = did.regs;
       steps = one_more_at _ _ _ _ _ _
           (hart c.perform-flow.new.regs (memory_of c.perform-flow.new.space) c.perform-flow.new.reservation) (omega arith) (omega arith)
-          now.steps step;
+          now.steps goes.step;
       snapshots = did.snapshots ∙ now.snapshots;
       low = omega arith;
       high = now.high;
@@ -54,25 +54,21 @@ loop-instrs-preserved-in-Next-1 g c =
 pub loop-instrs-preserved : goal.loop-instrs-preserved
 loop-instrs-preserved g c =
     let now = c.loop-instrs.invariant in
-    let found = rw c.as_slice-instrs.ensures.value at c.index-instrs-index.is in
+    let did = c.perform-flow.ensures in
     let is : c.perform-flow.result ≡ Ok (flows.Jump c.in-Ok-Jump.target) =
     c.in-Ok-Jump.is ∙ ap Ok (rw c.in-Ok-Jump.is at c.in-Ok-Jump.field-0-is) in
-    let within : c.loop-instrs.index < 1024 = goes_on_within c.args.page.now c.loop-instrs.index c.index-instrs-index.result
-    (flows.Jump c.in-Ok-Jump.target) c.perform-flow.result _ _ (omega arith) found is refl c.perform-flow.ensures in
-    let did = does_at (c.args.page.now.number * 4096 + c.loop-instrs.index * 4) _ _ c.perform-flow.result _ _
-    (address_in_page c.args.page.now.number c.loop-instrs.index within) c.perform-flow.ensures in
-    let once = page_once _ c.loop-instrs.index _ _ _ c.args.page.now c.index-instrs-index.result c.perform-flow.result c.requires.decoded
-    now.steps
-    within found did in
-    let step = (rw is at once).step in
+    let goes = goes_on_in _ c.loop-instrs.index _ _ _ c.args.page.now c.index-instrs-index.result (flows.Jump c.in-Ok-Jump.target)
+    c.perform-flow.result
+    c.requires.decoded now.steps (omega arith) (rw c.as_slice-instrs.ensures.value at c.index-instrs-index.is) is refl did in
+    let within = goes.within in
     let fits : c.in-Ok-Jump.target < 2 ^ 32 = let told = rw is at c.perform-flow.type_inv in omega (arith, told) in
     let here : (c.args.page.now.number * 4096 + c.loop-instrs.index * 4) % 4 ≡ 0 = omega arith in
-    let aligned : c.in-Ok-Jump.target % 4 ≡ 0 = next_aligned _ _ here step in
+    let aligned : c.in-Ok-Jump.target % 4 ≡ 0 = next_aligned _ _ here goes.step in
     record {
       regs = did.regs;
       steps = one_more_at _ _ _ _ _ _
           (hart c.perform-flow.new.regs (memory_of c.perform-flow.new.space) c.perform-flow.new.reservation) (omega arith)
-          (omega (arith, aligned, c.if-target-base-lt4096.true)) now.steps step;
+          (omega (arith, aligned, c.if-target-base-lt4096.true)) now.steps goes.step;
       snapshots = did.snapshots ∙ now.snapshots;
       low = omega (arith, c.min-end-in-Ok-Jump.ensures);
       high = omega (arith, c.min-end-in-Ok-Jump.ensures);

@@ -9,7 +9,6 @@ loop-done-init c = record {
   steps = no_steps _;
   snapshots = refl;
   within = omega arith;
-  counts = rw c.watch-watch.ensures refl;
   address = rw c.watch-watch.ensures refl;
   watched = rw c.watch-watch.ensures (record { steps = none_watched _ _; byte = refl });
 }
@@ -23,7 +22,6 @@ loop-done-preserved c =
       steps = steps_join _ _ _ _ _ now.steps (are_steps _ _ _ _ _ c.in-Limit.is did.runs.runs);
       snapshots = did.runs.snapshots ∙ now.snapshots;
       within = omega (arith, did.runs.within);
-      counts = omega (arith, did.counts c.in-Limit.is);
       address = did.address ∙ now.address;
       watched = did.watches c.in-Limit.is _ now.watched;
     }
@@ -47,5 +45,5 @@ returns c =
     let all : c.loop-done.done ≡ c.args.limit = omega (arith, now.within) in
     record {
       runs = runs_all _ _ _ _ _ _ _ all all now.steps now.regs now.snapshots;
-      watched = λ e. watched_all c.loop-done.watch _ _ _ _ now.address (now.counts ∙ all) now.watched;
+      watched = λ e. watched_all c.loop-done.watch _ _ _ _ _ now.address all now.watched;
     }

@@ -12,9 +12,9 @@ invariant-loop-done l = record {
   steps : HartSteps l.done (hart l.fn.regs (memory_of l.fn.space) l.fn.reservation) (hart l.regs (memory_of l.space) l.reservation);
   snapshots : snapshots_of l.space ≡ snapshots_of l.fn.space;
   within : l.done ≤ l.limit;
-  counts : l.watch.count ≡ l.done;
   address : l.watch.address ≡ l.address;
-  watched : IsWatched l.watch (hart l.fn.regs (memory_of l.fn.space) l.fn.reservation) (hart l.regs (memory_of l.space) l.reservation);
+  watched : IsWatched l.watch l.done (hart l.fn.regs (memory_of l.fn.space) l.fn.reservation)
+      (hart l.regs (memory_of l.space) l.reservation);
 }
 
 abbrev pub decreases-loop-done : goal.decreases-loop-done

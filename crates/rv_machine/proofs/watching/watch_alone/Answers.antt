@@ -34,4 +34,4 @@ returns-clause-watches c e first watched =
     let did = c.step.ensures in
     let step = goes_on 0 c.step.result _ _ c.in-None.ensures
     (record { step = did.step; fault = did.fault; refused = did.refused; takes = did.takes }) in
-    look_watches _ _ first _ _ step c.look.ensures watched
+    look_watches _ _ _ _ first _ _ refl step c.look.ensures watched

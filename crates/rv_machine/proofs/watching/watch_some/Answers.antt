@@ -13,11 +13,11 @@ invariant_of-space-in_default c =
     (run_keeps c.watch_alone-in_default.result.end 1 c.watch_alone-in_default.result.count _ _ c.watch_alone-in_default.ensures.runs.runs)
     (c.ready.ensures c.space.invariant)
 
-pub watch_page-requires-clause-decoded : goal.watch_page-requires-clause-decoded
-watch_page-requires-clause-decoded c = c.in-Some.ensures.kept (memory_of c.space.inside.space) (c.ready.ensures c.space.invariant)
+pub watch_decoded-requires-clause-decoded : goal.watch_decoded-requires-clause-decoded
+watch_decoded-requires-clause-decoded c = c.in-Some.ensures.kept (memory_of c.space.inside.space) (c.ready.ensures c.space.invariant)
 
 pub invariant_of-space-2 : goal.invariant_of-space-2
 invariant_of-space-2 c =
-    pages_kept (memory_of c.space.inside.space) (memory_of c.watch_page.new.space) c.ready.new.self.slots.items
-    (run_keeps c.watch_page.result.end c.args.limit c.watch_page.result.count _ _ c.watch_page.ensures.runs.runs)
+    pages_kept (memory_of c.space.inside.space) (memory_of c.watch_decoded.new.space) c.ready.new.self.slots.items
+    (run_keeps c.watch_decoded.result.end c.args.limit c.watch_decoded.result.count _ _ c.watch_decoded.ensures.runs.runs)
     (c.ready.ensures c.space.invariant)
