@@ -1,5 +1,5 @@
 -- Where a question leads from a place, and what is printed there.
-use Rattle.std.specs.Prelude.{◌≡◌, ℕ, ◌+◌, ◌<◌, Bool, true, false, List, ◌++◌, Option, Some, None, codes}
+use Rattle.std.specs.Prelude.{◌≡◌, ℕ, ◌+◌, ◌<◌, ◌≤◌, Bool, true, false, List, ◌++◌, Option, Some, None, codes}
 use Rattle.std.specs.Io.KnownBytes.{Appends}
 use Rattle.command_line.specs.declared.asked.Inquiry.{Inquiry}
 use Rattle.command_line.specs.declared.asked.Inquiry.TheVariants as inquiries
@@ -38,12 +38,19 @@ Goes o frames _ from is_found to = (is_found ≡ true) × (to ≡ from)
 abbrev pub Leads : Inquiry → (old new : CursorValue) → (is_found : Bool) → Type 0
 Leads inquiry old new is_found = Goes old.verified.opening old.verified.frames inquiry old.place is_found new.place
 
--- why it leads nowhere in a recording of so many instructions
+-- to a place of a recording of so many instructions, or to a change, if there is one
+abbrev pub IsWithin : Inquiry → (total from : ℕ) → Type 0
+IsWithin (inquiries.At place) total from = place_in total place ≤ total
+IsWithin (inquiries.Back count) total from = count ≤ from
+IsWithin (inquiries.Forward count) total from = from + count ≤ total
+IsWithin _ total from = Unit {0}
+
+-- why it leads nowhere in a recording of so many instructions; there was no memory only if it leads somewhere
 abbrev pub Refuses : SeekFault → Inquiry → (total from : ℕ) → Type 0
 Refuses seek_faults.BeforeStart (inquiries.Back count) total from = from < count
 Refuses seek_faults.PastEnd (inquiries.At place) total from = total < place_in total place
 Refuses seek_faults.PastEnd (inquiries.Forward count) total from = total < from + count
-Refuses seek_faults.Memory inquiry total from = Unit {0}
+Refuses seek_faults.Memory inquiry total from = IsWithin inquiry total from
 Refuses _ inquiry total from = ⊥
 
 -- ---- what is printed

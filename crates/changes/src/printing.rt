@@ -1,6 +1,6 @@
 //! What is printed of a place, and of changes.
 
-ghost use Rattle.std.specs.Prelude.{◌≡◌, ◌<◌, ◌+◌, IfOk, IfSome, List, OnOk, string_bytes, ℕ};
+ghost use Rattle.std.specs.Prelude.{◌≡◌, ◌<◌, ◌+◌, IfErr, IfOk, IfSome, List, OnOk, string_bytes, ℕ};
 ghost use Rattle.std.specs.Io.KnownBytes.{Appends};
 ghost use Rattle.guest_calls.specs.Guest.{state_of};
 ghost use Rattle.rrv_model.specs.StateAt.{total};
@@ -23,7 +23,8 @@ use trace_text::{MemoryLines, StateLines};
 
 /// Prints a text.
 fn print<W: Write, T: Display>(out: &mut W, text: &T) -> Result<(), Unprinted>
-    ensures { OnOk result (IfSome (T.output text.now) (Appends (W.contents out.old) (W.contents out.new))) }
+    ensures printed { OnOk result (IfSome (T.output text.now) (Appends (W.contents out.old) (W.contents out.new))) }
+    ensures refused { IfErr result (λ e. e ≡ Unprinted.OutputFailed) }
 {
     write!(out, "{text}").map_err(|_| Unprinted::OutputFailed)
 }
@@ -36,6 +37,7 @@ fn print_ranges<W: Write>(
 ) -> Result<(), Unprinted>
     ensures printed { OnOk result (Appends (W.contents out.old) (W.contents out.new)
         (ranges_lines (state_of guest.now).memory ranges.now)) }
+    ensures refused { IfErr result (λ e. e ≡ Unprinted.OutputFailed) }
 {
     for range in ranges {
         let lines = MemoryLines::new(guest.space(), range.address, range.length);
@@ -53,6 +55,7 @@ pub fn print_state<W: Write>(
     ensures printed { OnOk result ((text : List ℕ)
         × IsStateText cursor.now.verified.opening cursor.now.verified.frames ranges.now cursor.now.place text
         × Appends (W.contents out.old) (W.contents out.new) text) }
+    ensures refused { IfErr result (λ e. e ≡ Unprinted.OutputFailed) }
 {
     let guest = cursor.guest();
     let lines = StateLines::new(guest, cursor.place(), cursor.verified().total());

@@ -1,12 +1,13 @@
 //! Copies of guests in other stores.
 
-ghost use Rattle.std.specs.Prelude.{◌≡◌, ◌<◌, List, OnOk, false};
+ghost use Rattle.std.specs.Prelude.{◌≡◌, ◌≢◌, ◌<◌, IfErr, List, OnOk, false};
 ghost use Rattle.std.specs.Io.KnownBytes.{Appends};
 ghost use Rattle.rrv_model.specs.declared.limits.TheConstants.{MAX_NUMBER};
 ghost use Rattle.rrv_model.specs.declared.record.Record.{Record};
 ghost use Rattle.rrv_model.specs.Recovered.{of_guest};
 ghost use Rattle.recover.specs.Spots.{records_of, StandOn};
 ghost use Rattle.copying.specs.Copied.{copies_of, AreCopies, Copies, KeepsRecords};
+ghost use Rattle.commands.specs.CopyRefusals.{RefusesCopy};
 ghost use Rattle.showing.specs.Printed.{guest_line};
 ghost use Rattle.stored_guests.specs.Printed.{with_newline};
 
@@ -40,6 +41,9 @@ fn copy_to<S: Disk, D: Disk, W: Write>(
     ensures safe { (earlier : List Record) → KeepsRecords D.Disk log.old earlier → (read : List Record)
         × AreCopies log.old.next_guest 0 read × Copies D.Disk result log.old log.new earlier read }
     ensures too_many { MAX_NUMBER < log.old.next_guest → OnOk result ⊥ × (log.new ≡ log.old) }
+    ensures refused { StandOn S.honest S.state source.old lists.now
+        → IfErr result (RefusesCopy log.old.next_guest log.new) }
+    ensures quiet { IfErr result (λ e. e ≢ Refusal.OutputFailed → out.new ≡ out.old) }
     ensures printed { StandOn S.honest S.state source.old lists.now
         → OnOk result (Appends (W.contents out.old) (W.contents out.new)
         (with_newline (guest_line log.old.next_guest (of_guest guest (records_of lists.now))))) }

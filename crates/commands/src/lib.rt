@@ -5,8 +5,8 @@
 //! # Contracts
 //!
 //! - `copy_to` (private): what `copying::copy_guest` promises of the two disks, whether the line is printed or not; and if it returns
-//!   Ok, a writer that tells its bytes got the line of the guest under its new number. If there is none, nothing is done. That a store is
-//!   not copied to itself is tested.
+//!   Ok, a writer that tells its bytes got the line of the guest under its new number. If there is none, nothing is done. A refusal is the
+//!   one that `copy_guest` has, a failure aside, and nothing is printed before it. That a store is not copied to itself is tested.
 //! - `Piped::told` (private): failed output is told as a reader who went away only if one was found to have gone.
 //! - `print_program` (private): if it returns Ok, a writer that tells its bytes got the line of the program: its entry, the pages
 //!   of its guest's opening state, and its break. In which words a file is refused is tested.

@@ -48,7 +48,7 @@ kept_unless_broken {D = D} log log' body faults.DeviceFailed refused whole =
     true_is_not_false e = cc
 kept_unless_broken {D = D} log log' body faults.StoreFull refused whole = refused.0
 kept_unless_broken {D = D} log log' body faults.TooManyGuests refused whole = absurd refused
-kept_unless_broken {D = D} log log' body faults.Memory refused whole = refused
+kept_unless_broken {D = D} log log' body faults.Memory refused whole = refused.0
 
 -- the first ones of a list
 takes_first : (n : ℕ) (all : List Record) → IsBeginning (take n all) all

@@ -103,7 +103,7 @@ IsFull log = (body : List ℕ) × (1 ≤ length body) × (length body ≤ MAX_BO
 abbrev pub RefusesBody : {D : Type 0} → LogValue D → LogValue D → List ℕ → CopyFault → Type 0
 RefusesBody log log' body faults.DeviceFailed = log' ≡ record log { disk = log'.disk; is_broken = true }
 RefusesBody log log' body faults.StoreFull = (log' ≡ log) × IsPastLimit log body
-RefusesBody log log' body faults.Memory = log' ≡ log
+RefusesBody log log' body faults.Memory = (log' ≡ log) × (IsPastLimit log body → ⊥)
 RefusesBody log log' body _ = ⊥
 
 -- the body is committed, or there is a reason why it isn't

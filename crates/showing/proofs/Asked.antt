@@ -1,6 +1,6 @@
 -- Answers to lines.
-use Rattle.std.proofs.Common.{◌≡◌, ◌≢◌, inl, inr, List, ◌∷◌, ℕ, Option, Result, Ok, Err, IfOk, OnOk, false, refl, sym, ◌∙◌, subst, true≢false}
-use Rattle.std.specs.Prelude.{codes}
+use Rattle.std.proofs.Common.{◌≡◌, ◌≢◌, inl, inr, List, ◌∷◌, ℕ, Option, None, Some, false, true, refl, sym, ◌∙◌, subst, true≢false}
+use Rattle.std.specs.Prelude.{◌⊎◌, IfSome, codes}
 use Rattle.std.specs.Str.{bytes_eq}
 use Rattle.std.proofs.lemmas.Slice.Eq.{bytes_eq-Decides}
 use Rattle.std.specs.Io.KnownBytes.{Appends}
@@ -13,20 +13,37 @@ use Rattle.command_line.specs.declared.asked.Inquiry.TheVariants as inquiries
 use Rattle.reverse_step.specs.Cursors.{CursorValue}
 use Rattle.stored_guests.specs.declared.refusal.Refusal.{Refusal}
 use Rattle.stored_guests.specs.declared.refusal.Refusal.TheVariants as refusals
-use Rattle.showing.specs.Asking.{AnswersInput, AnswersLine, IsRun, PrintsRefusal, RefusesAsked, point_line}
+use Rattle.showing.specs.declared.input_lines.InputLine.{InputLine}
+use Rattle.showing.specs.Asking.{AnswersInput, AnswersLine, GoesOnAfter, IsRun, IsRunOn, PrintsRefusal, RefusesAsked, point_line}
 
 -- one answer more
-pub answered_on : (start there now : CursorValue) (a b told answered c : Option (List ℕ)) (line : Option Text) → IsRun start there a b →
+pub answered_on : (start there now : CursorValue) (a b told answered c : Option (List ℕ)) (line : InputLine) → IsRunOn start there a b →
     told ≡ b → AnswersInput line there now told answered → Appends answered c point_line → IsRun start now a c
 answered_on start there now a b told answered c line run same answer ended = (
   line ∷ run.0,
-  (there, b, answered, run.1, subst (λ (o : Option (List ℕ)). AnswersInput line there now o answered) same answer, ended),
+  (there, b, answered, run.1, run.2, subst (λ (o : Option (List ℕ)). AnswersInput line there now o answered) same answer, ended),
 )
 
--- what holds of a value, with what holds if there is one
-pub ok_both : {T E P : Type 0} {Q R : T → Type 0} (r : Result T E) → ((t : T) → P → Q t → R t) → OnOk r P → IfOk r Q → IfOk r R
-ok_both (Ok t) f p q = f t p q
-ok_both (Err e) f p q = tt
+-- after which more are wanted
+pub answered_and_on : (start there now : CursorValue) (a b told answered c : Option (List ℕ)) (line : InputLine) →
+    IsRunOn start there a b
+    → told ≡ b → AnswersInput line there now told answered → Appends answered c point_line → GoesOnAfter line true →
+    IsRunOn start now a c
+answered_and_on start there now a b told answered c line run same answer ended on = (
+  line ∷ run.0,
+  (there, b, answered, run.1, run.2, subst (λ (o : Option (List ℕ)). AnswersInput line there now o answered) same answer, ended),
+  (on, run.2),
+)
+
+-- why a line has no answer, by its text or by none
+pub known_why : (known : Option (List ℕ)) (why : List ℕ) → IfSome known (λ text. why ≡ text) →
+    IfSome known (λ text. (why ≡ text) ⊎ (why ≡ codes "out of memory"))
+known_why None why is = tt
+known_why (Some text) why is = inl is
+
+pub no_memory_why : (known : Option (List ℕ)) → IfSome known (λ text. (codes "out of memory" ≡ text) ⊎ (codes "out of memory" ≡ codes "out of memory"))
+no_memory_why None = tt
+no_memory_why (Some text) = inr refl
 
 differ : (one other : Text) → bytes_eq one other ≡ false → one ≡ other → ⊥
 differ one other not e = true≢false (sym ((bytes_eq-Decides one other).1 e) ∙ not)
@@ -59,7 +76,7 @@ quit_is_answered line asked old new e h refuses q = subst (λ (a : Asked). Refus
 -- what a line asks is refused, and nothing was printed before that is told
 pub refused_line : (line : Text) (asked : Asked) (old new : CursorValue) (before told after : Option (List ℕ)) (e : Refusal) →
     IsAsked line asked
-    → RefusesAsked asked old new e → e ≢ refusals.OutputFailed → told ≡ before → PrintsRefusal told after →
+    → RefusesAsked asked old new e → e ≢ refusals.OutputFailed → told ≡ before → PrintsRefusal None told after →
     AnswersLine line old new before after
 refused_line line asked old new before told after e h refuses other quiet prints = inr (inl (record {
   asked = asked;
@@ -67,5 +84,5 @@ refused_line line asked old new before told after e h refuses other quiet prints
   refusal = e;
   refuses = refuses;
   not_output = other;
-  told = subst (λ (o : Option (List ℕ)). PrintsRefusal o after) quiet prints;
+  told = subst (λ (o : Option (List ℕ)). PrintsRefusal None o after) quiet prints;
 }))

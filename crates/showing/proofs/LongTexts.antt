@@ -1,5 +1,5 @@
 -- Records that are summed up as they are replayed, one after another, and the lines of guests.
-use Rattle.std.proofs.Common.{◌≡◌, ℕ, zero, suc, ◌+◌, ◌≤◌, List, [], ◌∷◌, ◌++◌, length, Option, Some, inl, inr, arith, refl, ap, sym, subst, ◌∙◌}
+use Rattle.std.proofs.Common.{◌≡◌, ℕ, suc, ◌+◌, ◌≤◌, List, [], ◌∷◌, ◌++◌, length, Option, Some, inl, inr, arith, refl, ap, sym, subst, ◌∙◌}
 use Rattle.std.specs.Prelude.{take, slice_get}
 use Rattle.std.specs.Io.KnownBytes.{Appends}
 use Rattle.std.proofs.lemmas.List.{append-nil, append_assoc}
@@ -22,7 +22,6 @@ use Rattle.showing.specs.LongList.{AddsUpTo, AreLines, IsTold, RefusesSummary, n
 use Rattle.showing.specs.Printed.{first_file, file_in, guest_line}
 use Rattle.stored_guests.specs.Printed.{with_newline}
 use Rattle.stored_guests.specs.Stores.{IsFailed, RefusesList}
-use Rattle.showing.specs.Refused.{RefusesDump}
 use Rattle.stored_guests.specs.Told.{verify_told}
 use Rattle.end_text.proofs.Printed.{appends_on, take_next}
 use Rattle.showing.proofs.TurnTexts.{first_refused, next_refused}

@@ -1,11 +1,11 @@
 //! Lines of input that ask about a guest's recording.
 
-ghost use Rattle.std.specs.Prelude.{◌≡◌, ◌≢◌, IfErr, IfOk, List, OnOk, Option, Some, false, ℕ};
+ghost use Rattle.std.specs.Prelude.{◌≡◌, ◌≢◌, IfErr, IfOk, OnOk, false};
 ghost use Rattle.std.specs.Io.KnownBytes.{Appends};
 ghost use Rattle.command_line.specs.Asked.{IsAsked};
 ghost use Rattle.command_line.specs.declared.asked.Asked.TheVariants as asks;
 ghost use Rattle.stored_guests.specs.declared.refusal.Refusal.{Refusal};
-ghost use Rattle.showing.specs.Asking.{AnswersAsked, AnswersInput, AnswersLine, GoesOnAfter, IsRun, PrintsRefusal, RefusesAsked, point_line};
+ghost use Rattle.showing.specs.Asking.{AnswersAsked, AnswersInput, AnswersLine, GoesOnAfter, GoesOnAfterText, IsRun, PrintsRefusal, RefusesAsked, point_line};
 
 use crate::choosing::print_choices;
 use crate::core_files::write_core_of;
@@ -50,7 +50,7 @@ fn print_refused<W: Write, T: Display>(
     out: &mut W,
     why: &T,
 ) -> Result<(), OutputFailed>
-    ensures told { OnOk result (PrintsRefusal (W.contents out.old) (W.contents out.new)) }
+    ensures told { OnOk result (PrintsRefusal (T.output why.now) (W.contents out.old) (W.contents out.new)) }
 {
     print_text(out, &"rrv: ")?;
     match why.to_string(alloc) {
@@ -98,7 +98,7 @@ fn answer_line<R: Files<File = File> + AllocGlobal + Threads + Sync, V: SearchWa
     ensures verified { cursor.new.verified ≡ cursor.old.verified }
     ensures answered { OnOk result
         (AnswersLine line.now cursor.old cursor.new (W.contents out.old) (W.contents out.new)) }
-    ensures ends { IfOk result (GoesOnAfter (Some line.now)) }
+    ensures ends { IfOk result (GoesOnAfterText line.now) }
 {
     let asked = match asked_in(line) {
         Ok(asked) => asked,
@@ -127,8 +127,9 @@ fn answer_input<R: Files<File = File> + AllocGlobal + Threads + Sync, V: SearchW
     out: &mut W,
 ) -> Result<bool, Refusal>
     ensures verified { cursor.new.verified ≡ cursor.old.verified }
-    ensures answered { IfOk result (λ goes_on. (given : Option (List ℕ)) × GoesOnAfter given goes_on
-        × AnswersInput given cursor.old cursor.new (W.contents out.old) (W.contents out.new)) }
+    ensures answered { OnOk result
+        (AnswersInput line.now cursor.old cursor.new (W.contents out.old) (W.contents out.new)) }
+    ensures ends { IfOk result (GoesOnAfter line.now) }
 {
     match line {
         InputLine::Text(text) => { answer_line(rt, workers, cursor, text.as_str(), watch, out) }

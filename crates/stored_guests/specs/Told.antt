@@ -1,5 +1,5 @@
 -- How the refusals of the layers below are told.
-use Rattle.std.specs.Prelude.{ℕ}
+use Rattle.std.specs.Prelude.{◌≡◌, ℕ, List, string_bytes}
 use Rattle.copying.specs.declared.fault.CopyFault.{CopyFault}
 use Rattle.copying.specs.declared.fault.CopyFault.TheVariants as copy_faults
 use Rattle.elf_load.specs.declared.fault.ElfFault.{ElfFault}
@@ -79,3 +79,14 @@ file_told guest (file_faults.Unread kind) = refusals.CannotReadFile
 file_told guest (file_faults.TooLong most) = refusals.CannotReadFile
 file_told guest (file_faults.NoProgram fault target) = elf_told guest fault
 file_told guest file_faults.Memory = refusals.Memory
+
+-- so, or in words, by its name and this fault
+abbrev pub IsInWords : ℕ → (name : List ℕ) → FileFault → Refusal → Type 0
+IsInWords guest name fault (refusals.InWords first file why) =
+    (first ≡ record { guest = guest; fault = fault }) × (string_bytes file ≡ name) × (why ≡ fault)
+IsInWords guest name fault refusal = refusal ≡ file_told guest fault
+
+-- of a file that is to be checked, by its name; or there was no memory for that
+abbrev pub IsChecked : (name : List ℕ) → FileFault → Refusal → Type 0
+IsChecked name fault (refusals.BadFile file why) = (string_bytes file ≡ name) × (why ≡ fault)
+IsChecked name fault refusal = refusal ≡ refusals.Memory

@@ -84,7 +84,9 @@ pub struct FirstLine {
 
 impl FirstLine {
     /// That of this file.
-    pub fn new(guest: u32, fault: FileFault) -> Self {
+    pub fn new(guest: u32, fault: FileFault) -> Self
+        ensures { result ≡ record { guest = guest; fault = fault } }
+    {
         FirstLine { guest, fault }
     }
 }

@@ -12,6 +12,8 @@
 //!   stand; a file isn't one.
 //! - `read_program`: all bytes of the file, and at most 2,097,152, else why they aren't read: `TooLong` comes only if there are
 //!   more. `image_of`: the image of a program, or the refusal that its file has.
+//! - `of_file_at`, `of_checked` of `Refusal`: what is told in words of a file is of this guest, this name and this fault, or there was no
+//!   memory for it. What these words are is tested.
 //! - `verified`: the record that it reports as unreadable is one that the source says it withheld.
 //!   `StoredGuest`, the source over a store, says so of the place that it was last asked for and did not give.
 //! - `print_put`: bytes for descriptor 2 are appended to the errors, all others to the output, whole.

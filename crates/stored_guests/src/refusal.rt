@@ -1,7 +1,7 @@
 //! Why a line of the program did not do what it asks for.
 
 ghost use Rattle.std.specs.Prelude.{◌≡◌, ◌≢◌, false};
-ghost use Rattle.stored_guests.specs.Told.{copy_told, create_told, elf_told, file_told, open_told, output_told, read_told, seek_told, session_told, verify_told};
+ghost use Rattle.stored_guests.specs.Told.{IsChecked, IsInWords, copy_told, create_told, elf_told, file_told, open_told, output_told, read_told, seek_told, session_told, verify_told};
 ghost use Rattle.stored_guests.specs.declared.refusal.Refusal.TheVariants as refusals;
 
 use crate::file_fault::{FileFault, FirstLine};
@@ -269,6 +269,7 @@ impl Refusal {
     ) -> Self
         ensures plain { in_words ≡ false → result ≡ file_told guest fault }
         ensures memory { fault ≡ FileFault.Memory → result ≡ Refusal.Memory }
+        ensures words { IsInWords guest path.now fault result }
     {
         if !in_words || matches!(fault, FileFault::Memory) {
             return Refusal::of_file(guest, fault);
@@ -285,7 +286,8 @@ impl Refusal {
 
     /// The refusal of a file that is to be checked.
     pub fn of_checked(alloc: Global, path: &str, fault: FileFault) -> Self
-        ensures { fault ≡ FileFault.Memory → result ≡ Refusal.Memory }
+        ensures memory { fault ≡ FileFault.Memory → result ≡ Refusal.Memory }
+        ensures checked { IsChecked path.now fault result }
     {
         if matches!(fault, FileFault::Memory) {
             return Refusal::Memory;

@@ -31,4 +31,4 @@ returns-clause-printed g c =
     old.place tid _ _ _ _ is_at moved.after.is_at (runs_there frames old.place tid c.requires shown)
     (λ i. change_line ((made.place ∙ place) i) (made.tid i) (thread_at (state_of (made.guest i)) (made.tid i))
     (value_text (memory_of (made.guest i).space) (made.watched i)) (value i))
-    c.in_ok-print.ensures c.print_ranges.ensures.printed
+    c.in_ok-print.ensures.printed c.print_ranges.ensures.printed

@@ -1,4 +1,4 @@
-use Rattle.std.proofs.Common.{◌≡◌, ◌∙◌, List, [], ℕ, rules, subst}
+use Rattle.std.proofs.Common.{◌≡◌, ◌∙◌, Err, List, [], ℕ, ap, refl, rules, subst}
 use Rattle.std.specs.Io.KnownBytes.{Appends}
 use Rattle.std.proofs.lemmas.Result.{err_from_is_err_and}
 use Rattle.rrv_model.specs.Recovered.{of_guest}
@@ -10,6 +10,7 @@ use Rattle.copying.proofs.Numbered.{copies_none}
 use Rattle.rrv_model.specs.Recording.{items_of}
 use Rattle.showing.specs.Printed.{name_in, named_line}
 use Rattle.stored_guests.specs.Printed.{with_newline}
+use Rattle.commands.proofs.CopyRefusals.{copy_refused, name_refused}
 use Rattle.commands.proofs.copies.copy_to.Goals as goal
 
 pub returns-in_err-name-clause-copied : goal.returns-in_err-name-clause-copied
@@ -50,6 +51,28 @@ returns-in_err-print_guest-clause-safe g c earlier k =
     let p = err_from_is_err_and c.from_residual-in_err-print_guest.result c.from_residual-in_err-print_guest.ensures.1 in
     let safe = c.in_ok-number.ensures.safe earlier k in
     (safe.0, safe.1, rw p.1 (copies_failed g.D.Disk c.args.log.now c.copy_guest.new.log earlier safe.0 _ p.0 safe.2))
+
+pub returns-in_err-name-clause-refused : goal.returns-in_err-name-clause-refused
+returns-in_err-name-clause-refused g c on =
+    let p = err_from_is_err_and c.from_residual.result c.from_residual.ensures.1 in
+    rw (p.1, p.2) (name_refused c.args.log.now.next_guest c.args.log.now _ (c.in_err-name.ensures.refused on))
+
+pub returns-in_err-number-clause-refused : goal.returns-in_err-number-clause-refused
+returns-in_err-number-clause-refused g c on =
+    let p = err_from_is_err_and c.from_residual-in_err-number.result c.from_residual-in_err-number.ensures.1 in
+    let fault = c.in_err-number.ensures in
+    rw (p.1, p.2) (copy_refused c.args.log.now.next_guest c.copy_guest.new.log _ (λ e. fault.too_many.0 (ap Err e))
+    (λ e. fault.full (ap Err e)) (fault.undamaged (c.in_ok-name.ensures.on on)))
+
+pub returns-in_err-print_guest-clause-refused : goal.returns-in_err-print_guest-clause-refused
+returns-in_err-print_guest-clause-refused g c on =
+    let p = err_from_is_err_and c.from_residual-in_err-print_guest.result c.from_residual-in_err-print_guest.ensures.1 in
+    rw (p.1, p.2) tt
+
+pub returns-in_err-print_guest-clause-quiet : goal.returns-in_err-print_guest-clause-quiet
+returns-in_err-print_guest-clause-quiet g c =
+    let p = err_from_is_err_and c.from_residual-in_err-print_guest.result c.from_residual-in_err-print_guest.ensures.1 in
+    rw (p.1, p.2) (λ other. absurd (other refl))
 
 pub returns-clause-copied : goal.returns-clause-copied
 returns-clause-copied g c earlier on k =

@@ -1,8 +1,11 @@
-use Rattle.std.proofs.Common.{Some}
-use Rattle.showing.proofs.Asked.{ok_both}
+use Rattle.std.proofs.Common.{refl, subst, sym}
+use Rattle.showing.specs.declared.input_lines.InputLine.{InputLine}
+use Rattle.showing.specs.Asking.{AnswersInput}
 use Rattle.showing.proofs.ask.answer_input.Goals as goal
 
-pub returns-in-Text-clause-answered : goal.returns-in-Text-clause-answered
-returns-in-Text-clause-answered g c =
-    ok_both c.answer_line.result (λ goes_on answers goes. (Some c.as_str.result.now, goes, answers)) c.answer_line.ensures.answered
-    c.answer_line.ensures.ends
+pub returns-in_ok-print_refused-in-TooLong-clause-answered : goal.returns-in_ok-print_refused-in-TooLong-clause-answered
+returns-in_ok-print_refused-in-TooLong-clause-answered g c =
+    let contents = g.W.Write.contents in
+    subst (λ (l : InputLine). AnswersInput l c.args.cursor.now c.args.cursor.now (contents c.args.out.now)
+    (contents c.print_refused.new.out)) (sym c.in-TooLong.is)
+    (refl, c.in_ok-print_refused-in-TooLong.ensures.told)

@@ -1,22 +1,23 @@
-use Rattle.std.proofs.Common.{◌∙◌, ap}
-use Rattle.showing.proofs.Asked.{answered_on}
+use Rattle.std.proofs.Common.{◌≡◌, ◌∙◌, Bool, ap, rules, subst, true}
+use Rattle.showing.specs.Asking.{GoesOnAfter}
+use Rattle.showing.proofs.Asked.{answered_and_on, answered_on}
 use Rattle.showing.proofs.ask.answer_lines.Goals as goal
 
 pub returns-then-not-goes_on-clause-answered : goal.returns-then-not-goes_on-clause-answered
 returns-then-not-goes_on-clause-answered g c = λ quiet.
     let contents = g.W.Write.contents in
-    let answered = c.in_ok-goes_on.ensures.answered in
     answered_on c.args.cursor.now c.loop.cursor c.answer_input.new.cursor (contents c.args.out.now) (contents c.loop.out)
-    (contents c.prompt.new.out) (contents c.answer_input.new.out) (contents c.end_answer.new.out) answered.0 (c.loop.invariant.ran quiet)
-    (ap contents (c.prompt.ensures.quiet quiet)) answered.2 c.in_ok-end_answer.ensures.ended
+    (contents c.prompt.new.out) (contents c.answer_input.new.out) (contents c.end_answer.new.out) _ (c.loop.invariant.ran quiet)
+    (ap contents (c.prompt.ensures.quiet quiet)) c.in_ok-goes_on.ensures.answered c.in_ok-end_answer.ensures.ended
 
 pub loop-preserved : goal.loop-preserved
 loop-preserved g c = record {
   same = c.in_ok-goes_on.ensures.verified ∙ c.loop.invariant.same;
   ran = λ quiet.
       let contents = g.W.Write.contents in
-      let answered = c.in_ok-goes_on.ensures.answered in
-      answered_on c.args.cursor.now c.loop.cursor c.answer_input.new.cursor (contents c.args.out.now) (contents c.loop.out)
-      (contents c.prompt.new.out) (contents c.answer_input.new.out) (contents c.end_answer.new.out) answered.0
-      (c.loop.invariant.ran quiet) (ap contents (c.prompt.ensures.quiet quiet)) answered.2 c.in_ok-end_answer.ensures.ended;
+      let on : c.in_ok-goes_on.goes_on ≡ true = search rules in
+      answered_and_on c.args.cursor.now c.loop.cursor c.answer_input.new.cursor (contents c.args.out.now) (contents c.loop.out)
+      (contents c.prompt.new.out) (contents c.answer_input.new.out) (contents c.end_answer.new.out) _ (c.loop.invariant.ran quiet)
+      (ap contents (c.prompt.ensures.quiet quiet)) c.in_ok-goes_on.ensures.answered c.in_ok-end_answer.ensures.ended
+      (subst (λ (b : Bool). GoesOnAfter c.in-Some.line b) on c.in_ok-goes_on.ensures.ends);
 }

@@ -1,7 +1,5 @@
 use Rattle.std.proofs.Common.{◌≡◌, ◌∙◌, ℕ, arith, subst}
 use Rattle.replayer.specs.Verified.{VerifiedValue}
-use Rattle.rrv_model.specs.StateAt.{total}
-use Rattle.asking.specs.Places.{place_in}
 use Rattle.changes.specs.Printed.{PrintsChanges}
 use Rattle.showing.proofs.states.print_last.Goals as goal
 
