@@ -1,6 +1,7 @@
 """What scripts of this folder share that take times: guests made of words, commands that take turns, bare syncs, and a store's bodies."""
 
 import os
+import pathlib
 import resource
 import statistics
 import struct
@@ -15,6 +16,21 @@ PROCESSORS = sorted(os.sched_getaffinity(0))
 FIRST_GATE, OPEN, BEFORE_BODY, BEFORE_LENGTH, RECORD_HEAD = 16, 0xA5, 41, 9, 13
 # about what a commit writes before its first sync, and before its second
 BODY, GATE = bytes(400), b"\xa5"
+# what stands between a program and the C library, so that a sync takes so many nanoseconds more
+SLOW_SYNCS = r"""
+#define _GNU_SOURCE
+#include <dlfcn.h>
+#include <time.h>
+static int slow(const char *name, int file) {
+    int (*next)(int) = (int (*)(int))dlsym(RTLD_NEXT, name);
+    struct timespec more = {LATER / 1000000000, LATER % 1000000000};
+    int result = next(file);
+    nanosleep(&more, 0);
+    return result;
+}
+int fsync(int file) { return slow("fsync", file); }
+int fdatasync(int file) { return slow("fdatasync", file); }
+"""
 
 
 def elf(words, zeros=0):
@@ -61,16 +77,28 @@ def recorded(rrv, store, program, *options):
     return Ran([*rrv, "record", *options, store, program])
 
 
-def bare_syncs(folder, pairs):
-    """The seconds of each of so many pairs: some bytes put behind a file and synced, and then one byte before them, as a commit does."""
+def slow_syncs(folder, seconds):
+    """Makes a library that has each sync of a program take so many seconds more, and returns its path."""
+    source, made = pathlib.Path(folder) / "slow_syncs.c", pathlib.Path(folder) / "slow_syncs.so"
+    source.write_text(SLOW_SYNCS)
+    compiler = [os.environ.get("CC", "cc"), "-shared", "-fPIC", "-O1", f"-DLATER={round(1e9 * seconds)}L", "-o", made, source, "-ldl"]
+    subprocess.run([str(it) for it in compiler], check=True)
+    return made
+
+
+def bare_syncs(folder, pairs, later=0):
+    """The seconds of each of so many pairs: some bytes put behind a file and synced, and then one byte before them, as a commit does. Each
+    sync takes so many seconds more."""
     found = []
     file = os.open(folder / "bare", os.O_RDWR | os.O_CREAT | os.O_TRUNC)
     for at in range(pairs):
         start = time.monotonic()
         os.pwrite(file, BODY, at * len(BODY) + 1)
         os.fdatasync(file)
+        time.sleep(later)
         os.pwrite(file, GATE, at * len(BODY))
         os.fdatasync(file)
+        time.sleep(later)
         found.append(time.monotonic() - start)
     os.close(file)
     os.unlink(folder / "bare")
