@@ -41,7 +41,8 @@ pub known_why : (known : Option (List ℕ)) (why : List ℕ) → IfSome known (�
 known_why None why is = tt
 known_why (Some text) why is = inl is
 
-pub no_memory_why : (known : Option (List ℕ)) → IfSome known (λ text. (codes "out of memory" ≡ text) ⊎ (codes "out of memory" ≡ codes "out of memory"))
+pub no_memory_why : (known : Option (List ℕ)) →
+    IfSome known (λ text. (codes "out of memory" ≡ text) ⊎ (codes "out of memory" ≡ codes "out of memory"))
 no_memory_why None = tt
 no_memory_why (Some text) = inr refl
 
