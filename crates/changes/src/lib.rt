@@ -9,9 +9,9 @@
 //!   below the one before it whose instruction changes one of the bytes. Of each it got the state before it, or its line, and
 //!   then the bytes of memory that are asked for. If there is no change it got `unchanged`.
 //! - `print_state`: the lines of the state at the cursor's place, by the definition, and then those bytes.
-//! - Neither refuses a place, and each is refused only for want of memory or of a reader, `print_state` only for want of a reader. Where the cursor stands after
-//!   `print_changes` is in no contract, nor how often a span is searched: a byte is searched for again once its last change is
-//!   passed, and not before.
+//! - Neither refuses a place. `print_changes` is refused only for want of memory or of a reader, and `print_state` only for
+//!   want of a reader. Where the cursor stands after `print_changes` is in no contract, nor how often a span is searched: a byte
+//!   is searched for again once its last change is passed, and not before.
 #![tactic(auto)]
 
 mod change_line;
