@@ -13,16 +13,19 @@
 //!   differ from the snapshot's in bytes, in permissions or in being mapped. A page that is mapped has the line mask of its
 //!   bytes against the snapshot's, or against zeros if that has no such page; another one is named as not mapped, with the mask
 //!   0.
-//! - `recorder` makes checkpoints by it, and `replayer` puts them onto a guest. Rows of `replay_cases` and `tools/scenes` see
-//!   both.
+//! - `are_same_parts`: whether the parts of two checkpoints are equal, in each field.
+//! - `recorder` makes checkpoints by `make`. `replayer` puts them onto a guest, and compares them with those that are made there.
+//!   Rows of `replay_cases` and `tools/scenes` see both.
 #![tactic(auto)]
 
 mod applying;
+mod comparison;
 mod fault;
 mod fitting;
 mod making;
 mod pages;
 
 pub use applying::apply;
+pub use comparison::are_same_parts;
 pub use fault::ApplyFault;
 pub use making::make;

@@ -11,3 +11,4 @@ pub mod Behind
 pub mod Changed
 pub mod Watched
 pub mod Keepers
+pub mod Pairs

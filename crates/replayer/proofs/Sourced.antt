@@ -106,16 +106,16 @@ none_counted (items.Part p) s h = absurd h
 
 -- the first record alone
 pub followed_first : (first : Record) (walk : Walk) →
-    Stands first.guest (first ∷ []) (state_of walk.base) walk.parts.items (state_of walk.guest) →
+    Stands first.guest (first ∷ []) (state_of walk.pair.base) walk.parts.items (state_of walk.pair.guest) →
     walk.parts.items ≡ [] → walk.frames.items ≡ [] → walk.marks.items ≡ [] → walk.total ≡ 0 → walk.last ≡ 0 →
-    EndsIn (first.item ∷ []) (state_of walk.guest) → Followed first (first ∷ []) walk
+    EndsIn (first.item ∷ []) (state_of walk.pair.guest) → Followed first (first ∷ []) walk
 followed_first first walk stands row frames marks total_is last_is ends = record {
   first_is = refl;
   stands = stands;
   keeps = λ on. rw (row, frames, marks, total_is) keeps_first;
   ends = ends;
-  counted = total_is ∙ sym (none_counted first.item (state_of walk.guest) ends);
-  last = last_is ∙ sym (none_ran first.item (state_of walk.guest) ends);
+  counted = total_is ∙ sym (none_counted first.item (state_of walk.pair.guest) ends);
+  last = last_is ∙ sym (none_ran first.item (state_of walk.pair.guest) ends);
 }
 
 pub first_of_list : (records : List Record) (first : Record) (rest : List Record) (walk : Walk) → records ≡ first ∷ rest →
@@ -129,21 +129,24 @@ pub followed_next : (first : Record) (read : List Record) (r : Record) (old new 
     →
     RowIs r.item old.parts.items new.parts.items → new.keeps ≡ old.keeps → new.total ≡ old.total + instructions_in r.item →
     new.last ≡ thread_behind r.item old.last →
-    LeadsOn first.guest (length read) r (state_of old.base) old.parts.items (state_of old.guest) (state_of new.base) new.parts.items
-    (state_of new.guest) →
+    LeadsOn first.guest (length read) r (state_of old.pair.base) old.parts.items (state_of old.pair.guest) (state_of new.pair.base)
+    new.parts.items
+    (state_of new.pair.guest) →
     Followed first (read ++ r ∷ []) new
 followed_next first read r old new some h keeps row goes_on counted last leads = record {
   first_is = first_more (λ q. q ≡ first) read (r ∷ []) h.first_is;
-  stands = stands_next first.guest read r (state_of old.base) old.parts.items (state_of old.guest) (state_of new.base) new.parts.items
-      (state_of new.guest) h.stands leads;
+  stands = stands_next first.guest read r (state_of old.pair.base) old.parts.items (state_of old.pair.guest) (state_of new.pair.base)
+      new.parts.items
+      (state_of new.pair.guest) h.stands leads;
   keeps = λ on.
       let kept : old.keeps ≡ true = sym goes_on ∙ on in
       keeps_given read r old.parts.items new.parts.items old.frames.items new.frames.items old.marks.items new.marks.items old.total
       new.total
       some (h.keeps kept) (keeps kept) row;
-  ends = subst (λ (its : List Item). EndsIn its (state_of new.guest)) (sym (items-append read r))
-      (ends_next (items_of read) r.item (state_of old.base) old.parts.items (state_of old.guest) (state_of new.base) new.parts.items
-      (state_of new.guest) h.ends leads.leads);
+  ends = subst (λ (its : List Item). EndsIn its (state_of new.pair.guest)) (sym (items-append read r))
+      (ends_next (items_of read) r.item (state_of old.pair.base) old.parts.items (state_of old.pair.guest) (state_of new.pair.base)
+      new.parts.items
+      (state_of new.pair.guest) h.ends leads.leads);
   counted = counted ∙ ap (λ n. n + instructions_in r.item) h.counted ∙ sym (counted_next (items_of read) r.item)
       ∙ ap (λ (its : List Item). total (frames_of its)) (sym (items-append read r));
   last = last ∙ ap (λ n. thread_behind r.item n) h.last ∙ sym (last_next (items_of read) r.item)
@@ -159,8 +162,8 @@ pub followed_at : (first : Record) (records : List Record) (index : ℕ) (r : Re
     →
     RowIs r.item old.parts.items new.parts.items → new.keeps ≡ old.keeps → new.total ≡ old.total + instructions_in r.item →
     new.last ≡ thread_behind r.item old.last →
-    LeadsOn first.guest index r (state_of old.base) old.parts.items (state_of old.guest) (state_of new.base) new.parts.items
-    (state_of new.guest) →
+    LeadsOn first.guest index r (state_of old.pair.base) old.parts.items (state_of old.pair.guest) (state_of new.pair.base) new.parts.items
+    (state_of new.pair.guest) →
     Followed first (take (index + 1) records) new
 followed_at first records index r old new below some there h keeps row goes_on counted last leads =
     let len : length (take index records) ≡ index = length-take-le index records (omega arith) in
@@ -169,8 +172,9 @@ followed_at first records index r old new below some there h keeps row goes_on c
     ap (λ n. take n records) one_more ∙ take-suc records index r below ∙ ap (λ q. take index records ++ q ∷ []) (sym there) in
     subst (λ (rs : List Record). Followed first rs new) (sym longer)
     (followed_next first (take index records) r old new (omega (arith, len)) h keeps row goes_on counted last
-    (subst (λ n. LeadsOn first.guest n r (state_of old.base) old.parts.items (state_of old.guest) (state_of new.base) new.parts.items
-    (state_of new.guest)) (sym len) leads))
+    (subst (λ n. LeadsOn first.guest n r (state_of old.pair.base) old.parts.items (state_of old.pair.guest) (state_of new.pair.base)
+    new.parts.items
+    (state_of new.pair.guest)) (sym len) leads))
 
 -- all that was read is kept
 pub read_kept : (first : Record) (read : List Record) (walk : Walk) (o : Opening) → Followed first read walk → walk.keeps ≡ true →
@@ -179,9 +183,10 @@ pub read_kept : (first : Record) (read : List Record) (walk : Walk) (o : Opening
 read_kept first read walk o h keeps item_is =
     let long : length read ≤ length read = omega arith in
     let all : take (length read) read ≡ read = take_all (length read) read long in
-    all_kept first.guest read first (length read) o (state_of walk.base) walk.parts.items (state_of walk.guest) walk.frames.items
+    all_kept first.guest read first (length read) o (state_of walk.pair.base) walk.parts.items (state_of walk.pair.guest) walk.frames.items
     walk.marks.items walk.total long
-    (subst (λ (rs : List Record). Stands first.guest rs (state_of walk.base) walk.parts.items (state_of walk.guest)) (sym all) h.stands)
+    (subst (λ (rs : List Record). Stands first.guest rs (state_of walk.pair.base) walk.parts.items (state_of walk.pair.guest)) (sym all)
+    h.stands)
     h.first_is item_is
     (subst (λ (rs : List Record). KeepsAll (drop 1 (items_of rs)) walk.parts.items walk.frames.items walk.marks.items walk.total) (sym all)
     (h.keeps keeps))
@@ -199,10 +204,10 @@ all_read read records index is long = is ∙ take_all index records long
 
 -- the end of what was followed
 pub end_of : (first : Record) (read records : List Record) (walk : Walk) (end : VerifiedEnd) → Followed first read walk → read ≡ records →
-    end.guest ≡ walk.guest → end.total ≡ walk.total → end.len ≡ length read → end.last ≡ walk.last →
+    end.guest ≡ walk.pair.guest → end.total ≡ walk.total → end.len ≡ length read → end.last ≡ walk.last →
     IsEndOf end records
 end_of first read records walk end h are guest_is total_is len_is last_is = subst (λ (rs : List Record). IsEndOf end rs) are (record {
-  recording = recording_of first.guest read (state_of walk.base) walk.parts.items (state_of walk.guest) h.stands;
+  recording = recording_of first.guest read (state_of walk.pair.base) walk.parts.items (state_of walk.pair.guest) h.stands;
   ends = subst (λ (g : _). EndsIn (items_of read) (state_of g)) (sym guest_is) h.ends;
   total = total_is ∙ h.counted;
   len = len_is;

@@ -12,3 +12,4 @@ pub mod Standings
 pub mod Claims
 pub mod Following
 pub mod Asked
+pub mod Pairs

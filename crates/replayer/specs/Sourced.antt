@@ -75,16 +75,16 @@ pub record FollowsGiven {S : Type 0} (honest : S → Type 0) (records : S → Li
   pub last : new.last ≡ thread_behind entry.item old.last
   pub row : RowIs entry.item old.parts.items new.parts.items
   pub grown : new.total ≤ old.total + 2 ^ 20
-  pub leads : LeadsOn guest index entry (state_of old.base) old.parts.items (state_of old.guest)
-      (state_of new.base) new.parts.items (state_of new.guest)
+  pub leads : LeadsOn guest index entry (state_of old.pair.base) old.parts.items (state_of old.pair.guest)
+      (state_of new.pair.base) new.parts.items (state_of new.pair.guest)
 
 -- records that begin with this one, followed: what stands behind them, what is kept of them, and where they end
 pub record Followed (first : Record) (records : List Record) (walk : Walk) : Type 0 where
   pub first_is : IsSomeAnd (slice_get records 0) (λ r. r ≡ first)
-  pub stands : Stands first.guest records (state_of walk.base) walk.parts.items (state_of walk.guest)
+  pub stands : Stands first.guest records (state_of walk.pair.base) walk.parts.items (state_of walk.pair.guest)
   pub keeps : walk.keeps ≡ true
       → KeepsAll (drop 1 (items_of records)) walk.parts.items walk.frames.items walk.marks.items walk.total
-  pub ends : EndsIn (items_of records) (state_of walk.guest)
+  pub ends : EndsIn (items_of records) (state_of walk.pair.guest)
   pub counted : walk.total ≡ total (frames_of (items_of records))
   pub last : walk.last ≡ last_tid (frames_of (items_of records))
 

@@ -13,6 +13,7 @@ ghost use Rattle.replayer.specs.Standings.{Continues, Fits, Standing};
 use crate::fault::{ClaimFault, VerifyFault};
 use crate::following::Following;
 use crate::opened::put_parts;
+use crate::pair::Pair;
 use crate::walk::{Walk, copied_part, last_behind};
 use checkpoint::ApplyFault;
 use guest_calls::Guest;
@@ -73,7 +74,7 @@ impl Claim {
         ensures memory { IfErr result (λ e. e ≡ VerifyFault.Memory) }
     {
         Ok(Claim {
-            base: following.walk.base.try_clone(alloc)?,
+            base: following.walk.pair.base().try_clone(alloc)?,
             parts: copied_row(alloc, following.walk.parts.as_slice())?,
             number: following.number,
             len: following.len,
@@ -126,9 +127,9 @@ impl Claim {
             total,
             last,
         } = self;
+        let guest = base.try_clone(alloc)?;
         let walk = Walk {
-            guest: base.try_clone(alloc)?,
-            base,
+            pair: Pair::of(guest, base),
             parts,
             keeps: false,
             frames: Vec::new(alloc),

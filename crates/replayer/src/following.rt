@@ -32,12 +32,12 @@ impl Model for Following {
     ghost Value = { FollowingValue };
 
     ghost view = { λ f. record {
-      guest = f.walk.guest;
+      guest = f.walk.pair.guest;
       number = f.number;
       len = f.len;
       total = f.walk.total;
       last = f.walk.last;
-      base = f.walk.base;
+      base = f.walk.pair.base;
       row = f.walk.parts.items;
     } };
 
@@ -75,7 +75,7 @@ impl Following {
     pub fn guest(&self) -> &Guest
         ensures { result.now ≡ self.now.guest }
     {
-        &self.walk.guest
+        self.walk.pair.guest()
     }
 
     /// The instructions that the frames so far count.
@@ -126,13 +126,13 @@ impl Following {
             len,
         } = self;
         let Walk {
-            guest,
+            pair,
             total,
             last,
             ..
         } = walk;
         VerifiedEnd {
-            guest,
+            guest: pair.into_guest(),
             total,
             len,
             last,

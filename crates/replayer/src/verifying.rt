@@ -64,8 +64,7 @@ fn kept_of(first: &Record, walk: Walk, len: usize) -> Result<Verified, VerifyFau
 {
     let opening = opening_of(first)?;
     let Walk {
-        guest: _,
-        base: _,
+        pair: _,
         parts: _,
         keeps: _,
         frames,
@@ -132,13 +131,13 @@ pub fn verify_source_end<S: Source, W: Watch>(
     }
     let first = given(alloc, source, 0)?;
     let Walk {
-        guest,
+        pair,
         total,
         last,
         ..
     } = follow_source(alloc, source, &first, false, watch)?;
     Ok(VerifiedEnd {
-        guest,
+        guest: pair.into_guest(),
         total,
         len,
         last,
@@ -184,7 +183,7 @@ fn follow_given<S: Source>(
     ensures follows { OnOk result
         (FollowsGiven S.honest S.records source.old number index walk.old walk.new) }
     ensures refused { S.honest source.old → IfErr result (λ e. RefusesGiven e number index (S.records source.old)
-        (state_of walk.old.base) walk.old.parts.items (state_of walk.old.guest)) }
+        (state_of walk.old.pair.base) walk.old.parts.items (state_of walk.old.pair.guest)) }
     ensures asks { AsksSource S.Source result source.old source.new }
 {
     let entry = given(alloc, source, index)?;

@@ -13,22 +13,20 @@ ghost use Rattle.replayer.specs.LastThread.{thread_behind};
 ghost use Rattle.replayer.specs.Walks.{LeadsOn, Stands};
 
 use crate::fault::VerifyFault;
-use crate::opened::put_parts;
+use crate::pair::Pair;
 use crate::recording::Mark;
-use checkpoint::ApplyFault;
 use guest_calls::Guest;
 use rrv_model::record::{Frame, Item, Opening, Part, Record};
 use rrv_model::sequence::Sequence;
-use serial_sched::{FollowFault, follow};
+use serial_sched::FollowFault;
 use std::alloc::Global;
 use std::mem::replace;
 
-/// What stands behind some records: a guest in the state there, one in the state of the last complete checkpoint, the
+/// What stands behind some records: a guest in the state there, with one in the state of the last complete checkpoint, the
 /// parts since that checkpoint or the last frame, and what is kept.
 #[derive(Drop)]
 pub(crate) struct Walk {
-    pub(crate) guest: Guest,
-    pub(crate) base: Guest,
+    pub(crate) pair: Pair,
     pub(crate) parts: Vec<Part>,
     /// Whether frames and complete checkpoints are kept, from which each place can be gone to.
     pub(crate) keeps: bool,
@@ -42,14 +40,14 @@ pub(crate) struct Walk {
 /// The walk behind a first record, which is an opening of index 0.
 pub(crate) fn open_first(alloc: Global, first: &Record, keeps: bool) -> Result<Walk, VerifyFault>
     ensures stands { IfOk result (λ w.
-        Stands first.now.guest (first.now ∷ []) (state_of w.base) w.parts.items (state_of w.guest)) }
+        Stands first.now.guest (first.now ∷ []) (state_of w.pair.base) w.parts.items (state_of w.pair.guest)) }
     ensures row { IfOk result (λ w. w.parts.items ≡ []) }
     ensures frames { IfOk result (λ w. w.frames.items ≡ []) }
     ensures marks { IfOk result (λ w. w.marks.items ≡ []) }
     ensures total { IfOk result (λ w. w.total ≡ 0) }
     ensures last { IfOk result (λ w. w.last ≡ 0) }
     ensures keeps { IfOk result (λ w. w.keeps ≡ keeps) }
-    ensures ends { IfOk result (λ w. EndsIn (first.now.item ∷ []) (state_of w.guest)) }
+    ensures ends { IfOk result (λ w. EndsIn (first.now.item ∷ []) (state_of w.pair.guest)) }
     ensures opened { OnOk result (TakesMemory first.now) }
     ensures refused { IfErr result (λ e. RefusesFirst e first.now) }
 {
@@ -62,8 +60,7 @@ pub(crate) fn open_first(alloc: Global, first: &Record, keeps: bool) -> Result<W
     let guest = Guest::start(alloc, opening)?;
     let base = Guest::start(alloc, opening)?;
     Ok(Walk {
-        guest,
-        base,
+        pair: Pair::of(guest, base),
         parts: Vec::new(alloc),
         keeps,
         frames: Vec::new(alloc),
@@ -119,11 +116,11 @@ fn follow_frame(
     ensures grown { OnOk result (walk.new.total ≤ walk.old.total + 2 ^ 20) }
     ensures stays { OnErr result (walk.new.total ≡ walk.old.total) }
     ensures leads { OnOk result (Leads (items.Frame frame.now)
-        (state_of walk.old.base) walk.old.parts.items (state_of walk.old.guest)
-        (state_of walk.new.base) walk.new.parts.items (state_of walk.new.guest)) }
-    ensures refused { IfErr result (λ e. FrameRefused e index frame.now (state_of walk.old.guest)) }
+        (state_of walk.old.pair.base) walk.old.parts.items (state_of walk.old.pair.guest)
+        (state_of walk.new.pair.base) walk.new.parts.items (state_of walk.new.pair.guest)) }
+    ensures refused { IfErr result (λ e. FrameRefused e index frame.now (state_of walk.old.pair.guest)) }
 {
-    match follow(alloc, &mut walk.guest, frame) {
+    match walk.pair.follow(alloc, frame) {
         Ok(()) => {}
         Err(FollowFault::GoesNowhere) => return Err(VerifyFault::Mismatch { index }),
         Err(FollowFault::Memory) => return Err(VerifyFault::Memory),
@@ -139,9 +136,10 @@ fn follow_frame(
 
 /// Tests the complete checkpoint that its parts are, and makes the base of it.
 fn complete(alloc: Global, walk: &mut Walk, index: usize) -> Result<(), VerifyFault>
-    ensures base { OnOk result (Describes (state_of walk.old.base) walk.old.parts.items (state_of walk.old.guest)) }
-    ensures new_base { OnOk result (state_of walk.new.base ≡ state_of walk.old.guest) }
-    ensures guest { OnOk result (state_of walk.new.guest ≡ state_of walk.old.guest) }
+    ensures base { OnOk result
+        (Describes (state_of walk.old.pair.base) walk.old.parts.items (state_of walk.old.pair.guest)) }
+    ensures new_base { OnOk result (state_of walk.new.pair.base ≡ state_of walk.old.pair.guest) }
+    ensures guest { OnOk result (state_of walk.new.pair.guest ≡ state_of walk.old.pair.guest) }
     ensures row { OnOk result (walk.new.parts.items ≡ []) }
     ensures frames { walk.new.frames.items ≡ walk.old.frames.items }
     ensures total { walk.new.total ≡ walk.old.total }
@@ -153,17 +151,9 @@ fn complete(alloc: Global, walk: &mut Walk, index: usize) -> Result<(), VerifyFa
       parts = walk.old.parts.items;
     }) ∷ []) }
     ensures refused { IfErr result (λ e.
-        CheckpointRefused e index (state_of walk.old.base) walk.old.parts.items (state_of walk.old.guest)) }
+        CheckpointRefused e index (state_of walk.old.pair.base) walk.old.parts.items (state_of walk.old.pair.guest)) }
 {
-    match put_parts(alloc, &mut walk.base, walk.parts.as_slice()) {
-        Ok(()) => {}
-        Err(ApplyFault::Memory) => return Err(VerifyFault::Memory),
-        Err(ApplyFault::BadPart) => return Err(VerifyFault::BadCheckpoint { index }),
-        Err(ApplyFault::TooManyPages) => return Err(VerifyFault::BadCheckpoint { index }),
-    }
-    if !walk.base.same(&walk.guest) {
-        return Err(VerifyFault::BadCheckpoint { index });
-    }
+    walk.pair.pass(alloc, walk.parts.as_slice(), index)?;
     let parts = replace(&mut walk.parts, Vec::new(alloc));
     if walk.keeps {
         walk.marks.push(Mark {
@@ -190,10 +180,10 @@ fn follow_part(alloc: Global, walk: &mut Walk, index: usize, part: &Part) -> Res
     ensures counted { walk.new.total ≡ walk.old.total }
     ensures last { walk.new.last ≡ walk.old.last }
     ensures leads { OnOk result (Leads (items.Part part.now)
-        (state_of walk.old.base) walk.old.parts.items (state_of walk.old.guest)
-        (state_of walk.new.base) walk.new.parts.items (state_of walk.new.guest)) }
+        (state_of walk.old.pair.base) walk.old.parts.items (state_of walk.old.pair.guest)
+        (state_of walk.new.pair.base) walk.new.parts.items (state_of walk.new.pair.guest)) }
     ensures refused { IfErr result (λ e.
-        PartRefused e index part.now (state_of walk.old.base) walk.old.parts.items (state_of walk.old.guest)) }
+        PartRefused e index part.now (state_of walk.old.pair.base) walk.old.parts.items (state_of walk.old.pair.guest)) }
 {
     let copy = copied_part(part)?;
     walk.parts.push(copy)?;
@@ -222,10 +212,10 @@ pub(crate) fn follow_record(
     ensures row { OnOk result (RowIs entry.now.item walk.old.parts.items walk.new.parts.items) }
     ensures grown { OnOk result (walk.new.total ≤ walk.old.total + 2 ^ 20) }
     ensures leads { OnOk result (LeadsOn number index entry.now
-        (state_of walk.old.base) walk.old.parts.items (state_of walk.old.guest)
-        (state_of walk.new.base) walk.new.parts.items (state_of walk.new.guest)) }
+        (state_of walk.old.pair.base) walk.old.parts.items (state_of walk.old.pair.guest)
+        (state_of walk.new.pair.base) walk.new.parts.items (state_of walk.new.pair.guest)) }
     ensures refused { IfErr result (λ e. RefusesNext e number index entry.now
-        (state_of walk.old.base) walk.old.parts.items (state_of walk.old.guest)) }
+        (state_of walk.old.pair.base) walk.old.parts.items (state_of walk.old.pair.guest)) }
     ensures memory { IsErrOf result VerifyFault.Memory → (entry.now.guest ≡ number) × (entry.now.index ≡ index) }
 {
     if entry.guest != number || entry.index as usize != index {

@@ -38,8 +38,8 @@ loop-index-preserved g c =
       read = inv.read ++ next.entry ∷ [];
       followed = followed_next c.args.first.now inv.read next.entry old new some inv.followed next.keeps next.row next.goes_on next.counted
           next.last
-          (subst (λ n. LeadsOn c.args.first.now.guest n next.entry (state_of old.base) old.parts.items (state_of old.guest)
-          (state_of new.base) new.parts.items (state_of new.guest)) (sym inv.count) next.leads);
+          (subst (λ n. LeadsOn c.args.first.now.guest n next.entry (state_of old.pair.base) old.parts.items (state_of old.pair.guest)
+          (state_of new.pair.base) new.parts.items (state_of new.pair.guest)) (sym inv.count) next.leads);
       count = omega (arith, inv.count, length-append inv.read (next.entry ∷ []));
       few = omega (arith, c.loop-index-test.true);
       keeping = next.goes_on ∙ inv.keeping;
@@ -65,10 +65,10 @@ returns-in_err-follow_given-clause-refused g c = λ h there.
     rw (p.1, p.2)
     (given_refused c.in_err-follow_given.field-0.0 c.args.first.now.guest (g.S.Source.records c.args.source.now) c.loop-index.index
     c.args.first.now inv.read
-    (state_of c.loop-index.walk.base) c.loop-index.walk.parts.items (state_of c.loop-index.walk.guest)
+    (state_of c.loop-index.walk.pair.base) c.loop-index.walk.parts.items (state_of c.loop-index.walk.pair.guest)
     (omega (arith, c.loop-index-test.true, c.len-len.ensures)) there c.in_ok-walk.ensures.opened (inv.is h there) inv.followed.stands
     (subst (λ (l : List Record). RefusesGiven c.in_err-follow_given.field-0.0 c.args.first.now.guest c.loop-index.index l
-    (state_of c.loop-index.walk.base) c.loop-index.walk.parts.items (state_of c.loop-index.walk.guest))
+    (state_of c.loop-index.walk.pair.base) c.loop-index.walk.parts.items (state_of c.loop-index.walk.pair.guest))
     inv.records (c.in_err-follow_given.ensures.refused (inv.honest.1 h))))
 
 pub returns-clause-follows : goal.returns-clause-follows

@@ -41,7 +41,7 @@ returns-in_err-follow_record-clause-refused c =
     rw (p.1, p.2)
     (refused_at c.in_err-follow_record.field-0.0 c.in-Some.first.now.guest c.args.records.now c.loop-index.index
     c.index-records-index.result
-    (state_of c.loop-index.walk.base) c.loop-index.walk.parts.items (state_of c.loop-index.walk.guest) (search rules)
+    (state_of c.loop-index.walk.pair.base) c.loop-index.walk.parts.items (state_of c.loop-index.walk.pair.guest) (search rules)
     c.index-records-index.is
     c.loop-index.invariant.followed.stands
     (search (rules, first_there TakesMemory)) c.in_err-follow_record.ensures.refused)

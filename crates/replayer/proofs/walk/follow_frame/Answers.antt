@@ -21,9 +21,9 @@ returns-clause-keeps c = λ on. elim c.if-walk.branch [
 pub returns-in_err-copied_frame-clause-refused : goal.returns-in_err-copied_frame-clause-refused
 returns-in_err-copied_frame-clause-refused c =
     let p = err_from_is_err_and c.from_residual.result c.from_residual.ensures.1 in
-    rw (p.1, p.2, c.in_err-copied_frame.ensures.memory) (inl (state_of c.follow.new.guest, c.in-Ok.ensures.follows))
+    rw (p.1, p.2, c.in_err-copied_frame.ensures.memory) (inl (state_of c.follow.new.self.guest, c.in-Ok.ensures.follows))
 
 pub returns-in_err-push-clause-refused : goal.returns-in_err-push-clause-refused
 returns-in_err-push-clause-refused c =
     let p = err_from_is_err_and c.from_residual-in_err-push.result c.from_residual-in_err-push.ensures.1 in
-    rw (p.1, p.2) (inl (state_of c.follow.new.guest, c.in-Ok.ensures.follows))
+    rw (p.1, p.2) (inl (state_of c.follow.new.self.guest, c.in-Ok.ensures.follows))
