@@ -1,4 +1,4 @@
-//! Tests whether two checkpoints have the same parts.
+//! The parts of two checkpoints, compared field by field.
 
 ghost use Rattle.std.specs.Prelude.{◌≡◌, ◌↔◌, IsTrue};
 

@@ -10,7 +10,8 @@
 //!   `BadCheckpoint` at the first record that doesn't follow from those before it, `BadCheckpoint` exactly if that is the last
 //!   part of a checkpoint. `Memory` comes only if the first record is an opening that takes memory: its name is one, none of
 //!   the first twelve refusals of a file applies, and the file is within its limit. A checkpoint is never trusted: its parts
-//!   are put onto the state of its base, and the outcome is compared, or they are those that `make` makes of the guest there.
+//!   are put onto the state of its base, and the outcome is compared with the guest, unless they equal those that `make` makes
+//!   of the guest.
 //! - A `Verified` is known by its value: the opening, the frames, the places of the complete checkpoints, and the number of
 //!   records of some recording (`VerifiedValue`, `Keeps`); its fields are in no contract, and none asks where it comes from.
 //!   `len` and `total` are the numbers of records and of instructions. A place is in the list exactly if the last part of a
@@ -34,8 +35,8 @@
 //! - `Source::ahead` reads a record before it is asked for: one that isn't given so is not withheld. `verify_source` doesn't call it;
 //!   `spans` reads with it ahead of the records that are followed.
 //! - `verify_source_end` verifies in the same way, with the same refusals, and returns how many records and instructions there
-//!   are, and the guest in the state that the records end in. That it holds the opening, one record more and the parts of one
-//!   checkpoint at a time, and the guest's own beside them, is seen in the code alone.
+//!   are, and the guest in the state that the records end in. That it holds the opening, one record more and, twice, the
+//!   parts of one checkpoint at a time is seen in the code alone.
 //! - `Following` follows records one at a time: those that it followed are a recording (`IsBehind`), which ends in its guest's
 //!   state and has as many instructions as its total. A record that is refused is refused as `verify` refuses the list up to
 //!   it. `VerifiedEnd::last` is the thread that ran last.

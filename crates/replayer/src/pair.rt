@@ -1,4 +1,4 @@
-//! A guest that follows records, beside one in the state of its last complete checkpoint.
+//! A guest that follows records, and what its next checkpoint is tested against.
 
 ghost use Rattle.std.specs.Prelude.{◌≡◌, ◌↔◌, IfErr, IfSome, IsErrOf, IsSome, IsTrue, None, OnOk, Some};
 ghost use Rattle.rrv_model.specs.Checkpoint.{Describes};
@@ -23,8 +23,8 @@ use std::marker::Model;
 pub(crate) struct Pair {
     guest: Guest,
     base: Guest,
-    /// The base's memory, which the guest keeps too: what of its own isn't as there was written since. None if there was no
-    /// memory for that.
+    /// A snapshot of the guest's memory when that was the base's: by it `make` finds what was written since. None if a growth
+    /// was refused.
     kept: Option<Snapshot>,
 }
 
@@ -50,7 +50,7 @@ impl Drop for Pair {
     }
 }
 
-/// Keeps a guest's memory, if there is memory for that.
+/// Takes a snapshot; None if a growth is refused.
 fn keep(guest: &mut Guest) -> Option<Snapshot>
     ensures kept { IfSome result (λ token. guest_snapshots guest.new token ≡ Some (state_of guest.old).memory) }
     ensures state { state_of guest.new ≡ state_of guest.old }
@@ -61,7 +61,7 @@ fn keep(guest: &mut Guest) -> Option<Snapshot>
     }
 }
 
-/// Lets the memory go that a guest keeps, if it keeps one.
+/// Drops a snapshot, if there is one.
 fn release(guest: &mut Guest, kept: Option<Snapshot>)
     requires { IfSome kept (λ token. IsSome (guest_snapshots guest.old token)) }
     ensures { state_of guest.new ≡ state_of guest.old }
@@ -71,7 +71,7 @@ fn release(guest: &mut Guest, kept: Option<Snapshot>)
     }
 }
 
-/// Tests whether a guest has neither ended nor a reservation.
+/// Tests whether a guest has neither ended nor a reservation: `make` promises nothing of another one.
 fn is_at_rest(guest: &Guest) -> bool
     ensures { IsTrue result → ((state_of guest.now).ended ≡ None) × ((state_of guest.now).reservation ≡ None) }
 {
@@ -148,14 +148,15 @@ impl Pair {
         match follow(alloc, &mut self.guest, frame) {
             Ok(()) => Ok(()),
             Err(fault) => {
+                // After a refusal nothing is known of the guest, and so nothing of what it keeps.
                 self.kept = None;
                 Err(fault)
             }
         }
     }
 
-    /// Tests whether parts are just those that are made of the guest against the memory that it keeps. It is false if it keeps
-    /// none, or there is no memory for them.
+    /// Tests whether parts are just those that `make` makes of the guest against its snapshot. It is false also if it has none,
+    /// if it isn't at rest, or if a growth is refused.
     fn are_made(&self, alloc: Global, parts: &[Part]) -> bool
         ensures { IsTrue result → Describes (state_of self.now.base) parts.now (state_of self.now.guest) }
     {
@@ -165,7 +166,7 @@ impl Pair {
         if !is_at_rest(&self.guest) {
             return false;
         }
-        // Its clauses say that the base's state is one.
+        // Its clauses say that the base's state keeps the rules of a state, which `make` asks for.
         let _ = self.base.threads();
         let Ok(made) = make(alloc, &self.guest, kept) else {
             return false;
@@ -174,8 +175,8 @@ impl Pair {
     }
 
     /// Puts the parts of a checkpoint, of which the last is the record of this index, onto the base, and tests whether that is the
-    /// guest's state. If they are those that are made of it, what wasn't written since is not compared. After a refusal it
-    /// is fit only to be dropped.
+    /// guest's state. If they are just those that `make` makes of the guest, no page is compared. After a refusal it is fit
+    /// only to be dropped.
     pub(crate) fn pass(
         &mut self,
         alloc: Global,
@@ -190,6 +191,7 @@ impl Pair {
             CheckpointRefused e index (state_of self.old.base) parts.now (state_of self.old.guest)) }
     {
         let is_known = self.are_made(alloc, parts);
+        // The base changes now, so that the guest keeps nothing of it until the end.
         let kept = self.kept.take();
         put(alloc, &mut self.base, parts, index)?;
         if !are_same(is_known, &self.base, &self.guest) {

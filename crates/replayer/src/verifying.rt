@@ -114,7 +114,8 @@ pub fn verify_source_watched<S: Source, W: Watch>(
 }
 
 /// Verifies the records that a source gives as [`verify_source`] does, and keeps nothing of them but where they end. It
-/// holds the opening, one record more and the parts of one checkpoint at a time, and tells after each record how far it is.
+/// holds the opening, one record more and the parts of one checkpoint at a time, twice, and tells after each record how far it
+/// is.
 pub fn verify_source_end<S: Source, W: Watch>(
     alloc: Global,
     source: &mut S,

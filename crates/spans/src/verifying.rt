@@ -17,8 +17,9 @@ use std::thread::Threads;
 
 /// Verifies the records that a source gives as [`replayer::verify_source`] does, in spans side by side, by so many workers at
 /// most, each in a thread of its own where one can be made. The refusals are those of the list, and `Unreadable` names the
-/// record that the source withheld. It holds what is kept, and a guest, the state of its last checkpoint and a share of the
-/// records that are read at a time for each worker. When these are verified, it tells of each how far it is.
+/// record that the source withheld. It holds what is kept, and for each worker a guest, the state of its last checkpoint, the
+/// pages that it wrote to since, as they were then, and a share of the records that are read at a time. When these are
+/// verified, it tells of each how far it is.
 pub fn verify_source<S: Source, W: Watch, R: Threads + Sync>(
     rt: &R,
     alloc: Global,
