@@ -1,7 +1,7 @@
 #!/usr/bin/env python3
 """Makes guests that a compiler makes: one thread that sieves and sorts, and several threads. It writes each into this folder, with
 what it prints and with its records as `rrv dump` and `rrv verify` have to print them: those are worked out here, by a restatement of the
-guest's rules that shares nothing with rrv. It covers what these guests do: no faults.
+guest's rules that shares nothing with rrv. It covers what these guests do: no faults. `timed.py` has guests of version 2.
 
 Needs riscv64-unknown-elf-gcc and qemu-riscv32. Run in this folder.
 """
@@ -75,14 +75,14 @@ def amo(funct5, old, b):
 
 class Thread:
     def __init__(self, pc, x, clear=0):
-        self.pc, self.x, self.clear, self.waits = pc, x, clear, None
+        self.pc, self.x, self.clear, self.waits, self.timeout = pc, x, clear, None, None
 
 
 class Guest:
     """A guest that commits no fault; where it would, Python stops."""
 
-    def __init__(self, elf, name):
-        self.pages, self.output, self.waiting = {}, b"", []
+    def __init__(self, elf, name, version=1):
+        self.version, self.pages, self.output, self.waiting = version, {}, b"", []
         self.reservation, self.ended, self.next_tid = None, None, 2
         entry, phoff = struct.unpack_from("<II", elf, 24)
         for at in range(phoff, phoff + 32 * struct.unpack_from("<H", elf, 44)[0], 32):
@@ -158,12 +158,44 @@ class Guest:
         t.pc = following & MASK
         return word == 0x73
 
+    def is_there(self, address, count):
+        return all(place >> 12 in self.pages for place in range(address, address + count))
+
+    def resume(self, tid):
+        self.threads[tid].waits = self.threads[tid].timeout = None
+        self.waiting.remove(tid)
+
     def wake(self, address, count):
         woken = [tid for tid in self.waiting if self.threads[tid].waits == address][:count]
         for tid in woken:
-            self.threads[tid].waits = None
-            self.waiting.remove(tid)
+            self.resume(tid)
         return len(woken)
+
+    def expire(self, tid):
+        """The time of a wait is over; answers the line of the frame."""
+        assert self.threads[tid].timeout
+        self.resume(tid)
+        self.threads[tid].x[10], self.reservation = -110 & MASK, None
+        return f"expire tid={tid} result={-110 & MASK:08x}"
+
+    def wait(self, tid, address, expected, at):
+        """A wait at a word, with a timeout at an address, 0 for none."""
+        timeout = None
+        if at and self.version == 1:
+            return -38 & MASK
+        if at:
+            if not self.is_there(at, 16):
+                return -14 & MASK
+            timeout = struct.unpack("<QQ", self.get(at, 16))
+            if timeout[0] >= 1 << 63 or timeout[1] >= 10**9:
+                return -22 & MASK
+        if not self.is_there(address, 4):
+            return -14 & MASK
+        if self.word(address) != expected:
+            return -11 & MASK
+        self.threads[tid].waits, self.threads[tid].timeout = address, timeout
+        self.waiting.append(tid)
+        return 0
 
     def call(self, tid):
         """A call; answers its result and how many bytes it wrote."""
@@ -193,6 +225,9 @@ class Guest:
             result = 0
         elif number == 220:
             assert a[0] & BASIC == BASIC and not a[0] & ~ALLOWED
+            if len(self.threads) == (16 if self.version == 1 else 64):
+                t.x[10] = -11 & MASK
+                return t.x[10], 0
             result, self.next_tid = self.next_tid, self.next_tid + 1
             for flag, address in [(0x100000, a[2]), (0x1000000, a[4])]:
                 if a[0] & flag:
@@ -210,11 +245,7 @@ class Guest:
                 self.pages[page] = bytearray(4096)
             result = first << 12
         elif number in (98, 422) and a[1] & ~128 == 0:
-            if self.word(a[0]) != a[2]:
-                result = -11 & MASK
-            else:
-                t.waits, result = a[0], 0
-                self.waiting.append(tid)
+            result = self.wait(tid, a[0], a[2], a[3])
         else:
             assert number in (98, 422) and a[1] & ~128 == 1, number
             result = self.wake(a[0], a[2])

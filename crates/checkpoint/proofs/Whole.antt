@@ -193,6 +193,7 @@ described before s parts pages rest h old base =
         tids_rising = h.told.text.rising;
         is_state = h.is_state.rules;
         state_is = λ i. record {
+          version = sym base.version i;
           memory = (sym patched_kept ∙ ap (patched (all_pages all)) base.memory) i;
           threads = sym h.told.threads i;
           waiting = sym h.told.waiting i;

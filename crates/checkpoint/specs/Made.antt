@@ -31,6 +31,7 @@ kept_memory g token = memory_or_none (guest_snapshots g token)
 pub record IsBaseOf (kept : Memory) (old s : State) : Type 0 where
   pub is_state : IsState old
   pub memory : kept ≡ old.memory
+  pub version : old.version ≡ s.version
   pub opening_break : old.opening_break ≡ s.opening_break
   pub reservation : s.reservation ≡ None
   pub ended : s.ended ≡ None

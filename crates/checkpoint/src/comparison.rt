@@ -96,6 +96,6 @@ fn is_same_thread(found: &ThreadPart, told: &ThreadPart) -> bool
     found.tid == told.tid
         && found.thread.regs.pc == told.thread.regs.pc
         && found.thread.regs.registers.as_slice() == told.thread.regs.registers.as_slice()
-        && found.thread.waits_at == told.thread.waits_at
+        && found.thread.wait == told.thread.wait
         && found.thread.clear == told.thread.clear
 }

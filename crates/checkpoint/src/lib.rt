@@ -9,7 +9,7 @@
 //!   guest may have; `Memory` only if they describe a state, that limit aside. After `BadPart` the guest is as before. Its
 //!   snapshots and its count of steps stay.
 //! - `make`: parts that have a text, and that describe the guest's state against each state that has the memory of the snapshot
-//!   and the guest's opening break, if the guest has not ended and holds no reservation. They name exactly the pages that
+//!   and the guest's version and opening break, if the guest has not ended and holds no reservation. They name exactly the pages that
 //!   differ from the snapshot's in bytes, in permissions or in being mapped. A page that is mapped has the line mask of its
 //!   bytes against the snapshot's, or against zeros if that has no such page; another one is named as not mapped, with the mask
 //!   0.

@@ -175,8 +175,8 @@ fn changed_pages(guest: &Guest, base: &Snapshot) -> Result<Vec<u32>, Memory>
 }
 
 /// The parts of a checkpoint of a guest, against a state whose memory a live snapshot keeps. Put onto that state they give
-/// the guest's, where both have one opening break, and the guest has neither ended nor a reservation. They name exactly
-/// the pages that differ from that state's, each with the lines that do. Refused where a growth is.
+/// the guest's, where both have one version and one opening break, and the guest has neither ended nor a reservation. They
+/// name exactly the pages that differ from that state's, each with the lines that do. Refused where a growth is.
 pub fn make(alloc: Global, guest: &Guest, base: &Snapshot) -> Result<Vec<Part>, Memory>
     requires { IsSome (guest_snapshots guest.now base.now) }
     ensures texts { IfOk result (λ parts. AllByRecursion HasPartText parts.items) }

@@ -18,9 +18,9 @@ use Rattle.rrv_model.specs.declared.record.Part.{Part}
 use Rattle.rrv_model.specs.State.{State, thread_at, IsRunning, IsState}
 use Rattle.rrv_model.specs.FrameStep.{FrameStep, FrameStepBy, Preempts, Steps}
 use Rattle.rrv_model.specs.Opening.{opening_state}
-use Rattle.rrv_model.specs.Ends.{call_in, has_thread, is_preempt}
+use Rattle.rrv_model.specs.Ends.{call_in, runs_thread, is_preempt, is_expiry}
 use Rattle.rrv_model.specs.Recording.{ItemsFollow, Starts, base_after, frames_of, items_of, row_after}
-use Rattle.rrv_model.proofs.Ends.{call_is, no_thread, one_threadless, preempt_is}
+use Rattle.rrv_model.proofs.Ends.{call_is, no_thread, preempt_is, stuck_is}
 use Rattle.rrv_model.proofs.FrameLaws.{one_state_after_frame}
 use Rattle.rrv_model.proofs.OpeningState.{openings_are_states}
 use Rattle.rrv_model.proofs.StateLaws.{frames_keep_states}
@@ -52,12 +52,12 @@ tells_if true true tid count some told = (
 )
 
 -- a frame whose thread ran, and that was not cut short, tells its choice
-pub tells : (end : End) (tid count : ℕ) → has_thread end ≡ true → (end ≡ ends.Preempt → MIN_QUANTUM ≤ count) → (choice : Choice) ×
+pub tells : (end : End) (tid count : ℕ) → runs_thread end ≡ true → (end ≡ ends.Preempt → MIN_QUANTUM ≤ count) → (choice : Choice) ×
     (choice_by_end end tid count ≡ Some choice)
-tells end tid count some told = tells_if (has_thread end) (is_preempt end) tid count some (λ p. told (preempt_is end p))
+tells end tid count some told = tells_if (runs_thread end) (is_preempt end) tid count some (λ p. told (preempt_is end p))
 
 -- it can be chosen
-pub can_choose : (s : State) (f : Frame) (m : State) (tids : List ℕ) (choice : Choice) → has_thread f.end ≡ true → FrameStep s f m →
+pub can_choose : (s : State) (f : Frame) (m : State) (tids : List ℕ) (choice : Choice) → runs_thread f.end ≡ true → FrameStep s f m →
     FrameIsOfGuest f → AreRunning s tids → choice_of f ≡ Some choice →
     CanChoose tids choice
 can_choose s f m tids choice runs step of are is =
@@ -97,12 +97,12 @@ uncut_or_short end s g choice fits = by (is_preempt end) refl where
   by : (b : Bool) → is_preempt end ≡ b → IsUncut end g.count choice ⊎ IsShort end s g choice
   by true e =
       let is : end ≡ ends.Preempt = preempt_is end e in
-      let fit : (g.tid ≡ choice.tid) × IsWhole s g.tid g.count choice.quantum = subst (λ (x : End). FitsChoice x s g choice) is fits in
+      let fit : (g.tid ≡ choice.tid) × IsWhole s g.tid g.count choice.quantum = (subst (λ (x : End). FitsChoice x s g choice) is fits).1 in
       whole is fit.0 fit.1
   by false e = inl (λ is. absurd (false≢true (sym e ∙ ap is_preempt is)))
 
 -- a slice that was cut short is shorter than the frame of the choice
-shorter : (s : State) (f : Frame) (m : State) (g : Frame) (m' : State) (choice : Choice) → has_thread f.end ≡ true → FrameStep s f m →
+shorter : (s : State) (f : Frame) (m : State) (g : Frame) (m' : State) (choice : Choice) → runs_thread f.end ≡ true → FrameStep s f m →
     FrameStep s g m' → choice_of f ≡ Some choice → g.tid ≡ f.tid →
     g.end ≡ ends.Preempt → g.count < choice.quantum → g.count < f.count
 shorter s f m g m' choice runs step step' is same preempt short = by (cases_lt g.count f.count) where
@@ -128,7 +128,7 @@ shorter s f m g m' choice runs step step' is same preempt short = by (cases_lt g
       let preempted = limit_is_preempt f.end (limit (cases_lt f.count g.count) high) in
       let whole = (chosen f.end f.tid f.count choice is).2 preempted in absurd (omega arith)
 
-own_slice : (s : State) (f : Frame) (m : State) (g : Frame) (m' : State) (choice : Choice) → has_thread f.end ≡ true → FrameStep s f m →
+own_slice : (s : State) (f : Frame) (m : State) (g : Frame) (m' : State) (choice : Choice) → runs_thread f.end ≡ true → FrameStep s f m →
     FrameStep s g m' → choice_of f ≡ Some choice →
     FitsChoice g.end s g choice → IsSameSlice f g ⊎ IsCutShortOf s f g
 own_slice s f m g m' choice runs step step' is fits = by (uncut_or_short g.end s g choice fits) where
@@ -140,20 +140,20 @@ own_slice s f m g m' choice runs step step' is fits = by (uncut_or_short g.end s
 
 -- ---- where no thread runs
 
-rests : (end : End) (s : State) (tid count : ℕ) (s' : State) → ((t : ℕ) → IsRunning (thread_at s t) → ⊥) →
-    FrameStepBy end s tid count s' → (has_thread end ≡ false) × (tid ≡ 0) × (count ≡ 0)
-rests end s tid count s' none p =
+rests : (end : End) (s : State) (tid count : ℕ) (s' : State) → is_expiry end ≡ false → ((t : ℕ) → IsRunning (thread_at s t) → ⊥) →
+    FrameStepBy end s tid count s' → (runs_thread end ≡ false) × (tid ≡ 0) × (count ≡ 0)
+rests end s tid count s' still none p =
     let has = has_none end s tid count s' none p in
-    let own = no_thread end s tid count s' has p in (has, own.no_tid, own.no_step)
+    let own = no_thread end s tid count s' has still p in (has, own.no_tid, own.no_step)
 
-both_rest : (s : State) (f : Frame) (m : State) (g : Frame) (m' : State) → ((t : ℕ) → IsRunning (thread_at s t) → ⊥) → FrameStep s f m →
-    FrameStep s g m' → IsSameSlice f g
-both_rest s f m g m' none step step' =
-    let a = rests f.end s f.tid f.count m none step.goes in
-    let b = rests g.end s g.tid g.count m' none step'.goes in
+both_rest : (s : State) (f : Frame) (m : State) (g : Frame) (m' : State) → is_expiry f.end ≡ false → is_expiry g.end ≡ false →
+    ((t : ℕ) → IsRunning (thread_at s t) → ⊥) → FrameStep s f m → FrameStep s g m' → IsSameSlice f g
+both_rest s f m g m' still still' none step step' =
+    let a = rests f.end s f.tid f.count m still none step.goes in
+    let b = rests g.end s g.tid g.count m' still' none step'.goes in
     let tids : g.tid ≡ f.tid = b.1 ∙ sym a.1 in
     let counts : g.count ≡ f.count = b.2 ∙ sym a.2 in
-    let same : g.end ≡ f.end = one_threadless g.end f.end b.0 a.0 in
+    let same : g.end ≡ f.end = stuck_is g.end b.0 still' ∙ sym (stuck_is f.end a.0 still) in
     record {
       tid = tids;
       count = counts;
@@ -166,10 +166,10 @@ none_follow : (s : State) (o : GuestEnd) (frames : List Frame) → s.ended ≡ S
 none_follow s o [] ended follow = refl
 none_follow s o (f ∷ frames) ended (new, step, follow) = let runs = step.runs in absurd cc
 
-pub none_behind : (s : State) (f : Frame) (m : State) (frames : List Frame) → has_thread f.end ≡ false → FrameStep s f m →
-    FramesFollow m frames → frames ≡ []
-none_behind s f m frames none step follow =
-    let p = no_thread f.end s f.tid f.count m none step.goes in
+pub none_behind : (s : State) (f : Frame) (m : State) (frames : List Frame) → runs_thread f.end ≡ false → is_expiry f.end ≡ false →
+    FrameStep s f m → FramesFollow m frames → frames ≡ []
+none_behind s f m frames none still step follow =
+    let p = no_thread f.end s f.tid f.count m none still step.goes in
     none_follow m p.ends_so frames (ap (λ (x : State). x.ended) p.new_is) follow
 
 -- ---- one frame
@@ -185,12 +185,13 @@ next_alike : (tids : List ℕ) (s : State) (f : Frame) (m : State) (g : Frame) (
     (rest : List Choice) → FrameStep s f m → FrameStep s g m' →
     FrameIsOfGuest f → IsTold f → p.misfit ≡ None → p.left ≡ cons_option (choice_of f) rest → AreRunning s tids →
     PicksAmong by_schedule tids p (Some picked) next → FitsChoice g.end s g picked →
-    (IsSameSlice f g ⊎ IsCutShortOf s f g) × ((has_thread f.end ≡ false) ⊎ GoesOn next rest)
+    (IsSameSlice f g ⊎ IsCutShortOf s f g) × ((runs_thread f.end ≡ false) ⊎ GoesOn next rest)
 next_alike [] s f m g m' p picked next rest step step' of told unrefused is are picks fits =
-    let none = none_runs s are in (inl (both_rest s f m g m' none step step'), inl (rests f.end s f.tid f.count m none step.goes).0)
+    let none = none_runs s are in
+    (inl (both_rest s f m g m' told.still fits.0 none step step'), inl (rests f.end s f.tid f.count m told.still none step.goes).0)
 next_alike (t ∷ tids) s f m g m' p picked next rest step step' of told unrefused is are picks fits =
-    let runs = has_one f.end s f.tid f.count m t (first_runs s t tids are) step.goes in
-    let c = tells f.end f.tid f.count runs told in
+    let runs = has_one f.end s f.tid f.count m t told.still (first_runs s t tids are) step.goes in
+    let c = tells f.end f.tid f.count runs told.long in
     let left : p.left ≡ c.0 ∷ rest = is ∙ ap (λ (o : Option Choice). cons_option o rest) c.1 in
     let taken : TakesListed (t ∷ tids) p picked next =
     takes_listed (t ∷ tids) p picked next c.0 rest unrefused left (can_choose s f m (t ∷ tids) c.0 runs step of are c.1) picks in
@@ -225,9 +226,11 @@ alike (f ∷ frames) (g ∷ others) s p s' p' (m, step, follow) of told unrefuse
           (one_state_after_frame s f m' new (subst (λ (h : Frame). FrameStep s h m') same made.step) step') more)),
     )
   where
-    behind : (new : State) → (has_thread f.end ≡ false) ⊎ GoesOn next (filter_map choice_of frames) →
+    behind : (new : State) → (runs_thread f.end ≡ false) ⊎ GoesOn next (filter_map choice_of frames) →
         (GoesOn next (filter_map choice_of frames) → RunsAlike new frames others) → RunsAlike new frames others
-    behind new (inl none) on = subst (λ (fs : List Frame). RunsAlike new fs others) (sym (none_behind s f m frames none step follow)) tt
+    behind new (inl none) on =
+        subst (λ (fs : List Frame). RunsAlike new fs others)
+        (sym (none_behind s f m frames none (told 0 f (omega arith)).still step follow)) tt
     behind new (inr go) on = on go
 
 -- ---- a run
@@ -285,8 +288,8 @@ never_none : (tids : List ℕ) (s : State) (f : Frame) (m : State) (p next : Pla
     p.left ≡ cons_option (choice_of f) rest → AreRunning s tids → PicksAmong by_schedule tids p None next → ⊥
 never_none [] s f m p next rest step of told unrefused is are picks = let some = picks.0 in absurd cc
 never_none (t ∷ tids) s f m p next rest step of told unrefused is are picks =
-    let runs = has_one f.end s f.tid f.count m t (first_runs s t tids are) step.goes in
-    let c = tells f.end f.tid f.count runs told in
+    let runs = has_one f.end s f.tid f.count m t told.still (first_runs s t tids are) step.goes in
+    let c = tells f.end f.tid f.count runs told.long in
     not_over (t ∷ tids) p.misfit p.left c.0 rest unrefused (is ∙ ap (λ (o : Option Choice). cons_option o rest) c.1)
     (can_choose s f m (t ∷ tids) c.0 runs step of are c.1) picks.over
 
@@ -318,9 +321,10 @@ stands_before (f ∷ frames) h rest s p s' p' (m, step, follow) of told unrefuse
     some_left [] e = absurd cc
     some_left (g ∷ fs) e = absurd cc
 
-    behind : (has_thread f.end ≡ false) ⊎ GoesOn next (filter_map choice_of (frames ++ h ∷ rest)) →
+    behind : (runs_thread f.end ≡ false) ⊎ GoesOn next (filter_map choice_of (frames ++ h ∷ rest)) →
         (GoesOn next (filter_map choice_of (frames ++ h ∷ rest)) → StandsBefore s' p') → StandsBefore s' p'
-    behind (inl none) on = absurd (some_left frames (none_behind s f m (frames ++ h ∷ rest) none step follow))
+    behind (inl none) on =
+        absurd (some_left frames (none_behind s f m (frames ++ h ∷ rest) none (told 0 f (omega arith)).still step follow))
     behind (inr go) on = on go
 
 not_ended : (s : State) (p : Plan) → StandsBefore s p → HasEnded s p → ⊥
@@ -367,12 +371,13 @@ frames_follow base s parts (items.Part p ∷ rest) (fits, follow) =
     frames_follow (base_after p.rest base s) s (row_after p.rest (parts ++ p ∷ [])) rest follow
 
 start_follows : (its : List Item) (o : Opening) → Starts its → slice_get its 0 ≡ Some (items.Opening o) →
-    IsState (opening_state o.elf o.name o.random) × FramesFollow (opening_state o.elf o.name o.random) (frames_of its)
+    IsState (opening_state o.version o.elf o.name o.random) × FramesFollow (opening_state o.version o.elf o.name o.random) (frames_of its)
 start_follows [] o starts first = absurd starts
 start_follows (items.Opening x ∷ rest) o (s, opens, follow) first =
     let same : x ≡ o = cc in
-    let is : s ≡ opening_state o.elf o.name o.random = opens.state_is ∙ ap (λ (y : Opening). opening_state y.elf y.name y.random) same in (
-      subst (λ (t : State). IsState t) is (openings_are_states x.elf x.name x.random s opens),
+    let is : s ≡ opening_state o.version o.elf o.name o.random =
+    opens.state_is ∙ ap (λ (y : Opening). opening_state y.version y.elf y.name y.random) same in (
+      subst (λ (t : State). IsState t) is (openings_are_states x s opens),
       subst (λ (t : State). FramesFollow t (frames_of rest)) is (frames_follow s s [] rest follow),
     )
 start_follows (items.Frame f ∷ rest) o starts first = absurd starts

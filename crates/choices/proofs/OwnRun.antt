@@ -6,13 +6,15 @@ use Rattle.std.specs.List.Sorted.{IsStrictlyIncreasing}
 use Rattle.std.proofs.lemmas.Bool.{false≢true}
 use Rattle.std.proofs.lemmas.List.FromFn.{get_or-range_with_len, length-range_with_len}
 use Rattle.std.proofs.lemmas.List.Kept.{IsStrictlyIncreasing-filter}
+use Rattle.rrv_model.specs.declared.machine.FutexWait.{FutexWait}
 use Rattle.rrv_model.specs.declared.machine.Thread.{Thread}
 use Rattle.rrv_model.specs.declared.record.Choice.{Choice}
 use Rattle.rrv_model.specs.declared.record.End.{End}
 use Rattle.rrv_model.specs.declared.record.Frame.{Frame}
 use Rattle.rrv_model.specs.State.{State, thread_at, IsRunning, IsState}
 use Rattle.rrv_model.specs.FrameStep.{FrameStep}
-use Rattle.rrv_model.specs.Ends.{has_thread, is_preempt}
+use Rattle.rrv_model.specs.Ends.{runs_thread, is_preempt, is_expiry}
+use Rattle.rrv_model.proofs.Ends.{ran_still}
 use Rattle.rrv_model.proofs.StateLaws.{frames_keep_states}
 use Rattle.serial_sched.specs.Chosen.{AreChosen, AreRunning, Picks}
 use Rattle.serial_sched.specs.Slices.{FitsChoice, FitsIf}
@@ -49,19 +51,19 @@ passing p (y ∷ ys) x c = by (p y) refl c (λ d. passing p ys x d) where
 
 abbrev runs_there : Option Thread → Bool
 runs_there None = false
-runs_there (Some t) = is_none t.waits_at
+runs_there (Some t) = is_none t.wait
 
 is_there : (o : Option Thread) → IsRunning o → runs_there o ≡ true
 is_there None r = absurd r
 is_there (Some t) r = ap is_none r
 
-none_is : (o : Option ℕ) → is_none o ≡ true → o ≡ None
+none_is : (o : Option FutexWait) → is_none o ≡ true → o ≡ None
 none_is None e = refl
 none_is (Some a) e = absurd (false≢true e)
 
 there_is : (o : Option Thread) → runs_there o ≡ true → IsRunning o
 there_is None e = absurd (false≢true e)
-there_is (Some t) e = none_is t.waits_at e
+there_is (Some t) e = none_is t.wait e
 
 abbrev tids_below : State → ℕ → List ℕ
 tids_below s n = filter (λ tid. runs_there (thread_at s tid)) (range_with_len 0 n)
@@ -100,11 +102,13 @@ fits_own true false s f choice tid within whole = (sym tid, within)
 -- a frame is the slice of its choice
 own_fits : (end : End) (s : State) (f : Frame) (choice : Choice) → choice_by_end end f.tid f.count ≡ Some choice → FitsChoice end s f choice
 own_fits end s f choice is =
-    let e = chosen end f.tid f.count choice is in fits_own (has_thread end) (is_preempt end) s f choice e.0 e.1 e.2
+    let e = chosen end f.tid f.count choice is in
+    (ran_still end e.3, fits_own (runs_thread end) (is_preempt end) s f choice e.0 e.1 e.2)
 
 -- any choice is one of a frame of no thread
-any_fits : (end : End) (s : State) (f : Frame) (choice : Choice) → has_thread end ≡ false → FitsChoice end s f choice
-any_fits end s f choice none = subst (λ (b : Bool). FitsIf b (is_preempt end) s f choice) (sym none) tt
+any_fits : (end : End) (s : State) (f : Frame) (choice : Choice) → runs_thread end ≡ false → is_expiry end ≡ false →
+    FitsChoice end s f choice
+any_fits end s f choice none still = (still, subst (λ (b : Bool). FitsIf b (is_preempt end) s f choice) (sym none) tt)
 
 -- it is chosen of a list that begins with it, which then goes on
 record IsNext (s : State) (f : Frame) (p : Plan) (rest : List Choice) : Type 0 where
@@ -112,24 +116,24 @@ record IsNext (s : State) (f : Frame) (p : Plan) (rest : List Choice) : Type 0 w
   next : Plan
   picks : Picks by_schedule s p (Some choice) next
   fits : FitsChoice f.end s f choice
-  behind : (has_thread f.end ≡ false) ⊎ GoesOn next rest
+  behind : (runs_thread f.end ≡ false) ⊎ GoesOn next rest
 
 is_next : (tids : List ℕ) (s : State) (f : Frame) (m : State) (p : Plan) (rest : List Choice) → FrameStep s f m → FrameIsOfGuest f →
     IsTold f → p.misfit ≡ None →
     p.left ≡ cons_option (choice_of f) rest → AreRunning s tids → IsNext s f p rest
 is_next [] s f m p rest step of told unrefused is are =
-    let none : has_thread f.end ≡ false = has_none f.end s f.tid f.count m (none_runs s are) step.goes in
+    let none : runs_thread f.end ≡ false = has_none f.end s f.tid f.count m (none_runs s are) step.goes in
     let any : Choice = record { tid = 0; quantum = 0 } in
     record {
       choice = any;
       next = p;
       picks = record { tids = []; running = are; picks = (refl, refl) };
-      fits = any_fits f.end s f any none;
+      fits = any_fits f.end s f any none told.still;
       behind = inl none;
     }
 is_next (t ∷ tids) s f m p rest step of told unrefused is are =
-    let runs = has_one f.end s f.tid f.count m t (first_runs s t tids are) step.goes in
-    let c = tells f.end f.tid f.count runs told in
+    let runs = has_one f.end s f.tid f.count m t told.still (first_runs s t tids are) step.goes in
+    let c = tells f.end f.tid f.count runs told.long in
     let next : Plan = record p { left = rest; taken = p.taken + 1; last = c.0.tid } in
     record {
       choice = c.0;
@@ -163,10 +167,11 @@ own_run (f ∷ frames) s p state (m, step, follow) told unrefused is =
       one = is_next (tids_below s s.next_tid) s f m p (filter_map choice_of frames) step (frames_are_of_guests s f m state step)
           (told 0 f (omega arith)) unrefused is (are_running s state)
 
-      behind : (has_thread f.end ≡ false) ⊎ GoesOn one.next (filter_map choice_of frames) →
+      behind : (runs_thread f.end ≡ false) ⊎ GoesOn one.next (filter_map choice_of frames) →
           (GoesOn one.next (filter_map choice_of frames) → LeadsOn m one.next frames) → LeadsOn m one.next frames
       behind (inl none) on =
-          subst (λ (fs : List Frame). LeadsOn m one.next fs) (sym (none_behind s f m frames none step follow)) (m, one.next, (refl, refl))
+          subst (λ (fs : List Frame). LeadsOn m one.next fs)
+          (sym (none_behind s f m frames none (told 0 f (omega arith)).still step follow)) (m, one.next, (refl, refl))
       behind (inr go) on = on go
 
       first : LeadsOn m one.next frames → LeadsOn s p (f ∷ frames)

@@ -12,7 +12,7 @@ use Rattle.rrv_model.specs.declared.record.End.TheVariants as ends
 use Rattle.rrv_model.specs.declared.record.Frame.{Frame}
 use Rattle.rrv_model.specs.declared.machine.Thread.{Thread}
 use Rattle.rrv_model.specs.State.{State, thread_at, IsRunning, IsState}
-use Rattle.rrv_model.specs.Ends.{call_in, has_thread, is_preempt}
+use Rattle.rrv_model.specs.Ends.{call_in, runs_thread, is_preempt}
 use Rattle.rrv_model.specs.FrameStep.{FrameStepBy, Steps}
 use Rattle.rrv_model.proofs.Ends.{preempt_is}
 use Rattle.rv_machine.specs.declared.run.RunEnd.{RunEnd}
@@ -82,8 +82,8 @@ chosen_if true true tid count choice is = let e =
 
 -- the quantum of a frame's choice: as many instructions as the frame counts, and just so many where it was preempted
 pub chosen : (end : End) (tid count : ℕ) (choice : Choice) → choice_by_end end tid count ≡ Some choice →
-    (choice.tid ≡ tid) × (count ≤ choice.quantum) × (is_preempt end ≡ true → choice.quantum ≡ count) × (has_thread end ≡ true)
-chosen end tid count choice is = chosen_if (has_thread end) (is_preempt end) tid count choice is
+    (choice.tid ≡ tid) × (count ≤ choice.quantum) × (is_preempt end ≡ true → choice.quantum ≡ count) × (runs_thread end ≡ true)
+chosen end tid count choice is = chosen_if (runs_thread end) (is_preempt end) tid count choice is
 
 at_limits : (tid quantum : ℕ) (choice : Choice) → {count : ℕ} → IsOfGuest tid count → MIN_QUANTUM ≤ quantum → quantum ≤ MAX_QUANTUM →
     choice.tid ≡ tid → choice.quantum ≡ quantum →
@@ -91,7 +91,7 @@ at_limits : (tid quantum : ℕ) (choice : Choice) → {count : ℕ} → IsOfGues
 at_limits tid quantum choice of low high same same' =
     let from = of.tid_low in let to = of.tid_high in (omega arith, omega arith, omega arith, omega arith)
 
-of_thread : (end : End) (tid count : ℕ) → has_thread end ≡ true → EndIsOfGuest end tid count → IsOfGuest tid count
+of_thread : (end : End) (tid count : ℕ) → runs_thread end ≡ true → EndIsOfGuest end tid count → IsOfGuest tid count
 of_thread end tid count some of = subst (λ (b : Bool). MatchBool b (IsOfGuest tid count) (Unit {0})) some of
 
 within_if : (thread preempt : Bool) (tid count : ℕ) (choice : Choice) → choice_if thread preempt tid count ≡ Some choice →
@@ -114,7 +114,7 @@ pub chosen_within : (end : End) (tid count : ℕ) (choice : Choice) → choice_b
     (1 ≤ choice.tid) × (choice.tid ≤ MAX_TID) × (MIN_QUANTUM ≤ choice.quantum) × (choice.quantum ≤ MAX_QUANTUM)
 chosen_within end tid count choice is of =
     let ch = chosen end tid count choice is in
-    within_if (has_thread end) (is_preempt end) tid count choice is (of_thread end tid count ch.3 of)
+    within_if (runs_thread end) (is_preempt end) tid count choice is (of_thread end tid count ch.3 of)
 
 fits_if : (thread preempt : Bool) (old : State) (g : Frame) (choice : Choice) → thread ≡ true → FitsIf thread preempt old g choice →
     (preempt ≡ true → g.count ≡ choice.quantum) → (g.tid ≡ choice.tid) × (g.count ≤ choice.quantum)
@@ -122,12 +122,12 @@ fits_if false preempt old g choice some fits whole = absurd (false≢true some)
 fits_if true true old g choice some fits whole = let all = whole refl in (fits.0, omega arith)
 fits_if true false old g choice some fits whole = (fits.0, fits.1)
 
-fitting : (end : End) (old : State) (g : Frame) (choice : Choice) → has_thread end ≡ true → FitsChoice end old g choice →
+fitting : (end : End) (old : State) (g : Frame) (choice : Choice) → runs_thread end ≡ true → FitsChoice end old g choice →
     IsUncut end g.count choice →
     (g.tid ≡ choice.tid) × (g.count ≤ choice.quantum) × (is_preempt end ≡ true → g.count ≡ choice.quantum)
 fitting end old g choice some fits uncut =
     let whole : is_preempt end ≡ true → g.count ≡ choice.quantum = λ p. uncut (preempt_is end p) in
-    let fit = fits_if (has_thread end) (is_preempt end) old g choice some fits whole in
+    let fit = fits_if (runs_thread end) (is_preempt end) old g choice some fits.1 whole in
     (fit.0, fit.1, whole)
 
 -- ends that are no calls are one end where they are alike
@@ -142,7 +142,8 @@ pub choices_tell_slices : ChoicesTellSlices
 choices_tell_slices old f new choice step is g other step' fits uncut =
     let ch = chosen f.end f.tid f.count choice is in
     let p = reaches f.end old f.tid f.count new ch.3 step.goes in
-    let runs = has_one g.end old g.tid g.count other f.tid (running_at (run_end f.end) f.count f.tid old p.1 p.0 p.2) step'.goes in
+    let runs =
+    has_one g.end old g.tid g.count other f.tid fits.0 (running_at (run_end f.end) f.count f.tid old p.1 p.0 p.2) step'.goes in
     let fit = fitting g.end old g choice runs fits uncut in
     let q = reaches g.end old g.tid g.count other runs step'.goes in
     let tids : g.tid ≡ f.tid = fit.0 ∙ ch.0 in
@@ -173,8 +174,8 @@ of_guest old tid count state high running =
 end_is_of_guest : (end : End) (old : State) (tid count : ℕ) (new : State) → IsState old → count ≤ MAX_QUANTUM →
     FrameStepBy end old tid count new →
     EndIsOfGuest end tid count
-end_is_of_guest end old tid count new state high goes = by (has_thread end) refl where
-  by : (b : Bool) → has_thread end ≡ b → MatchBool b (IsOfGuest tid count) (Unit {0})
+end_is_of_guest end old tid count new state high goes = by (runs_thread end) refl where
+  by : (b : Bool) → runs_thread end ≡ b → MatchBool b (IsOfGuest tid count) (Unit {0})
   by true some = of_guest old tid count state high (frame_runs end old tid count new some goes)
   by false none = tt
 

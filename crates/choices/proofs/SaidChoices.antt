@@ -212,7 +212,7 @@ all_follow base s parts (items.Part p ∷ rest) state (fits, follow) =
 
 all_start : (its : List Item) → Starts its → All FrameIsOfGuest (frames_of its)
 all_start [] starts = absurd starts
-all_start (items.Opening o ∷ rest) (s, opens, follow) = all_follow s s [] rest (openings_are_states o.elf o.name o.random s opens) follow
+all_start (items.Opening o ∷ rest) (s, opens, follow) = all_follow s s [] rest (openings_are_states o s opens) follow
 all_start (items.Frame f ∷ rest) starts = absurd starts
 all_start (items.Part p ∷ rest) starts = absurd starts
 

@@ -7,7 +7,7 @@ use Rattle.rrv_model.specs.declared.record.End.{End}
 use Rattle.rrv_model.specs.declared.record.Frame.{Frame}
 use Rattle.rrv_model.specs.State.{State, thread_at, IsRunning}
 use Rattle.rrv_model.specs.FrameStep.{FrameStepBy}
-use Rattle.rrv_model.specs.Ends.{has_thread, is_preempt}
+use Rattle.rrv_model.specs.Ends.{runs_thread, is_preempt}
 use Rattle.serial_sched.specs.Chosen.{AreRunning, Picks, PicksAmong}
 use Rattle.serial_sched.specs.LastThread.{last_from, thread_by}
 use Rattle.serial_sched.specs.Slices.{FitsChoice, FitsIf}
@@ -44,8 +44,8 @@ own_thread : (end : End) (s : State) (f : Frame) (choice : Choice) (before t : �
     FrameStepBy end s f.tid f.count s' → FitsChoice end s f choice →
     thread_by end f.tid before ≡ choice.tid
 own_thread end s f choice before t s' runs p fits =
-    let some = has_one end s f.tid f.count s' t runs p in
-    ap (λ (b : Bool). cond b f.tid before) some ∙ fits_tid (has_thread end) (is_preempt end) s f choice some fits
+    let some = has_one end s f.tid f.count s' t fits.0 runs p in
+    ap (λ (b : Bool). cond b f.tid before) some ∙ fits_tid (runs_thread end) (is_preempt end) s f choice some fits.1
 
 -- ---- the choice
 

@@ -32,7 +32,7 @@ one_more : (tids : List ℕ) (s : State) (f : Frame) (frames : List Frame) (mid 
     HasOutcomes s old (f ∷ frames)
 one_more [] s f frames mid old choice next are picks step fits follow rest =
     let none = has_none f.end s f.tid f.count mid (none_runs s are) step.goes in
-    ([], [], (none, none_behind s f mid frames none step follow, refl), refl)
+    ([], [], (none, fits.0, none_behind s f mid frames none fits.0 step follow, refl), refl)
 one_more (t ∷ tids) s f frames mid old choice next are picks step fits follow (runnables, outcomes, slices, chosen) = (
   (t ∷ tids) ∷ runnables,
   Some choice ∷ outcomes,

@@ -1,5 +1,5 @@
 -- A guest that is recorded again by the choices of its frames.
-use Rattle.std.specs.Prelude.{◌≡◌, ◌⊎◌, ℕ, ◌<◌, ◌≤◌, List, [], ◌∷◌, length, take, zip, slice_get, Option, Some, None, All}
+use Rattle.std.specs.Prelude.{◌≡◌, ◌⊎◌, ℕ, ◌<◌, ◌≤◌, false, List, [], ◌∷◌, length, take, zip, slice_get, Option, Some, None, All}
 use Rattle.rrv_model.specs.declared.limits.TheConstants.{MIN_QUANTUM}
 use Rattle.rrv_model.specs.declared.record.CallRecord.{CallRecord}
 use Rattle.rrv_model.specs.declared.record.Choice.{Choice}
@@ -8,6 +8,7 @@ use Rattle.rrv_model.specs.declared.record.Frame.{Frame}
 use Rattle.rrv_model.specs.declared.record.Item.TheVariants as items
 use Rattle.rrv_model.specs.declared.record.Opening.{Opening}
 use Rattle.rrv_model.specs.declared.record.Record.{Record}
+use Rattle.rrv_model.specs.Ends.{is_expiry}
 use Rattle.rrv_model.specs.FrameStep.{FrameStep}
 use Rattle.rrv_model.specs.Opening.{opening_state}
 use Rattle.rrv_model.specs.Recording.{IsRecording, frames_of, items_of}
@@ -24,9 +25,11 @@ abbrev pub FramesFollow : State → List Frame → Type 0
 FramesFollow s [] = Unit {0}
 FramesFollow s (f ∷ frames) = (new : State) × FrameStep s f new × FramesFollow new frames
 
--- want of memory didn't cut the frame short of the least quantum: its choice is printed, unless no thread ran
-abbrev pub IsTold : Frame → Type 0
-IsTold f = f.end ≡ ends.Preempt → MIN_QUANTUM ≤ f.count
+-- want of memory didn't cut the frame short of the least quantum, and no wait ended in it: its choice is printed, unless no
+-- thread ran
+pub record IsTold (f : Frame) : Type 0 where
+  pub long : f.end ≡ ends.Preempt → MIN_QUANTUM ≤ f.count
+  pub still : is_expiry f.end ≡ false
 
 -- A guest ran frames from a state on. Others are chosen from there by their printed choices, and any turns behind.
 pub record IsRunAgain (s : State) (frames others : List Frame) : Type 0 where
@@ -98,5 +101,5 @@ abbrev pub RecordingsFollow : Type 0
 RecordingsFollow =
     (records : List Record) (o : Opening) → IsRecording records →
     slice_get (items_of records) 0 ≡ Some (items.Opening o) →
-    IsState (opening_state o.elf o.name o.random)
-    × FramesFollow (opening_state o.elf o.name o.random) (frames_of (items_of records))
+    IsState (opening_state o.version o.elf o.name o.random)
+    × FramesFollow (opening_state o.version o.elf o.name o.random) (frames_of (items_of records))

@@ -10,7 +10,7 @@ use Rattle.rrv_model.specs.declared.record.Frame.{Frame}
 use Rattle.rrv_model.specs.declared.record.Record.{Record}
 use Rattle.rrv_model.specs.State.{State, IsState}
 use Rattle.rrv_model.specs.FrameStep.{FrameStep}
-use Rattle.rrv_model.specs.Ends.{call_in, has_thread, is_preempt}
+use Rattle.rrv_model.specs.Ends.{call_in, runs_thread, is_preempt}
 use Rattle.rrv_model.specs.Recording.{IsRecording, frames_of, items_of}
 use Rattle.serial_sched.specs.Slices.{FitsChoice, IsQuantum}
 use Rattle.choices.specs.declared.recorded.ChoiceLine.{ChoiceLine}
@@ -27,7 +27,7 @@ choice_if thread preempt tid count =
     else None
 
 abbrev pub choice_by_end : End → ℕ → ℕ → Option Choice
-choice_by_end end tid count = choice_if (has_thread end) (is_preempt end) tid count
+choice_by_end end tid count = choice_if (runs_thread end) (is_preempt end) tid count
 
 -- the choice whose slice the frame is, where it tells one
 abbrev pub choice_of : Frame → Option Choice
@@ -65,7 +65,7 @@ pub record IsOfGuest (tid count : ℕ) : Type 0 where
   pub count_high : count ≤ MAX_QUANTUM
 
 abbrev pub EndIsOfGuest : End → ℕ → ℕ → Type 0
-EndIsOfGuest end tid count = MatchBool (has_thread end) (IsOfGuest tid count) (Unit {0})
+EndIsOfGuest end tid count = MatchBool (runs_thread end) (IsOfGuest tid count) (Unit {0})
 
 abbrev pub FrameIsOfGuest : Frame → Type 0
 FrameIsOfGuest f = EndIsOfGuest f.end f.tid f.count

@@ -4,7 +4,7 @@ use Rattle.rrv_model.specs.declared.record.Choice.{Choice}
 use Rattle.rrv_model.specs.declared.record.Frame.{Frame}
 use Rattle.rrv_model.specs.State.{State}
 use Rattle.rrv_model.specs.FrameStep.{FrameStep}
-use Rattle.rrv_model.specs.Ends.{has_thread}
+use Rattle.rrv_model.specs.Ends.{runs_thread, is_expiry}
 use Rattle.serial_sched.specs.Chosen.{AreChosen, AreRunning}
 use Rattle.serial_sched.specs.Slices.{FitsChoice}
 use Rattle.choices.specs.Schedule.{Plan, IsSchedule, plan}
@@ -14,7 +14,8 @@ use Rattle.choices.specs.Scheduled.{by_schedule}
 -- frame of no thread is the last, and has no choice.
 abbrev pub AreSlicesOf : State → List Frame → List (List ℕ) → List (Option Choice) → Type 0
 AreSlicesOf s [] runnables outcomes = (runnables ≡ []) × (outcomes ≡ [])
-AreSlicesOf s (f ∷ frames) [] outcomes = (has_thread f.end ≡ false) × (frames ≡ []) × (outcomes ≡ [])
+AreSlicesOf s (f ∷ frames) [] outcomes =
+    (runs_thread f.end ≡ false) × (is_expiry f.end ≡ false) × (frames ≡ []) × (outcomes ≡ [])
 AreSlicesOf s (f ∷ frames) (tids ∷ more) outcomes =
     (choice : Choice) × (others : List (Option Choice)) × (new : State) × (outcomes ≡ Some choice ∷ others) × AreRunning s tids
     × FrameStep s f new × FitsChoice f.end s f choice × AreSlicesOf new frames more others

@@ -12,14 +12,15 @@
 //!   choices, up to the first that doesn't fit, and then those of turns. `done_is_asked`: if it is done then, it was asked once
 //!   more and chose nothing.
 //! - `last_chosen_ran_last`: the thread that a `Schedule` chose last, which `Schedule::last` returns, is that of the last frame
-//!   that has one, or 0.
+//!   in which one ran, or 0.
 //! - `text_says_choices`: the printed choices of a recording's frames say just their choices. `frames_fit_choices`: each frame
 //!   is the slice of its own. `choices_tell_slices`: no other slice of it leads on from that state, but for what a call was
 //!   answered and for want of memory.
-//! - `run_again_is_same`: the printed choices of frames, of which none was cut short below 64 instructions, allow these
-//!   frames, and no others up to the first of which a call is answered otherwise, or which want of memory cuts short,
-//!   whatever turns come after the list. With the same answers and memory enough, neither the guest nor the list ends
-//!   before all frames were run. A recording's frames are such frames, from where its guest starts.
+//! - `run_again_is_same`: the printed choices of frames, of which none was cut short below 64 instructions and none is the end
+//!   of a timed wait, allow these frames, and no others up to the first of which a call is answered otherwise, or which want of
+//!   memory cuts short, whatever turns come after the list. With the same answers and memory enough, neither the guest nor the
+//!   list ends before all frames were run. The frames of a recording of version 1 are such frames, from where its guest starts,
+//!   if none was cut short so.
 #![tactic(auto)]
 
 pub mod laws;

@@ -40,7 +40,7 @@ impl fmt::Display for ChoiceLine {
 pub fn choice_of(frame: &Frame) -> Option<Choice>
     ensures { result ≡ choice_of frame.now }
 {
-    if !frame.end.has_thread() {
+    if !frame.end.runs_thread() {
         return None;
     }
     if !frame.end.is_preempt() {

@@ -8,6 +8,7 @@ ghost use Rattle.stored_guests.specs.Stores.{RefusesPrint};
 
 use elf_load::Image;
 use guest_calls::Guest;
+use rrv_model::machine::Version;
 use rrv_model::refusal::Memory;
 use std::alloc::Global;
 use std::fmt;
@@ -41,7 +42,7 @@ impl fmt::Display for ProgramLine {
 fn pages_at_start(alloc: Global, image: &Image) -> Result<u32, Memory>
     ensures { IfOk result (λ pages. pages ≡ pages_at_start image.now) }
 {
-    let guest = Guest::open(alloc, image, b"g0", [0; 16])?;
+    let guest = Guest::open(alloc, Version::One, image, b"g0", [0; 16])?;
     Ok(guest.page_count())
 }
 

@@ -57,7 +57,7 @@ are_bytes bytes pass =
     (Decides-by_and (λ (b : ℕ). nat_lt b 256) (λ (b : ℕ). b < 256) (list_all (λ (b : ℕ). nat_lt b 256)) (λ b. Decides-ltb b 256) refl
     (λ _ _. refl) bytes).0 pass
 
-pub opens : Opens example_elf example_opening.name example_opening.random example_state
+pub opens : Opens example_opening example_state
 opens = record {
   accepted = accepted;
   file_bytes = are_bytes example_elf refl;
@@ -109,7 +109,7 @@ li_a7_again = record { code_is = refl; f3_is = refl; rd_is = refl; rs1_is = refl
 -- thread 1 stands so, and all else is as at the opening
 record At (s : State) (t : Thread) : Type 0 where
   pub there : thread_at s 1 ≡ Some t
-  pub running : t.waits_at ≡ None
+  pub running : t.wait ≡ None
   pub memory_is : s.memory ≡ memory
   pub runs : s.ended ≡ None
   pub alone : len s.threads ≡ 1

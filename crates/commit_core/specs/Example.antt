@@ -1,5 +1,6 @@
 -- A start and events for it, after which a byte has left: one guest, which writes the first byte of its file and exits.
 use Rattle.std.specs.Prelude.{◌≢◌, ℕ, false, List, [], ◌∷◌, ◌++◌, replicate}
+use Rattle.rrv_model.specs.declared.machine.Version.TheVariants.{One}
 use Rattle.rrv_model.specs.declared.record.End.TheVariants as ends
 use Rattle.rrv_model.specs.declared.record.Frame.{Frame}
 use Rattle.rrv_model.specs.declared.record.Opening.{Opening}
@@ -31,10 +32,10 @@ example_elf =
     ∷ 0x93 ∷ 0x08 ∷ 0 ∷ 0x04 ∷ 0x73 ∷ 0 ∷ 0 ∷ 0 ∷ 0x93 ∷ 0x08 ∷ 0xD0 ∷ 0x05 ∷ 0x73 ∷ 0 ∷ 0 ∷ 0 ∷ []
 
 abbrev pub example_opening : Opening
-example_opening = record { elf = example_elf; name = 97 ∷ []; random = replicate 16 0 }
+example_opening = record { version = One; elf = example_elf; name = 97 ∷ []; random = replicate 16 0 }
 
 abbrev pub example_state : State
-example_state = opening_state example_opening.elf example_opening.name example_opening.random
+example_state = opening_state example_opening.version example_opening.elf example_opening.name example_opening.random
 
 -- five instructions, of which the last is the call that puts the byte out
 abbrev pub write_frame : Frame

@@ -105,7 +105,7 @@ opening_record number o = record { guest = number; index = 0; item = items.Openi
 pub record IsReady (number : ℕ) (r : Recorder) : Type 0 where
   pub opening : Opening
   pub state : State
-  pub opens : Opens opening.elf opening.name opening.random state
+  pub opens : Opens opening state
   pub has_text : HasText (opening_record number opening)
   pub is : r ≡ record {
     sent = [];

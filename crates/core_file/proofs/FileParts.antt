@@ -12,6 +12,7 @@ use Rattle.std.specs.Ordering.{MatchOrdering, nat_cmp, is_eq}
 use Rattle.std.specs.FinMap.{entries, entries_sorted, find, get-entries}
 use Rattle.std.specs.FinMap.Entries.{is_sorted}
 use Rattle.rrv_model.specs.declared.machine.Thread.{Thread}
+use Rattle.rrv_model.specs.declared.machine.Version.{Version}
 use Rattle.rrv_model.specs.Memory.{Memory, page_bytes}
 use Rattle.rrv_model.specs.RecordText.{number}
 use Rattle.rrv_model.specs.State.{State, IsState, IsThread}
@@ -196,15 +197,15 @@ each_entry P (e ∷ es) sorted h = (
       (sym (ap (λ k. find nat_cmp k es) r ∙ none_below e.0 es (both_hold _ _ sorted).0)) tt
   later q Greater r p = p
 
-full_thread : (o : Option Thread) → IfSome o IsThread → IfSome o (λ t. length t.regs.registers ≡ 32)
-full_thread None h = tt
-full_thread (Some t) h = h.regs.registers.0
+full_thread : (v : Version) (o : Option Thread) → IfSome o (IsThread v) → IfSome o (λ t. length t.regs.registers ≡ 32)
+full_thread v None h = tt
+full_thread v (Some t) h = h.regs.registers.0
 
 full_threads : (s : State) → IsState s → AllByRecursion IsFull (entries s.threads)
 full_threads s state =
     each_entry (λ t. length t.regs.registers ≡ 32) (entries s.threads) (entries_sorted s.threads)
-    (λ q. full_thread (find nat_cmp q (entries s.threads))
-    (subst (λ (o : Option Thread). IfSome o IsThread) (get-entries s.threads q) (state.rules.threads.threads q)))
+    (λ q. full_thread s.version (find nat_cmp q (entries s.threads))
+    (subst (λ (o : Option Thread). IfSome o (IsThread s.version)) (get-entries s.threads q) (state.rules.threads.threads q)))
 
 -- ---- the headers
 

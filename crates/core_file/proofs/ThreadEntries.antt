@@ -11,8 +11,10 @@ use Rattle.std.specs.FinMap.{FinMap, entries, entries_sorted, get-entries, get-f
 use Rattle.std.specs.Map.{keys_of}
 use Rattle.std.specs.FinMap.Entries.{below_all, is_sorted, same_entries}
 use Rattle.rrv_model.specs.declared.machine.Thread.{Thread}
+use Rattle.rrv_model.specs.declared.machine.Version.{Version}
+use Rattle.rrv_model.specs.declared.machine.Version.TheVariants.{One, Two}
 use Rattle.rrv_model.specs.declared.record.ThreadPart.{ThreadPart}
-use Rattle.rrv_model.specs.State.{State}
+use Rattle.rrv_model.specs.State.{State, live_threads}
 use Rattle.guest_threads.specs.Threads.{ThreadsValue, alone, thread_map, with_threads}
 use Rattle.guest_threads.specs.ThreadParts.{MakeThreads, entries_of, with_parts}
 use Rattle.guest_threads.proofs.ByTid.{counted}
@@ -37,8 +39,9 @@ same_told es sorted =
     same_entries nat_cmp nat_cmp_total nat_cmp-IsAntisymmetric (entries (thread_map es)) es (entries_sorted (thread_map es)) sorted
     (λ q. sym (get-entries (thread_map es) q) ∙ get-from_entries nat_cmp_total es q)
 
-pub threads_told : (v : ThreadsValue) (parts : List ThreadPart) → ((s : State) → with_parts parts v.waiting v.next_tid s ≡ with_threads v s)
-    → MakeThreads parts v.waiting v.next_tid → entries (thread_map v.threads) ≡ entries_of parts
+pub threads_told : (v : ThreadsValue) (parts : List ThreadPart) →
+    ((s : State) → with_parts v.version parts v.waiting v.next_tid s ≡ with_threads v s)
+    → MakeThreads v.version parts v.waiting v.next_tid → entries (thread_map v.threads) ≡ entries_of parts
 threads_told v parts told made =
     let same : thread_map (entries_of parts) ≡ thread_map v.threads = ap (λ (s : State). s.threads) (told (alone v)) in
     ap (λ (m : FinMap nat_cmp Thread). entries m) (sym same)
@@ -52,8 +55,12 @@ pub count_told : (parts : List ThreadPart) → length (entries_of parts) ≡ len
 count_told [] = refl
 count_told (p ∷ parts) = omega (arith, count_told parts)
 
-pub few_parts : (parts : List ThreadPart) (order : List ℕ) (next : ℕ) → MakeThreads parts order next → length parts ≤ 16
-few_parts parts order next made =
+few_live : (v : Version) → live_threads v ≤ 64
+few_live One = omega arith
+few_live Two = omega arith
+
+pub few_parts : (v : Version) (parts : List ThreadPart) (order : List ℕ) (next : ℕ) → MakeThreads v parts order next → length parts ≤ 64
+few_parts v parts order next made =
     let sorted : IsStrictlySortedBy nat_cmp (keys_of (entries_of parts)) =
     subst (λ (ks : List ℕ). IsStrictlySortedBy nat_cmp ks) (sym (keys_told parts)) (sorted_from_strictly_increasing _ made.tids_rising) in
-    omega (arith, made.rules.live, counted (entries_of parts) sorted, count_told parts)
+    omega (arith, made.rules.live, few_live v, counted (entries_of parts) sorted, count_told parts)

@@ -8,5 +8,5 @@ pub(crate) struct Counts {
     pub(crate) headers: u32,
     pub(crate) threads: u32,
     ghost few_headers: { headers ≤ 16385 },
-    ghost few_threads: { threads ≤ 16 },
+    ghost few_threads: { threads ≤ 64 },
 }

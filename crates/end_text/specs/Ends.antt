@@ -9,6 +9,7 @@ use Rattle.rrv_model.specs.declared.machine.FaultKind.TheVariants as faults
 use Rattle.rrv_model.specs.declared.machine.GuestEnd.{GuestEnd}
 use Rattle.rrv_model.specs.declared.machine.GuestEnd.TheVariants as guest_ends
 use Rattle.rrv_model.specs.declared.machine.Regs.{Regs}
+use Rattle.rrv_model.specs.declared.machine.FutexWait.{FutexWait}
 use Rattle.rrv_model.specs.declared.machine.Thread.{Thread}
 use Rattle.rrv_model.specs.Memory.{Memory}
 use Rattle.rrv_model.specs.State.{State, register, thread_at}
@@ -108,10 +109,10 @@ abbrev pub exit_line : (place last : ℕ) → List ℕ
 exit_line place last = codes "exit at " ++ (decimal place ++ (last_text last ++ newline))
 
 -- where a thread waits, nothing if it runs
-abbrev pub wait_line : ℕ → Option ℕ → List ℕ
+abbrev pub wait_line : ℕ → Option FutexWait → List ℕ
 wait_line tid None = []
-wait_line tid (Some address) =
-    codes "thread " ++ (decimal tid ++ (codes " waits at " ++ (word_text address ++ newline)))
+wait_line tid (Some w) =
+    codes "thread " ++ (decimal tid ++ (codes " waits at " ++ (word_text w.address ++ newline)))
 
 -- ---- any end
 
@@ -120,7 +121,7 @@ abbrev pub lines_of : Option GuestEnd → (place last : ℕ) → State → List 
 lines_of None place last s = []
 lines_of (Some (guest_ends.Exited status)) place last s = exit_line place last
 lines_of (Some (guest_ends.Faulted kind)) place last s = fault_line kind place last s
-lines_of (Some _) place last s = flat_map (λ e. wait_line e.0 e.1.waits_at) (entries s.threads)
+lines_of (Some _) place last s = flat_map (λ e. wait_line e.0 e.1.wait) (entries s.threads)
 
 -- of a state behind so many instructions, where the thread of this tid ran last
 abbrev pub end_lines : (place last : ℕ) → State → List ℕ

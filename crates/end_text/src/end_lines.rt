@@ -9,7 +9,7 @@ ghost use Rattle.end_text.specs.Ends.{faulting_text, instruction_text, last_text
 
 use crate::faulting::{fault_address, instruction_of, mapped_word};
 use guest_calls::Guest;
-use rrv_model::machine::{FaultKind, GuestEnd, Regs, Thread};
+use rrv_model::machine::{FaultKind, FutexWait, GuestEnd, Regs, Thread};
 use std::fmt;
 use trace_text::{ThreadText, fault_name, write_each, write_word};
 
@@ -73,10 +73,10 @@ fn write_last<W: fmt::Write>(f: &mut fmt::Formatter<W>, last: u32) -> fmt::Resul
 struct Wait;
 
 impl ThreadText for Wait {
-    ghost text = { λ tid thread. wait_line tid thread.waits_at };
+    ghost text = { λ tid thread. wait_line tid thread.wait };
 
     fn write<W: fmt::Write>(f: &mut fmt::Formatter<W>, tid: u32, thread: &Thread) -> fmt::Result {
-        write_wait(f, tid, thread.waits_at)
+        write_wait(f, tid, thread.wait)
     }
 }
 
@@ -84,15 +84,15 @@ impl ThreadText for Wait {
 fn write_wait<W: fmt::Write>(
     f: &mut fmt::Formatter<W>,
     tid: u32,
-    waits_at: Option<u32>,
+    wait: Option<FutexWait>,
 ) -> fmt::Result
-    ensures { WritesOnOk W.write_str_gives f.old result (wait_line tid waits_at) f.new }
+    ensures { WritesOnOk W.write_str_gives f.old result (wait_line tid wait) f.new }
 {
-    let Some(address) = waits_at else {
+    let Some(wait) = wait else {
         return Ok(());
     };
     write!(f, "thread {tid} waits at ")?;
-    write_word(f, address)?;
+    write_word(f, wait.address)?;
     f.write_str("\n")
 }
 

@@ -10,7 +10,7 @@ use Rattle.rrv_model.specs.declared.machine.Thread.{Thread}
 use Rattle.rrv_model.specs.declared.record.Written.{Written}
 use Rattle.rrv_model.specs.declared.record.CallRecord.{CallRecord}
 use Rattle.rrv_model.specs.Memory.{Memory, stored, writable}
-use Rattle.rrv_model.specs.State.{State, with_register, with_thread}
+use Rattle.rrv_model.specs.State.{State, live_threads, with_register, with_thread}
 use Rattle.rrv_model.specs.CallRows.{Row, all_writable, are_clone_flags, argument, child_of, clone_row, fails, has_flag, set_register, tid_places, with_memory}
 use Rattle.rrv_model.specs.Calls.{write_all, writes, results}
 use Rattle.rrv_model.specs.RecordText.{HasCallText, HasWrittenText}
@@ -97,18 +97,18 @@ made_row : (a b c : Bool) (x y z w : Row) → a ≡ true → b ≡ false → c �
 made_row a b c x y z w e f g = rw (e, f, g) refl
 
 pub row_of_child : (s : State) (t : Thread) → are_clone_flags (argument t 0) ≡ true →
-    nat_le 16 (len s.threads) || nat_lt (2 ^ 31 - 1) s.next_tid ≡ false →
+    nat_le (live_threads s.version) (len s.threads) || nat_lt (2 ^ 31 - 1) s.next_tid ≡ false →
     all_writable s.memory (tid_places t) ≡ true → clone_row s t ≡ makes_child s t (tid_places t)
 row_of_child s t flags room allowed =
-    made_row (are_clone_flags (argument t 0)) (nat_le 16 (len s.threads) || nat_lt (2 ^ 31 - 1) s.next_tid)
+    made_row (are_clone_flags (argument t 0)) (nat_le (live_threads s.version) (len s.threads) || nat_lt (2 ^ 31 - 1) s.next_tid)
     (all_writable s.memory (tid_places t))
     (fails 22) (fails 11) (fails 14) (makes_child s t (tid_places t)) flags room allowed
 
 pub child_succeeds : (s : State) (t : Thread) → are_clone_flags (argument t 0) ≡ true →
-    nat_le 16 (len s.threads) || nat_lt (2 ^ 31 - 1) s.next_tid ≡ false →
+    nat_le (live_threads s.version) (len s.threads) || nat_lt (2 ^ 31 - 1) s.next_tid ≡ false →
     all_writable s.memory (tid_places t) ≡ true → Succeeds (clone_row s t)
 child_succeeds s t flags room allowed =
-    let low = room_left (len s.threads) s.next_tid room in
+    let low = room_left (live_threads s.version) (len s.threads) s.next_tid room in
     subst Succeeds (sym (row_of_child s t flags room allowed)) (omega (arith, low.1))
 
 -- ---- where a word can be written
@@ -141,8 +141,7 @@ all_tested m places i past held = none_to_write m (drop i places) (drop_all i pl
 
 child_by : (t : Thread) (b d : Bool) (clear : ℕ) →
     (let z : Regs = with_register 10 0 t.regs in let stacked : Regs = cond b z (with_register 2 (argument t 1) z) in
-    let made : Thread = record { regs = cond d (with_register 4 (argument t 3) stacked) stacked; waits_at = t.waits_at; clear = clear } in
-    made)
+    let made : Thread = record { regs = cond d (with_register 4 (argument t 3) stacked) stacked; wait = t.wait; clear = clear } in made)
     ≡ (let z : Thread = set_register 10 0 t in let stacked : Thread = cond b z (set_register 2 (argument t 1) z) in
     let pointed : Thread = cond d (set_register 4 (argument t 3) stacked) stacked in record pointed { clear = clear })
 child_by t true true clear = refl
@@ -150,13 +149,13 @@ child_by t true false clear = refl
 child_by t false true clear = refl
 child_by t false false clear = refl
 
-pub child_is : (t : Thread) (zeroed stacked pointed : Regs) (clear : ℕ) → t.waits_at ≡ None → zeroed ≡ with_register 10 0 t.regs →
+pub child_is : (t : Thread) (zeroed stacked pointed : Regs) (clear : ℕ) → t.wait ≡ None → zeroed ≡ with_register 10 0 t.regs →
     stacked ≡ (if argument t 1 == 0 then zeroed else with_register 2 (argument t 1) zeroed) →
     pointed ≡ (if has_flag (argument t 0) 0x80000 then with_register 4 (argument t 3) stacked else stacked) →
     clear ≡ (if has_flag (argument t 0) 0x200000 then argument t 4 else 0) →
-    (let made : Thread = record { regs = pointed; waits_at = None; clear = clear } in made) ≡ child_of t
+    (let made : Thread = record { regs = pointed; wait = None; clear = clear } in made) ≡ child_of t
 child_is t zeroed stacked pointed clear runs zero_is stack_is pointer_is clear_is =
     let s_is = stack_is ∙ ap (λ (r : Regs). cond (argument t 1 == 0) r (with_register 2 (argument t 1) r)) zero_is in
     let p_is = pointer_is ∙ ap (λ (r : Regs). cond (has_flag (argument t 0) 0x80000) (with_register 4 (argument t 3) r) r) s_is in
-    (λ i. record { regs = p_is i; waits_at = sym runs i; clear = clear_is i })
+    (λ i. record { regs = p_is i; wait = sym runs i; clear = clear_is i })
     ∙ child_by t (argument t 1 == 0) (has_flag (argument t 0) 0x80000) (if has_flag (argument t 0) 0x200000 then argument t 4 else 0)

@@ -62,7 +62,7 @@ with_hart_twice tid t h h' s =
     ap (λ (m : FinMap nat_cmp Thread). record s { memory = h'.memory; threads = m; reservation = h'.reservation })
     (sym (insert_insert s.threads tid (now t h) (now t h')))
 
-module _ (tid : ℕ) (s : State) (t : Thread) (there : thread_at s tid ≡ Some t) (running : t.waits_at ≡ None) where
+module _ (tid : ℕ) (s : State) (t : Thread) (there : thread_at s tid ≡ Some t) (running : t.wait ≡ None) where
   there_now : (h : Hart) → thread_at (with_hart tid t h s) tid ≡ Some (now t h)
   there_now h = get-insert_same s.threads tid (now t h)
 

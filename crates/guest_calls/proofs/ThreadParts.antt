@@ -13,17 +13,20 @@ use Rattle.guest_calls.proofs.Lift.{changed_there}
 -- ---- all threads
 
 abbrev pub AreSameParts : ThreadsValue → ThreadsValue → Type 0
-AreSameParts v w = (thread_map v.threads ≡ thread_map w.threads) × (v.waiting ≡ w.waiting) × (v.next_tid ≡ w.next_tid)
+AreSameParts v w =
+    (v.version ≡ w.version) × (thread_map v.threads ≡ thread_map w.threads) × (v.waiting ≡ w.waiting) × (v.next_tid ≡ w.next_tid)
 
 pub same_parts : (v w : ThreadsValue) → ((s : State) → with_threads v s ≡ with_threads w s) ↔ AreSameParts v w
 same_parts v w = (
-  λ h. let e = h (alone v) in (ap (λ (s : State). s.threads) e, ap (λ (s : State). s.waiting) e, ap (λ (s : State). s.next_tid) e),
-  λ p s i. record s { threads = p.0 i; waiting = p.1 i; next_tid = p.2 i },
+  λ h. let e =
+      h (alone v) in
+      (ap (λ (s : State). s.version) e, ap (λ (s : State). s.threads) e, ap (λ (s : State). s.waiting) e, ap (λ (s : State). s.next_tid) e),
+  λ p s i. record s { version = p.0 i; threads = p.1 i; waiting = p.2 i; next_tid = p.3 i },
 )
 
 -- ---- one thread
 
-pub running_there : (o : Option Thread) (t : Thread) → o ≡ Some t → t.waits_at ≡ None → IsRunning o
+pub running_there : (o : Option Thread) (t : Thread) → o ≡ Some t → t.wait ≡ None → IsRunning o
 running_there o t there runs = subst (λ (o : Option Thread). IsRunning o) (sym there) runs
 
 pub set_above_zero : (r value : ℕ) (regs : Regs) → 1 ≤ r →

@@ -2,6 +2,7 @@
 use Rattle.std.specs.Prelude.{◌≡◌, ℕ, ◌+◌, ◌≤◌, true, false, List, None, flat_map, length}
 use Rattle.std.specs.Int.{w32, to_le_bytes}
 use Rattle.rrv_model.specs.declared.machine.Thread.{Thread}
+use Rattle.rrv_model.specs.declared.machine.Version.{Version}
 use Rattle.rrv_model.specs.declared.record.Written.{Written}
 use Rattle.rrv_model.specs.State.{State, with_thread, IsThread}
 use Rattle.rrv_model.specs.CallRows.{Row, Returns, all_writable, child_of, range, with_memory}
@@ -23,10 +24,10 @@ abbrev pub with_child_at : List ℕ → Thread → State → State
 with_child_at places t s =
     with_memory (stored_at_each places (to_le_bytes w32 s.next_tid) s.memory) (spawned (child_of t) s)
 
--- a thread that runs
+-- a thread that runs, in a guest of whatever version
 pub record IsRunningThread (t : Thread) : Type 0 where
-  pub fits : IsThread t
-  pub running : t.waits_at ≡ None
+  pub fits : (version : Version) → IsThread version t
+  pub running : t.wait ≡ None
 
 -- the thread may have a child, whose tid is written at two places at most
 pub record MayHaveChild (g : GuestValue) (t : Thread) (places : List ℕ) : Type 0 where

@@ -1,7 +1,7 @@
 -- What a guest stands for.
 use Rattle.std.specs.Prelude.{ℕ, ◌+◌, ◌^◌, ◌-◌, min, List, [], ◌∷◌, Option, Some, None}
 use Rattle.rrv_model.specs.declared.machine.GuestEnd.{GuestEnd}
-use Rattle.rrv_model.specs.State.{State, thread_at, IsRunning}
+use Rattle.rrv_model.specs.State.{State, thread_at, IsRunning, IsTimed}
 use Rattle.rrv_model.specs.Output.{Chunk}
 use Rattle.guest_pages.specs.Space.{SpaceValue, memory_of}
 use Rattle.guest_calls.specs.declared.put.Put.{Put}
@@ -10,7 +10,7 @@ use Rattle.guest_threads.specs.Threads.{ThreadsValue, thread_map}
 -- a guest as contracts see it: the parts of its state, its steps so far, and what its last call put out
 pub record GuestValue : Type 0 where
   pub space : SpaceValue
-  -- with the waiting order and the next tid
+  -- with the version, the waiting order and the next tid
   pub threads : ThreadsValue
   pub opening_break : ℕ
   pub program_break : ℕ
@@ -25,6 +25,7 @@ pub record GuestValue : Type 0 where
 -- the plain state
 abbrev pub state_of : GuestValue → State
 state_of g = record {
+  version = g.threads.version;
   memory = memory_of g.space;
   threads = thread_map g.threads.threads;
   waiting = g.threads.waiting;
@@ -47,3 +48,7 @@ chunks_of (Some p) = record { descriptor = p.descriptor; bytes = p.bytes } ∷ [
 -- some thread runs
 abbrev pub HasRunning : State → Type 0
 HasRunning s = (tid : ℕ) × IsRunning (thread_at s tid)
+
+-- some thread waits with a timeout
+abbrev pub HasTimed : State → Type 0
+HasTimed s = (tid : ℕ) × IsTimed (thread_at s tid)

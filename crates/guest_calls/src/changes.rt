@@ -1,17 +1,20 @@
 //! Small changes of a guest's state.
 
-ghost use Rattle.std.specs.Prelude.{◌≡◌, ◌≤◌, ◌<◌, IsTrue, length};
+ghost use Rattle.std.specs.Prelude.{◌≡◌, ◌≤◌, ◌<◌, IfErr, IsTrue, OnOk, length};
 ghost use Rattle.std.specs.Int.{w32, to_le_bytes};
 ghost use Rattle.rrv_model.specs.Memory.{writable, stored};
-ghost use Rattle.rrv_model.specs.State.{thread_at, with_register, AreRegs, IsRunning};
+ghost use Rattle.rrv_model.specs.State.{thread_at, with_register, AreRegs, IsRunning, IsTimed, IsWait};
 ghost use Rattle.rrv_model.specs.CallRows.{change_thread, waiters, waits, wakes, leaves, clears, ends, with_memory};
 ghost use Rattle.rrv_model.specs.Calls.{results};
+ghost use Rattle.rrv_model.specs.FrameStep.{expired};
+ghost use Rattle.guest_threads.specs.Threads.{IsExpireRefusal};
 ghost use Rattle.guest_calls.specs.Guest.{state_of};
 ghost use Rattle.guest_calls.specs.Carries.{Becomes, BecomesOrStays};
 
 use crate::guest::Guest;
 use guest_pages::AddressSpace;
-use rrv_model::machine::{GuestEnd, Regs, Thread};
+use guest_threads::ThreadFault;
+use rrv_model::machine::{FutexWait, GuestEnd, Regs, Thread};
 use rrv_model::refusal::Memory;
 
 /// The register of a call's result.
@@ -68,15 +71,27 @@ impl Guest {
         }
     }
 
-    /// A running thread waits at an address, last in the waiting order.
-    pub(crate) fn wait(&mut self, tid: u32, address: u32) -> Result<(), Memory>
-        requires { IsRunning (thread_at (state_of self.old) tid) }
-        ensures { BecomesOrStays result (waits tid address (state_of self.old)) self.old self.new }
+    /// A running thread waits so, last in the waiting order.
+    pub(crate) fn wait(&mut self, tid: u32, wait: FutexWait) -> Result<(), Memory>
+        requires running { IsRunning (thread_at (state_of self.old) tid) }
+        requires fits { IsWait (state_of self.old).version wait }
+        ensures { BecomesOrStays result (waits tid wait (state_of self.old)) self.old self.new }
     {
-        let Ok(()) = self.threads.wait(tid, address) else {
+        let Ok(()) = self.threads.wait(tid, wait) else {
             return Err(Memory);
         };
         Ok(())
+    }
+
+    /// The timed wait of a thread ends: it runs again, with the result that its time is up. Refused with NotThere exactly if
+    /// there is no such thread, and with NotTimed exactly if it doesn't wait with a timeout. It takes no memory.
+    pub fn expire(&mut self, tid: u32) -> Result<(), ThreadFault>
+        ensures tid { OnOk result (1 ≤ tid) }
+        ensures timed { OnOk result (IsTimed (thread_at (state_of self.old) tid)) }
+        ensures expires { BecomesOrStays result (expired tid (state_of self.old)) self.old self.new }
+        ensures refused { IfErr result (λ fault. IsExpireRefusal fault (thread_at (state_of self.old) tid)) }
+    {
+        self.threads.expire(tid)
     }
 
     /// Wakes the first count threads that wait at an address, in the waiting order, and answers how many it woke.

@@ -113,7 +113,7 @@ fn child_of(thread: &Thread) -> Thread
     let stacked = with_stack(zeroed, registers[11]);
     Thread {
         regs: with_thread_pointer(stacked, registers[10], registers[13]),
-        waits_at: None,
+        wait: None,
         clear: clear_address(registers[10], registers[14]),
     }
 }

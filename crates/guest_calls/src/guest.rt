@@ -11,7 +11,7 @@ ghost use Rattle.guest_calls.specs.Snapshots.{guest_snapshots};
 use crate::put::Put;
 use guest_pages::Space;
 use guest_threads::Threads;
-use rrv_model::machine::{GuestEnd, Reservation, Thread};
+use rrv_model::machine::{GuestEnd, Reservation, Thread, Version};
 use rrv_model::refusal::Memory;
 use rv_machine::CodeSpace;
 use std::alloc::Global;
@@ -73,7 +73,7 @@ impl Drop for Guest {
 
 impl Guest {
     ghost use Rattle.rrv_model.specs.FrameStep.{closed_by};
-    ghost use Rattle.guest_calls.specs.Guest.{state_of, HasRunning};
+    ghost use Rattle.guest_calls.specs.Guest.{state_of, HasRunning, HasTimed};
 
     /// How the guest ended; None while it runs.
     pub fn ended(&self) -> Option<GuestEnd>
@@ -162,9 +162,10 @@ impl Guest {
             && self.ended == other.ended
     }
 
-    /// Tests whether two guests have the same threads, in the same waiting order, and the same next tid.
+    /// Tests whether two guests have one version, the same threads, in the same waiting order, and the same next tid.
     fn same_threads(&self, other: &Guest) -> bool
-        ensures { IsTrue result ↔ ((state_of self.now).threads ≡ (state_of other.now).threads)
+        ensures { IsTrue result ↔ ((state_of self.now).version ≡ (state_of other.now).version)
+            × ((state_of self.now).threads ≡ (state_of other.now).threads)
             × ((state_of self.now).waiting ≡ (state_of other.now).waiting)
             × ((state_of self.now).next_tid ≡ (state_of other.now).next_tid) }
     {
@@ -191,6 +192,20 @@ impl Guest {
             ran_before_call: self.ran_before_call,
             put: None,
         })
+    }
+
+    /// The rules by which it runs.
+    pub fn version(&self) -> Version
+        ensures { result ≡ (state_of self.now).version }
+    {
+        self.threads.version()
+    }
+
+    /// Tests whether some thread waits with a timeout.
+    pub fn has_timed(&self) -> bool
+        ensures { IsTrue result ↔ HasTimed (state_of self.now) }
+    {
+        self.threads.has_timed()
     }
 
     /// Tests whether some thread runs.

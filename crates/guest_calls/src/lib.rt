@@ -11,6 +11,8 @@
 //! - `run_thread`, `step_thread`: n plain steps, and what ended them.
 //! - `call`: a row of the call relation, with an answer that the environment gave to the row's question. The environment is
 //!   asked once at most, and not if the row doesn't ask. At a refusal it was not asked.
+//! - `expire`: the timed wait of a thread ends. Refused exactly if there is no such wait. `has_timed`: whether there is one.
+//! - `version`: the rules by which the guest runs. No call changes it.
 //! - `put_out`, `take_put`: the output of the last call; the second leaves none in its place, and the recorder uses it.
 //! - `take_back`: the state before the ECALL.
 //! - `try_clone`: the same state once more, as many instructions run, no snapshot, and no output.

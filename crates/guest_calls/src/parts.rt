@@ -79,7 +79,8 @@ impl Guest {
         // the proof opens the space here, for what holds of its pages
         let _pages = self.space.page_count();
         let (threads, waiting) = (rest.threads.as_slice(), rest.waiting.as_slice());
-        match Threads::from_parts(alloc, threads, waiting, rest.next_tid) {
+        let version = self.threads.version();
+        match Threads::from_parts(alloc, version, threads, waiting, rest.next_tid) {
             Ok(threads) => {
                 self.threads = threads;
                 self.program_break = rest.program_break;

@@ -98,6 +98,7 @@ pub fn find(alloc: Global, trial: &mut Trial<'_>, asked: Asked) -> Result<Answer
         }
         Asked::Run(tid, limit) => one(alloc, run(trial, tid, limit)),
         Asked::Put(address, word) => Ok(nothing(alloc, trial.put_word(address, word))),
+        Asked::Expire(tid) => Ok(nothing(alloc, trial.expire(tid))),
         Asked::CloseSlice => {
             trial.guest.close_slice(None);
             Ok(nothing(alloc, true))

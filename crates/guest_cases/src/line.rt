@@ -18,6 +18,8 @@ pub enum Asked {
     Run(u32, u32),
     /// A word is put into a page. The answer has no number.
     Put(u32, u32),
+    /// The timed wait of a thread ends. The answer has no number; none where it has no such wait.
+    Expire(u32),
     /// A slice ends. The answer has no number.
     CloseSlice,
     /// The bytes of the range at this place among those that the last call wrote.
@@ -82,6 +84,8 @@ fn asked_of_one(name: &str, number: u32) -> Option<Asked> {
         "clear" => Some(Asked::Number(Question::Clear(number))),
         "runs" => Some(Asked::Number(Question::Runs(number))),
         "waits_at" => Some(Asked::Number(Question::WaitsAt(number))),
+        "timed" => Some(Asked::Number(Question::Timed(number))),
+        "expire" => Some(Asked::Expire(number)),
         _ => None,
     }
 }

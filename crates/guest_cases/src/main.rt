@@ -2,7 +2,8 @@
 //! Prints each line that finds something else, and last how many cases and lines there were.
 //!
 //! A line `# TEXT` starts a case, with a guest of no instructions whose outside has four bytes of input. In its place `elf FILE` puts a
-//! guest of a file that lies in the folder, as those of data/, which tools/assemble made. The other lines are as `line` says.
+//! guest of a file that lies in the folder, as those of data/, which tools/assemble made, and `version two` one of version 2 of no
+//! instructions. The other lines are as `line` says.
 #![tactic(auto)]
 
 mod answers;
@@ -11,11 +12,13 @@ mod names;
 
 use answers::find;
 use line::line_of;
+use rrv_model::machine::Version;
 use std::alloc::Global;
 use std::process::ExitCode;
 use std::rt::Files;
 use std::{fs, io};
-use test_guests::trial::{Trial, open, open_words};
+use test_guests::files::file_of;
+use test_guests::trial::{Trial, open, open_version, open_words};
 
 /// The input of each guest.
 const INPUT: &[u8] = &[1, 2, 3, 4];
@@ -43,6 +46,12 @@ struct Progress {
 fn open_file<R: Files + AllocGlobal>(rt: &R, path: &str) -> Option<Trial<'static>> {
     let elf = fs::read(rt, path).ok()?;
     open(rt.alloc(), &elf, INPUT)
+}
+
+/// A guest of version 2 of no instructions.
+fn open_two(alloc: Global) -> Option<Trial<'static>> {
+    let elf = file_of(alloc, &[0; 8]).ok()?;
+    open_version(alloc, Version::Two, &elf, INPUT)
 }
 
 /// What a line asked of a guest comes to.
@@ -85,6 +94,9 @@ impl Progress {
         self.lines = self.lines.saturating_add(1);
         if let Some(path) = text.strip_prefix("elf ") {
             return self.start(open_file(rt, path));
+        }
+        if text == "version two" {
+            return self.start(open_two(rt.alloc()));
         }
         match &mut self.trial {
             Some(trial) => outcome_of(rt.alloc(), trial, text),

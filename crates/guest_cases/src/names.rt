@@ -1,7 +1,7 @@
 //! Names of numbers in a line.
 
 /// Numbers of calls (Linux, include/uapi/asm-generic/unistd.h), and results that are negated errno values (errno(3)).
-const NAMES: [(&str, u32); 24] = [
+const NAMES: [(&str, u32); 25] = [
     ("read", 63),
     ("write", 64),
     ("writev", 66),
@@ -26,6 +26,7 @@ const NAMES: [(&str, u32); 24] = [
     ("EFAULT", 0xFFFF_FFF2),
     ("EINVAL", 0xFFFF_FFEA),
     ("ENOSYS", 0xFFFF_FFDA),
+    ("ETIMEDOUT", 0xFFFF_FF92),
 ];
 
 /// The number that a word names.

@@ -13,9 +13,10 @@ use Rattle.std.specs.BTreeMap.{is_at}
 use Rattle.std.specs.FinMap.{get, insert, remove, len, find, get-from_entries, get-insert, get-remove, len-empty, len-insert, same_map, nat_cmp-IsAntisymmetric}
 use Rattle.std.proofs.Math.Bool.{or-true}
 use Rattle.rrv_model.specs.declared.machine.Thread.{Thread}
-use Rattle.rrv_model.specs.State.{IsRunning}
+use Rattle.rrv_model.specs.declared.machine.FutexWait.{FutexWait}
+use Rattle.rrv_model.specs.State.{IsRunning, IsTimed}
 use Rattle.rrv_model.proofs.ThreadRules.{same_tid, tied}
-use Rattle.guest_threads.specs.Threads.{thread_map, runs}
+use Rattle.guest_threads.specs.Threads.{thread_map, runs, is_timed, timed_of}
 
 abbrev pub entry_at : List (ℕ × Thread) → ℕ → Option Thread
 entry_at es tid = lookup (is_at (nat_cmp tid)) es
@@ -63,13 +64,13 @@ counted (e ∷ es) h =
 
 -- ---- some thread that runs
 
-pub runs_is : (t : Thread) → runs t ≡ true → t.waits_at ≡ None
-runs_is t e = none_is t.waits_at e where
-  none_is : (o : Option ℕ) → is_none o ≡ true → o ≡ None
+pub runs_is : (t : Thread) → runs t ≡ true → t.wait ≡ None
+runs_is t e = none_is t.wait e where
+  none_is : (o : Option FutexWait) → is_none o ≡ true → o ≡ None
   none_is None e = refl
   none_is (Some a) e = absurd (false≢true e)
 
-pub is_runs : (t : Thread) → t.waits_at ≡ None → runs t ≡ true
+pub is_runs : (t : Thread) → t.wait ≡ None → runs t ≡ true
 is_runs t e = ap is_none e
 
 -- a thread that a later entry has
@@ -103,3 +104,50 @@ joins x o false b r f = ap (λ c. runs x.1 || c) (f r) ∙ or-true (runs x.1)
 pub runs_some : (es : List (ℕ × Thread)) (tid : ℕ) → IsRunning (entry_at es tid) → list_any runs (values_of es) ≡ true
 runs_some [] tid r = absurd r
 runs_some (x ∷ es) tid r = joins x (entry_at es tid) (is_at (nat_cmp tid) x.0) (list_any runs (values_of es)) r (runs_some es tid)
+
+-- ---- some thread whose wait is timed
+
+pub timed_is : (t : Thread) → is_timed t ≡ true → IsTimed (Some t)
+timed_is t e = by t.wait e where
+  by : (o : Option FutexWait) → timed_of o ≡ true → IsTimed (Some (record t { wait = o }))
+  by None e = absurd (false≢true e)
+  by (Some w) e = e
+
+pub is_timed_there : (t : Thread) → IsTimed (Some t) → is_timed t ≡ true
+is_timed_there t h = by t.wait h where
+  by : (o : Option FutexWait) → IsTimed (Some (record t { wait = o })) → timed_of o ≡ true
+  by None h = absurd h
+  by (Some w) h = h
+
+-- a timed wait that a later entry has
+timed_later : (x : ℕ × Thread) (es : List (ℕ × Thread)) → IsStrictlySortedBy nat_cmp (keys_of (x ∷ es)) → (tid : ℕ) (b : Bool) →
+    is_at (nat_cmp tid) x.0 ≡ b →
+    IsTimed (entry_at es tid) → IsTimed (cond b (Some x.1) (entry_at es tid))
+timed_later x es h tid true t r =
+    absurd (subst (λ (o : Option Thread). IsTimed o) (ap (entry_at es) (same_tid tid x.0 t) ∙ none_later x es h) r)
+timed_later x es h tid false t r = r
+
+timed_here : (x : ℕ × Thread) (es : List (ℕ × Thread)) → is_timed x.1 ≡ true → IsTimed (entry_at (x ∷ es) x.0)
+timed_here x es r = subst (λ b. IsTimed (cond b (Some x.1) (entry_at es x.0))) (sym (tied x.0)) (timed_is x.1 r)
+
+timed_either : (x : ℕ × Thread) (es : List (ℕ × Thread)) → IsStrictlySortedBy nat_cmp (keys_of (x ∷ es)) → (a b : Bool) → is_timed x.1 ≡ a →
+    a || b ≡ true →
+    (b ≡ true → (tid : ℕ) × IsTimed (entry_at es tid)) → (tid : ℕ) × IsTimed (entry_at (x ∷ es) tid)
+timed_either x es h true b r e f = (x.0, timed_here x es r)
+timed_either x es h false b r e f = let p = f e in (p.0, timed_later x es h p.0 _ refl p.1)
+
+pub some_timed : (es : List (ℕ × Thread)) → IsStrictlySortedBy nat_cmp (keys_of es) → list_any is_timed (values_of es) ≡ true → (tid : ℕ) ×
+    IsTimed (entry_at es tid)
+unfolding IsStrictlySortedBy
+some_timed [] h e = absurd (false≢true e)
+some_timed (x ∷ es) h e = timed_either x es h (is_timed x.1) (list_any is_timed (values_of es)) refl e (some_timed es h.1)
+
+timed_joins : (x : ℕ × Thread) (o : Option Thread) (a b : Bool) → IsTimed (cond a (Some x.1) o) → (IsTimed o → b ≡ true) →
+    is_timed x.1 || b ≡ true
+timed_joins x o true b r f = ap (λ c. c || b) (is_timed_there x.1 r)
+timed_joins x o false b r f = ap (λ c. is_timed x.1 || c) (f r) ∙ or-true (is_timed x.1)
+
+pub timed_some : (es : List (ℕ × Thread)) (tid : ℕ) → IsTimed (entry_at es tid) → list_any is_timed (values_of es) ≡ true
+timed_some [] tid r = absurd r
+timed_some (x ∷ es) tid r =
+    timed_joins x (entry_at es tid) (is_at (nat_cmp tid) x.0) (list_any is_timed (values_of es)) r (timed_some es tid)

@@ -18,7 +18,8 @@ use Rattle.std.specs.BTreeMap.{is_at}
 use Rattle.std.specs.FinMap.{get}
 use Rattle.rrv_model.specs.declared.machine.Thread.{Thread}
 use Rattle.rrv_model.specs.declared.record.ThreadPart.{ThreadPart}
-use Rattle.rrv_model.specs.State.{IsThread, IsWaiting}
+use Rattle.rrv_model.specs.declared.machine.Version.{Version}
+use Rattle.rrv_model.specs.State.{IsThread, IsWaiting, live_threads}
 use Rattle.guest_threads.specs.Threads.{thread_map}
 use Rattle.guest_threads.specs.ThreadParts.{entries_of, tids_rise, waits_in, order_fits, Fits, MakeThreads}
 use Rattle.rrv_model.proofs.Threads.{is_at_nat}
@@ -171,24 +172,26 @@ if_some : {P Q : Thread → Type 0} (o : Option Thread) → ((t : Thread) → P 
 if_some None f h = tt
 if_some (Some t) f h = f t h
 
-if_both : (o : Option Thread) (order : List ℕ) (next q : ℕ) → IfSome o (λ _. (1 ≤ q) × (q < next)) → IfSome o IsThread →
+if_both : (v : Version) (o : Option Thread) (order : List ℕ) (next q : ℕ) → IfSome o (λ _. (1 ≤ q) × (q < next)) → IfSome o (IsThread v) →
     (IsWaiting o → Contains order q) →
-    IfSome o (λ t. Fits order next (record { tid = q; thread = t }))
-if_both None order next q tid thread named = tt
-if_both (Some t) order next q tid thread named = record { tid = tid; thread = thread; named = named }
+    IfSome o (λ t. Fits v order next (record { tid = q; thread = t }))
+if_both v None order next q tid thread named = tt
+if_both v (Some t) order next q tid thread named = record { tid = tid; thread = thread; named = named }
 
-named_there : (o : Option Thread) (order : List ℕ) (next q : ℕ) → IfSome o (λ t. Fits order next (record { tid = q; thread = t })) →
-    IsWaiting o → Contains order q
-named_there None order next q h w = absurd w
-named_there (Some t) order next q h w = h.named w
+named_there : (v : Version) (o : Option Thread) (order : List ℕ) (next q : ℕ) →
+    IfSome o (λ t. Fits v order next (record { tid = q; thread = t })) → IsWaiting o → Contains order q
+named_there v None order next q h w = absurd w
+named_there v (Some t) order next q h w = h.named w
 
-pub makes : (parts : List ThreadPart) (order : List ℕ) (next : ℕ) → length parts ≤ 16 → 1 ≤ next → next ≤ 2 ^ 31 → tids_rise parts ≡ true
-    → AllByRecursion (Fits order next) parts → order_fits parts order ≡ true → MakeThreads parts order next
-makes parts order next few low high rise fit fits =
+pub makes : (v : Version) (parts : List ThreadPart) (order : List ℕ) (next : ℕ) → length parts ≤ live_threads v → 1 ≤ next → next ≤ 2 ^ 31 →
+    tids_rise parts ≡ true
+    → AllByRecursion (Fits v order next) parts → order_fits parts order ≡ true → MakeThreads v parts order next
+makes v parts order next few low high rise fit fits =
     let rising = increases parts rise in
-    let at : (q : ℕ) → IfSome (get (thread_map (entries_of parts)) q) (λ t. Fits order next (record { tid = q; thread = t })) = λ q.
-    subst (λ (o : Option Thread). IfSome o (λ t. Fits order next (record { tid = q; thread = t }))) (sym (get_thread (entries_of parts) q))
-    (found (λ q t. Fits order next (record { tid = q; thread = t })) parts fit q) in
+    let at : (q : ℕ) → IfSome (get (thread_map (entries_of parts)) q) (λ t. Fits v order next (record { tid = q; thread = t })) = λ q.
+    subst (λ (o : Option Thread). IfSome o (λ t. Fits v order next (record { tid = q; thread = t })))
+    (sym (get_thread (entries_of parts) q))
+    (found (λ q t. Fits v order next (record { tid = q; thread = t })) parts fit q) in
     record {
       tids_rising = rising;
       rules = record {
@@ -204,7 +207,7 @@ makes parts order next few low high rise fit fits =
         waiting = λ q. (
           λ c. All-contains (λ q. IsWaiting (get (thread_map (entries_of parts)) q)) order q
               (All-from_recursion _ order (named_wait parts order fits)) c,
-          named_there (get (thread_map (entries_of parts)) q) order next q (at q),
+          named_there v (get (thread_map (entries_of parts)) q) order next q (at q),
         );
         waiting_once = AllPairs-from_IsDistinct same_decides order (distinct parts order fits);
       };
@@ -212,8 +215,8 @@ makes parts order next few low high rise fit fits =
 
 -- ---- and the other way round
 
-module _ (parts : List ThreadPart) (order : List ℕ) (next : ℕ) (h : MakeThreads parts order next) where
-  pub few : length parts ≤ 16
+module _ (v : Version) (parts : List ThreadPart) (order : List ℕ) (next : ℕ) (h : MakeThreads v parts order next) where
+  pub few : length parts ≤ live_threads v
   few = omega (
     arith,
     h.rules.live,
@@ -224,10 +227,10 @@ module _ (parts : List ThreadPart) (order : List ℕ) (next : ℕ) (h : MakeThre
   pub rise : tids_rise parts ≡ true
   rise = rises_where parts h.tids_rising
 
-  pub all_fit : AllByRecursion (Fits order next) parts
-  all_fit = each (λ q t. Fits order next (record { tid = q; thread = t })) parts (sorted_told parts h.tids_rising) (λ q.
-      subst (λ (o : Option Thread). IfSome o (λ t. Fits order next (record { tid = q; thread = t }))) (get_thread (entries_of parts) q)
-      (if_both (get (thread_map (entries_of parts)) q) order next q (h.rules.tids q) (h.rules.threads q) (h.rules.waiting q).1))
+  pub all_fit : AllByRecursion (Fits v order next) parts
+  all_fit = each (λ q t. Fits v order next (record { tid = q; thread = t })) parts (sorted_told parts h.tids_rising) (λ q.
+      subst (λ (o : Option Thread). IfSome o (λ t. Fits v order next (record { tid = q; thread = t }))) (get_thread (entries_of parts) q)
+      (if_both v (get (thread_map (entries_of parts)) q) order next q (h.rules.tids q) (h.rules.threads q) (h.rules.waiting q).1))
 
   pub ordered : order_fits parts order ≡ true
   ordered = order_of parts order
@@ -238,7 +241,7 @@ module _ (parts : List ThreadPart) (order : List ℕ) (next : ℕ) (h : MakeThre
         all_named order f = λ k d l. f _ (All-contains_itself order k d l)
 
   -- each waiting thread stands once in the order
-  pub few_wait : length order ≤ 16
+  pub few_wait : length order ≤ live_threads v
   few_wait =
       let among : length order ≤ length (entries_of parts) =
       length-le_from_keys (eq_by_cmp_equiv nat_cmp_total) order (entries_of parts) apart_by_cmp (λ q any.

@@ -6,6 +6,7 @@ use Rattle.std.proofs.lemmas.Map.Keys.{IsDistinct-from_apart, IsDistinct-head, I
 use Rattle.std.specs.FinMap.{get}
 use Rattle.std.specs.List.{AllByRecursion, IsDistinct}
 use Rattle.rrv_model.specs.declared.machine.Thread.{Thread}
+use Rattle.rrv_model.specs.declared.machine.FutexWait.{FutexWait}
 use Rattle.rrv_model.specs.State.{State}
 use Rattle.rrv_model.specs.CallRows.{waits_at, waiters, woken, wakes}
 use Rattle.guest_threads.specs.Threads.{ThreadsValue, with_threads}
@@ -81,16 +82,16 @@ agree p p' tid h (x ∷ xs) = by (agree p p' tid h xs) (nat_eq x tid) (p x) refl
 
 waits_there : ℕ → Option Thread → Bool
 waits_there a None = false
-waits_there a (Some t) = at a t.waits_at where
-  at : ℕ → Option ℕ → Bool
+waits_there a (Some t) = at a t.wait where
+  at : ℕ → Option FutexWait → Bool
   at a None = false
-  at a (Some b) = nat_eq a b
+  at a (Some w) = nat_eq a w.address
 
 waits_there_is : (s : State) (a q : ℕ) (o : Option Thread) → get s.threads q ≡ o → waits_at s a q ≡ waits_there a o
 unfolding waits_there
 waits_there_is s a q None e = rw e refl
-waits_there_is s a q (Some t) e = by t.waits_at refl where
-  by : (w : Option ℕ) → t.waits_at ≡ w → waits_at s a q ≡ waits_there a (Some t)
+waits_there_is s a q (Some t) e = by t.wait refl where
+  by : (w : Option FutexWait) → t.wait ≡ w → waits_at s a q ≡ waits_there a (Some t)
   by None f = rw (e, f) refl
   by (Some b) f = rw (e, f) refl
 

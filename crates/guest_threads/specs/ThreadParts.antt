@@ -4,6 +4,7 @@ use Rattle.std.specs.List.{list_any}
 use Rattle.std.specs.List.Sorted.{IsStrictlyIncreasing}
 use Rattle.std.specs.FinMap.{from_entries}
 use Rattle.rrv_model.specs.declared.machine.Thread.{Thread}
+use Rattle.rrv_model.specs.declared.machine.Version.{Version}
 use Rattle.rrv_model.specs.declared.record.ThreadPart.{ThreadPart}
 use Rattle.rrv_model.specs.State.{State, IsThread, AreThreads}
 use Rattle.guest_threads.specs.declared.fault.PartsFault.{PartsFault}
@@ -15,18 +16,19 @@ abbrev pub entries_of : List ThreadPart → List (ℕ × Thread)
 entries_of parts = map (λ p. (p.tid, p.thread)) parts
 
 -- the state with these threads, this waiting order and this next tid
-abbrev pub with_parts : List ThreadPart → List ℕ → ℕ → State → State
-with_parts parts order next s = record s { threads = from_entries (entries_of parts); waiting = order; next_tid = next }
+abbrev pub with_parts : Version → List ThreadPart → List ℕ → ℕ → State → State
+with_parts version parts order next s =
+    record s { version = version; threads = from_entries (entries_of parts); waiting = order; next_tid = next }
 
 -- a state may have these threads, told by rising tid, with this waiting order and this next tid
-pub record MakeThreads (parts : List ThreadPart) (order : List ℕ) (next : ℕ) : Type 0 where
+pub record MakeThreads (version : Version) (parts : List ThreadPart) (order : List ℕ) (next : ℕ) : Type 0 where
   pub tids_rising : IsStrictlyIncreasing (map (λ p. p.tid) parts)
-  pub rules : AreThreads (thread_map (entries_of parts)) order next
+  pub rules : AreThreads version (thread_map (entries_of parts)) order next
 
 -- why no threads are made of these
-abbrev pub IsPartsRefusal : PartsFault → List ThreadPart → List ℕ → ℕ → Type 0
-IsPartsRefusal NoState parts order next = ¬ MakeThreads parts order next
-IsPartsRefusal Memory parts order next = MakeThreads parts order next
+abbrev pub IsPartsRefusal : PartsFault → Version → List ThreadPart → List ℕ → ℕ → Type 0
+IsPartsRefusal NoState version parts order next = ¬ MakeThreads version parts order next
+IsPartsRefusal Memory version parts order next = MakeThreads version parts order next
 
 -- ---- the tests
 
@@ -40,15 +42,15 @@ tids_rise [] = true
 tids_rise (p ∷ parts) = is_below p.tid parts && tids_rise parts
 
 -- one of the threads: its tid is at least 1 and below the next, and where it waits, the order names it
-pub record Fits (order : List ℕ) (next : ℕ) (p : ThreadPart) : Type 0 where
+pub record Fits (version : Version) (order : List ℕ) (next : ℕ) (p : ThreadPart) : Type 0 where
   pub tid : (1 ≤ p.tid) × (p.tid < next)
-  pub thread : IsThread p.thread
-  pub named : IsSome p.thread.waits_at → Contains order p.tid
+  pub thread : IsThread version p.thread
+  pub named : IsSome p.thread.wait → Contains order p.tid
 
 -- the thread is there and waits
 abbrev pub waits_in : Option ThreadPart → Bool
 waits_in None = false
-waits_in (Some p) = is_some p.thread.waits_at
+waits_in (Some p) = is_some p.thread.wait
 
 -- each of these tids is that of a waiting thread, and none stands twice
 abbrev pub order_fits : List ThreadPart → List ℕ → Bool

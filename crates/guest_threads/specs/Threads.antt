@@ -1,16 +1,20 @@
 -- The threads of a guest: by tid, with the waiting order and the next tid.
-use Rattle.std.specs.Prelude.{ℕ, ◌+◌, ◌-◌, ◌^◌, Bool, ◌||◌, nat_lt, nat_le, is_none, IsTrue, List, filter, Option, None}
+use Rattle.std.specs.Prelude.{◌≡◌, ℕ, ◌+◌, ◌-◌, ◌^◌, Bool, false, ◌||◌, nat_lt, nat_le, is_none, is_some, IsSome, IsTrue, List, filter, Option, Some, None}
 use Rattle.std.specs.Map.{keys_of}
 use Rattle.std.specs.Ordering.{nat_cmp}
 use Rattle.std.specs.FinMap.{FinMap, from_entries, get, remove, len}
 use Rattle.rrv_model.specs.declared.machine.Thread.{Thread}
+use Rattle.rrv_model.specs.declared.machine.FutexWait.{FutexWait}
+use Rattle.rrv_model.specs.declared.machine.Version.{Version}
 use Rattle.rrv_model.specs.Memory.{no_memory}
-use Rattle.rrv_model.specs.State.{State, IsRunning, AreThreads, with_thread}
+use Rattle.rrv_model.specs.State.{State, IsRunning, IsTimed, AreThreads, live_threads, with_thread}
 use Rattle.guest_threads.specs.declared.fault.ThreadFault.{ThreadFault}
-use Rattle.guest_threads.specs.declared.fault.ThreadFault.TheVariants.{TooMany, NotThere, Memory}
+use Rattle.guest_threads.specs.declared.fault.ThreadFault.TheVariants.{TooMany, NotThere, Memory, NotTimed}
 
 -- threads as contracts see them
 pub record ThreadsValue : Type 0 where
+  -- the version of their guest
+  pub version : Version
   -- by rising tid
   pub threads : List (ℕ × Thread)
   -- the tids of the waiting threads, in the waiting order
@@ -23,11 +27,13 @@ thread_map entries = from_entries entries
 
 -- the state with these threads
 abbrev pub with_threads : ThreadsValue → State → State
-with_threads v s = record s { threads = thread_map v.threads; waiting = v.waiting; next_tid = v.next_tid }
+with_threads v s =
+    record s { version = v.version; threads = thread_map v.threads; waiting = v.waiting; next_tid = v.next_tid }
 
 -- a state of these threads and nothing else
 abbrev pub alone : ThreadsValue → State
 alone v = record {
+  version = v.version;
   memory = no_memory;
   threads = thread_map v.threads;
   waiting = v.waiting;
@@ -49,7 +55,7 @@ live_count v = len (thread_map v.threads)
 
 -- the threads keep the rules of a state
 abbrev pub KeepRules : ThreadsValue → Type 0
-KeepRules v = AreThreads (thread_map v.threads) v.waiting v.next_tid
+KeepRules v = AreThreads v.version (thread_map v.threads) v.waiting v.next_tid
 
 -- ---- what changes
 
@@ -63,26 +69,43 @@ without_thread tid s = record s { threads = remove s.threads tid }
 
 -- ---- refusals
 
--- 16 threads live, or no tid is left
+-- as many threads live as may, or no tid is left
 abbrev pub is_full : ThreadsValue → Bool
-is_full v = nat_le 16 (live_count v) || nat_lt (2 ^ 31 - 1) v.next_tid
+is_full v = nat_le (live_threads v.version) (live_count v) || nat_lt (2 ^ 31 - 1) v.next_tid
 
 -- why a thread isn't made
 abbrev pub IsSpawnRefusal : ThreadFault → ThreadsValue → Type 0
 IsSpawnRefusal TooMany v = IsTrue (is_full v)
 IsSpawnRefusal NotThere v = ⊥
 IsSpawnRefusal Memory v = ¬ IsTrue (is_full v)
+IsSpawnRefusal NotTimed v = ⊥
 
 -- why this thread doesn't wait
 abbrev pub IsWaitRefusal : ThreadFault → Option Thread → Type 0
 IsWaitRefusal TooMany o = ⊥
 IsWaitRefusal NotThere o = ¬ IsRunning o
 IsWaitRefusal Memory o = IsRunning o
+IsWaitRefusal NotTimed o = ⊥
+
+-- why this thread's wait doesn't expire
+abbrev pub IsExpireRefusal : ThreadFault → Option Thread → Type 0
+IsExpireRefusal TooMany o = ⊥
+IsExpireRefusal NotThere o = o ≡ None
+IsExpireRefusal Memory o = ⊥
+IsExpireRefusal NotTimed o = IsSome o × ¬ IsTimed o
 
 -- ---- the threads that run
 
 abbrev pub runs : Thread → Bool
-runs t = is_none t.waits_at
+runs t = is_none t.wait
+
+-- the thread waits with a timeout
+abbrev pub timed_of : Option FutexWait → Bool
+timed_of None = false
+timed_of (Some w) = is_some w.timeout
+
+abbrev pub is_timed : Thread → Bool
+is_timed t = timed_of t.wait
 
 -- the tids of the threads that run
 abbrev pub running_in : List (ℕ × Thread) → List ℕ

@@ -5,11 +5,11 @@ ghost use Rattle.std.specs.FinMap.{get, insert, remove, len};
 ghost use Rattle.std.specs.List.{list_any};
 ghost use Rattle.std.specs.List.Sorted.{IsStrictlyIncreasing};
 ghost use Rattle.std.specs.Map.{values_of};
-ghost use Rattle.rrv_model.specs.State.{IsRunning};
-ghost use Rattle.rrv_model.specs.CallRows.{changed};
-ghost use Rattle.guest_threads.specs.Threads.{thread_map, running_in, runs};
+ghost use Rattle.rrv_model.specs.State.{IsRunning, IsTimed};
+ghost use Rattle.rrv_model.specs.CallRows.{changed, set_register};
+ghost use Rattle.guest_threads.specs.Threads.{thread_map, running_in, runs, is_timed};
 
-use rrv_model::machine::{Regs, Thread};
+use rrv_model::machine::{FutexWait, Regs, Thread};
 use rrv_model::refusal::Memory;
 use std::alloc::Global;
 use std::collections::BTreeMap;
@@ -83,13 +83,24 @@ pub(crate) fn put_regs(threads: &mut BTreeMap<u32, Thread>, tid: u32, regs: Regs
     }
 }
 
-/// Sets where a thread waits.
-pub(crate) fn put_waits_at(threads: &mut BTreeMap<u32, Thread>, tid: u32, place: Option<u32>)
+/// Sets how a thread waits.
+pub(crate) fn put_wait(threads: &mut BTreeMap<u32, Thread>, tid: u32, wait: Option<FutexWait>)
     ensures { thread_map threads.new.entries
-        ≡ changed tid (λ t. record t { waits_at = place }) (thread_map threads.old.entries) }
+        ≡ changed tid (λ t. record t { wait = wait }) (thread_map threads.old.entries) }
 {
     if let Some(mut thread) = find_thread(threads, tid) {
-        thread.waits_at = place;
+        thread.wait = wait;
+        replace_thread(threads, tid, thread);
+    }
+}
+
+/// Sets the register in which a thread finds the result of its call, a0.
+pub(crate) fn put_result(threads: &mut BTreeMap<u32, Thread>, tid: u32, value: u32)
+    ensures { thread_map threads.new.entries
+        ≡ changed tid (set_register 10 value) (thread_map threads.old.entries) }
+{
+    if let Some(mut thread) = find_thread(threads, tid) {
+        thread.regs.registers[10] = value;
         replace_thread(threads, tid, thread);
     }
 }
@@ -115,10 +126,35 @@ pub(crate) fn same_threads(threads: &BTreeMap<u32, Thread>, others: &BTreeMap<u3
     *threads == *others
 }
 
+fn any_timed(threads: &BTreeMap<u32, Thread>) -> bool
+    ensures { result ≡ list_any is_timed (values_of threads.now.entries) }
+{
+    threads.values().any(is_timed)
+}
+
+/// Tests whether it waits with a timeout.
+pub(crate) fn is_timed(thread: &Thread) -> bool
+    ensures { result ≡ is_timed thread.now }
+{
+    match thread.wait {
+        Some(wait) => wait.timeout.is_some(),
+        None => false,
+    }
+}
+
+/// Tests whether some thread waits with a timeout.
+pub(crate) fn some_wait_is_timed(threads: &BTreeMap<u32, Thread>) -> bool
+    ensures { IsTrue result ↔ ((tid : ℕ) × IsTimed (get (thread_map threads.now.entries) tid)) }
+{
+    // the tids rise, which a map's length tells
+    let _ordered = threads.len();
+    any_timed(threads)
+}
+
 fn any_without_wait(threads: &BTreeMap<u32, Thread>) -> bool
     ensures { result ≡ list_any runs (values_of threads.now.entries) }
 {
-    threads.values().any(|thread| thread.waits_at.is_none())
+    threads.values().any(|thread| thread.wait.is_none())
 }
 
 /// Tests whether some thread runs.
@@ -137,7 +173,7 @@ fn list_running(alloc: Global, threads: &BTreeMap<u32, Thread>) -> Result<Vec<u3
 {
     let mut tids = Vec::new(alloc);
     for (tid, thread) in threads {
-        if thread.waits_at.is_none() {
+        if thread.wait.is_none() {
             if tids.push(*tid).is_err() {
                 return Err(Memory);
             }

@@ -1,14 +1,17 @@
 //! Threads are made, wait, are woken and leave.
 
-ghost use Rattle.std.specs.Prelude.{◌≡◌, ◌≢◌, ◌==◌, ◌+◌, ◌-◌, not, IfOk, IfErr, OnOk, OnErr, IsTrue, false, Some, None, length, filter, find, AllPairs};
-ghost use Rattle.rrv_model.specs.State.{State, IsThread, IsRunning, AreRegs};
-ghost use Rattle.rrv_model.specs.CallRows.{change_thread, waits, waits_at, waiters, woken, wakes};
-ghost use Rattle.guest_threads.specs.Threads.{with_threads, alone, thread_in, is_full, spawned, without_thread, IsSpawnRefusal, IsWaitRefusal};
+ghost use Rattle.std.specs.Prelude.{◌≡◌, ◌≤◌, ◌^◌, ◌≢◌, ◌==◌, ◌+◌, ◌-◌, not, IfOk, IfErr, OnOk, OnErr, IsTrue, false, Some, None, length, filter, find, AllPairs};
+ghost use Rattle.rrv_model.specs.State.{State, IsThread, IsWait, IsRunning, IsTimed, AreRegs};
+ghost use Rattle.rrv_model.specs.FrameStep.{timed_out, expired};
+ghost use Rattle.rrv_model.specs.CallRows.{change_thread, set_register, waits, waits_at, waiters, woken, wakes};
+ghost use Rattle.guest_threads.specs.Threads.{with_threads, alone, thread_in, is_full, spawned, without_thread, IsSpawnRefusal, IsWaitRefusal, IsExpireRefusal};
 
-use crate::by_tid::{add_thread, put_clear, put_regs, put_waits_at, remove_thread};
+use crate::by_tid::{
+    add_thread, is_timed, put_clear, put_regs, put_result, put_wait, remove_thread,
+};
 use crate::fault::ThreadFault;
 use crate::threads::Threads;
-use rrv_model::machine::{Regs, Thread};
+use rrv_model::machine::{FutexWait, Regs, TIMED_OUT, Thread};
 
 /// Takes a tid out of a list.
 fn take_out(tids: &mut Vec<u32>, tid: u32)
@@ -19,10 +22,10 @@ fn take_out(tids: &mut Vec<u32>, tid: u32)
 
 impl Threads {
     /// Makes a thread, which runs, and answers its tid: 1, 2, 3, .. in order of making. Refused with TooMany exactly
-    /// where 16 threads live or no tid is left, else with Memory where a growth is refused.
+    /// where as many threads live as may or no tid is left, else with Memory where a growth is refused.
     pub fn spawn(&mut self, thread: Thread) -> Result<u32, ThreadFault>
-        requires fits { IsThread thread }
-        requires runs { thread.waits_at ≡ None }
+        requires fits { IsThread self.old.version thread }
+        requires runs { thread.wait ≡ None }
         ensures tid { IfOk result (λ tid. tid ≡ self.old.next_tid) }
         ensures room { OnOk result (is_full self.old ≡ false) }
         ensures spawned { OnOk result ((s : State)
@@ -43,12 +46,13 @@ impl Threads {
         }
     }
 
-    /// A running thread waits at an address, last in the waiting order. Refused with NotThere exactly where no such
+    /// A running thread waits so, last in the waiting order. Refused with NotThere exactly if no such
     /// thread runs, else with Memory where a growth is refused.
-    pub fn wait(&mut self, tid: u32, address: u32) -> Result<(), ThreadFault>
+    pub fn wait(&mut self, tid: u32, wait: FutexWait) -> Result<(), ThreadFault>
+        requires fits { IsWait self.old.version wait }
         ensures running { OnOk result (IsRunning (thread_in self.old tid)) }
         ensures waits { OnOk result ((s : State)
-            → with_threads self.new s ≡ waits tid address (with_threads self.old s)) }
+            → with_threads self.new s ≡ waits tid wait (with_threads self.old s)) }
         ensures refused { IfErr result (λ fault. IsWaitRefusal fault (thread_in self.old tid)) }
         ensures err { OnErr result (self.new ≡ self.old) }
     {
@@ -57,7 +61,7 @@ impl Threads {
         }
         match self.waiting.push(tid) {
             Ok(()) => {
-                put_waits_at(&mut self.threads, tid, Some(address));
+                put_wait(&mut self.threads, tid, Some(wait));
                 Ok(())
             }
             Err(_) => Err(ThreadFault::Memory),
@@ -77,6 +81,35 @@ impl Threads {
             self.resume(tid);
         }
         count
+    }
+
+    /// The timed wait of a thread ends: it runs again, with the result that its time is up. Refused with NotThere exactly if
+    /// there is no such thread, and with NotTimed exactly if it doesn't wait with a timeout. It takes no memory.
+    pub fn expire(&mut self, tid: u32) -> Result<(), ThreadFault>
+        ensures tid { OnOk result (1 ≤ tid) }
+        ensures timed { OnOk result (IsTimed (thread_in self.old tid)) }
+        ensures expires { OnOk result ((s : State)
+            → with_threads self.new s ≡ expired tid (with_threads self.old s)) }
+        ensures refused { IfErr result (λ fault. IsExpireRefusal fault (thread_in self.old tid)) }
+        ensures err { OnErr result (self.new ≡ self.old) }
+    {
+        let Some(thread) = self.get(tid) else {
+            return Err(ThreadFault::NotThere);
+        };
+        if !is_timed(&thread) {
+            return Err(ThreadFault::NotTimed);
+        }
+        self.resume(tid);
+        self.set_result(tid, TIMED_OUT);
+        Ok(())
+    }
+
+    /// Sets the register in which a thread finds the result of its call, a0.
+    fn set_result(&mut self, tid: u32, value: u32)
+        ensures { (s : State) → with_threads self.new s
+            ≡ change_thread tid (set_register 10 value) (with_threads self.old s) }
+    {
+        put_result(&mut self.threads, tid, value);
     }
 
     /// A running thread leaves the list. Refused with NotThere exactly where no such thread runs. It takes no memory.
@@ -119,8 +152,8 @@ impl Threads {
         ensures { result ≡ waits_at (alone self.now) address tid }
     {
         match self.get(tid) {
-            Some(thread) => match thread.waits_at {
-                Some(at) => address == at,
+            Some(thread) => match thread.wait {
+                Some(wait) => address == wait.address,
                 None => false,
             },
             None => false,
@@ -143,6 +176,6 @@ impl Threads {
         ensures { (s : State) → with_threads self.new s ≡ woken (with_threads self.old s) tid }
     {
         take_out(&mut self.waiting, tid);
-        put_waits_at(&mut self.threads, tid, None);
+        put_wait(&mut self.threads, tid, None);
     }
 }

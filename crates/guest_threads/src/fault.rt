@@ -8,12 +8,15 @@ pub enum ThreadFault {
     /// As many threads live as a guest may have, or no tid is left.
     #[error("too many threads")]
     TooMany,
-    /// No such thread runs.
+    /// There is no such thread, or it doesn't run though it has to.
     #[error("no such thread")]
     NotThere,
     /// A growth was refused.
     #[error("out of memory")]
     Memory,
+    /// The thread doesn't wait with a timeout.
+    #[error("no timed wait")]
+    NotTimed,
 }
 
 /// Why no threads were made of parts.

@@ -4,14 +4,15 @@
 //!
 //! # Contracts
 //!
-//! The threads of a guest. Its invariant is the rules of a state: at most 16 live, no tid used again, each waiting thread once
-//! in the waiting order.
+//! The threads of a guest, with its version. Its invariant is the rules of a state: at most as many live as the version allows,
+//! timeouts only where it has them, no tid used again, each waiting thread once in the waiting order.
 //!
-//! - `spawn`, `wait`, `wake`, `exit`: the changes of the definitions. Each refusal comes exactly if it applies, out of memory
+//! - `spawn`, `wait`, `wake`, `exit`, `expire`: the changes of the definitions. Each refusal comes exactly if it applies, out of memory
 //!   aside.
 //! - `from_parts`: the threads that a checkpoint has. Refused exactly if no state has such threads, out of memory aside.
 //! - `to_parts`: the threads as a checkpoint has them; `from_parts` of them gives the same threads.
-//! - `running`, `has_running`: the tids of the threads that run, and whether one does.
+//! - `running`, `has_running`: the tids of the threads that run, and whether one does. `has_timed`: whether one waits with a
+//!   timeout.
 #![tactic(auto)]
 
 mod by_tid;

@@ -2,15 +2,15 @@
 
 ghost use Rattle.std.specs.Prelude.{◌≡◌, ◌↔◌, ◌==◌, ◌<◌, ◌^◌, All, IfSome, IsTrue, IfOk, IfErr, OnOk, find};
 ghost use Rattle.std.specs.List.{AllByRecursion};
-ghost use Rattle.rrv_model.specs.State.{State, IsThread, AreRegs};
+ghost use Rattle.rrv_model.specs.State.{State, IsThread, IsTimeout, IsWait, AreRegs};
 ghost use Rattle.guest_threads.specs.Threads.{thread_map, with_threads};
 ghost use Rattle.guest_threads.specs.ThreadParts.{entries_of, with_parts, tids_rise, waits_in, order_fits, Fits, MakeThreads, IsPartsRefusal};
 
 use crate::by_tid::add_thread;
 use crate::fault::PartsFault;
 use crate::threads::Threads;
-use rrv_model::limits::{MAX_THREADS, MAX_TID};
-use rrv_model::machine::{Regs, Thread};
+use rrv_model::limits::MAX_TID;
+use rrv_model::machine::{FutexWait, Regs, Thread, Timeout, Version};
 use rrv_model::record::ThreadPart;
 use rrv_model::refusal::Memory;
 use std::alloc::Global;
@@ -21,16 +21,17 @@ impl Threads {
     /// where the tids don't rise or no state has these threads, else with Memory where a growth is refused.
     pub fn from_parts(
         alloc: Global,
+        version: Version,
         threads: &[ThreadPart],
         waiting: &[u32],
         next_tid: u32,
     ) -> Result<Threads, PartsFault>
         ensures made { IfOk result (λ made. (s : State)
-            → with_threads made s ≡ with_parts threads.now waiting.now next_tid s) }
-        ensures rules { OnOk result (MakeThreads threads.now waiting.now next_tid) }
-        ensures refused { IfErr result (λ fault. IsPartsRefusal fault threads.now waiting.now next_tid) }
+            → with_threads made s ≡ with_parts version threads.now waiting.now next_tid s) }
+        ensures rules { OnOk result (MakeThreads version threads.now waiting.now next_tid) }
+        ensures refused { IfErr result (λ fault. IsPartsRefusal fault version threads.now waiting.now next_tid) }
     {
-        if !make_threads(threads, waiting, next_tid) {
+        if !make_threads(version, threads, waiting, next_tid) {
             return Err(PartsFault::NoState);
         }
         let Ok(by_tid) = collect_threads(alloc, threads) else {
@@ -40,6 +41,7 @@ impl Threads {
             return Err(PartsFault::Memory);
         };
         Ok(Threads {
+            version,
             threads: by_tid,
             waiting: order,
             next_tid,
@@ -49,8 +51,10 @@ impl Threads {
     /// The threads as a checkpoint tells them, by rising tid. Refused where a growth is.
     pub fn to_parts(&self, alloc: Global) -> Result<Vec<ThreadPart>, Memory>
         ensures told { IfOk result (λ parts. (s : State)
-            → with_parts parts.items self.now.waiting self.now.next_tid s ≡ with_threads self.now s) }
-        ensures rules { IfOk result (λ parts. MakeThreads parts.items self.now.waiting self.now.next_tid) }
+            → with_parts self.now.version parts.items self.now.waiting self.now.next_tid s
+            ≡ with_threads self.now s) }
+        ensures rules { IfOk result (λ parts.
+            MakeThreads self.now.version parts.items self.now.waiting self.now.next_tid) }
     {
         // the tids rise, which a map's length tells
         let _ordered = self.threads.len();
@@ -77,10 +81,10 @@ fn list_parts(alloc: Global, threads: &BTreeMap<u32, Thread>) -> Result<Vec<Thre
 }
 
 /// Tests whether a state may have these threads, told by rising tid.
-fn make_threads(threads: &[ThreadPart], waiting: &[u32], next_tid: u32) -> bool
-    ensures { IsTrue result ↔ MakeThreads threads.now waiting.now next_tid }
+fn make_threads(version: Version, threads: &[ThreadPart], waiting: &[u32], next_tid: u32) -> bool
+    ensures { IsTrue result ↔ MakeThreads version threads.now waiting.now next_tid }
 {
-    if threads.len() > MAX_THREADS as usize {
+    if threads.len() > version.live_threads() as usize {
         return false;
     }
     if next_tid < 1 {
@@ -92,7 +96,7 @@ fn make_threads(threads: &[ThreadPart], waiting: &[u32], next_tid: u32) -> bool
     if !tids_rise(threads) {
         return false;
     }
-    if !threads_fit(threads, waiting, next_tid) {
+    if !threads_fit(version, threads, waiting, next_tid) {
         return false;
     }
     order_fits(threads, waiting)
@@ -115,12 +119,12 @@ fn tids_rise(threads: &[ThreadPart]) -> bool
 }
 
 /// Tests whether each thread fits.
-fn threads_fit(threads: &[ThreadPart], waiting: &[u32], next_tid: u32) -> bool
-    ensures { IsTrue result ↔ AllByRecursion (Fits waiting.now next_tid) threads.now }
+fn threads_fit(version: Version, threads: &[ThreadPart], waiting: &[u32], next_tid: u32) -> bool
+    ensures { IsTrue result ↔ AllByRecursion (Fits version waiting.now next_tid) threads.now }
 {
     let mut left = threads;
     while let [first, after @ ..] = left {
-        if !part_fits(first, waiting, next_tid) {
+        if !part_fits(version, first, waiting, next_tid) {
             return false;
         }
         left = after;
@@ -130,23 +134,27 @@ fn threads_fit(threads: &[ThreadPart], waiting: &[u32], next_tid: u32) -> bool
 
 /// Tests whether the tid is at least 1 and below the next one, the thread is one of a guest, and the waiting order names it
 /// where it waits.
-fn part_fits(part: &ThreadPart, waiting: &[u32], next_tid: u32) -> bool
-    ensures { IsTrue result ↔ Fits waiting.now next_tid part.now }
+fn part_fits(version: Version, part: &ThreadPart, waiting: &[u32], next_tid: u32) -> bool
+    ensures { IsTrue result ↔ Fits version waiting.now next_tid part.now }
 {
     if part.tid < 1 || part.tid >= next_tid {
         return false;
     }
-    if part.thread.waits_at.is_some() && !waiting.contains(&part.tid) {
+    if part.thread.wait.is_some() && !waiting.contains(&part.tid) {
         return false;
     }
-    is_thread(&part.thread)
+    is_thread(version, &part.thread)
 }
 
-/// Tests whether it is a thread of a guest: x0 is 0.
-fn is_thread(thread: &Thread) -> bool
-    ensures { IsTrue result ↔ IsThread thread.now }
+/// Tests whether it is a thread of a guest of a version: x0 is 0, and its wait has a timeout only where the version has them.
+fn is_thread(version: Version, thread: &Thread) -> bool
+    ensures { IsTrue result ↔ IsThread version thread.now }
 {
-    is_place(thread.waits_at);
+    if let Some(wait) = &thread.wait
+        && !is_wait(version, wait)
+    {
+        return false;
+    }
     // it is below 2^32, which reading it tells
     let _clear = thread.clear;
     are_regs(&thread.regs)
@@ -162,11 +170,26 @@ fn are_regs(regs: &Regs) -> bool
     regs.registers[0] == 0
 }
 
-/// A law: an address is below 2^32.
-fn is_place(place: Option<u32>)
-    ensures { IfSome place (λ a. a < 2 ^ 32) }
+/// Tests whether a guest of a version may wait so.
+fn is_wait(version: Version, wait: &FutexWait) -> bool
+    ensures { IsTrue result ↔ IsWait version wait.now }
 {
-    if let Some(_address) = place {}
+    // it is below 2^32, which reading it tells
+    let _address = wait.address;
+    match &wait.timeout {
+        Some(timeout) => is_timeout(version, timeout),
+        None => true,
+    }
+}
+
+/// Tests whether a wait of a version may have this timeout.
+fn is_timeout(version: Version, timeout: &Timeout) -> bool
+    ensures { IsTrue result ↔ IsTimeout version timeout.now }
+{
+    match version {
+        Version::One => false,
+        Version::Two => timeout.seconds < 1 << 63 && timeout.nanoseconds < 1_000_000_000,
+    }
 }
 
 /// A law: words are below 2^32.
@@ -193,7 +216,7 @@ fn waits_among(threads: &[ThreadPart], tid: u32) -> bool
     ensures { result ≡ waits_in (find (λ p. p.tid == tid) threads.now) }
 {
     match first_part(threads, tid) {
-        Some(part) => part.thread.waits_at.is_some(),
+        Some(part) => part.thread.wait.is_some(),
         None => false,
     }
 }

@@ -3,14 +3,14 @@
 ghost use Rattle.std.specs.Prelude.{◌≡◌, ◌↔◌, ℕ, ◌<◌, ◌≤◌, IsTrue, IfSome, OnSome, IfOk, OnErr, Contains, [], Some, None};
 ghost use Rattle.std.specs.FinMap.{insert, empty};
 ghost use Rattle.std.specs.List.Sorted.{IsStrictlyIncreasing};
-ghost use Rattle.rrv_model.specs.State.{State, IsThread, IsRunning};
+ghost use Rattle.rrv_model.specs.State.{State, IsThread, IsRunning, IsTimed};
 
 use crate::by_tid::{
     add_thread, clone_threads, count_threads, find_thread, running_tids, same_threads,
-    some_thread_runs,
+    some_thread_runs, some_wait_is_timed,
 };
-use rrv_model::limits::{MAX_THREADS, MAX_TID};
-use rrv_model::machine::Thread;
+use rrv_model::limits::MAX_TID;
+use rrv_model::machine::{Thread, Version};
 use rrv_model::refusal::Memory;
 use std::alloc::Global;
 use std::collections::BTreeMap;
@@ -18,6 +18,7 @@ use std::marker::Model;
 
 /// The threads of a guest: by tid, with the waiting order and the next tid.
 pub struct Threads {
+    pub(crate) version: Version,
     pub(crate) threads: BTreeMap<u32, Thread>,
     /// The tids of the waiting threads, in the waiting order.
     pub(crate) waiting: Vec<u32>,
@@ -30,15 +31,21 @@ impl Model for Threads {
 
     ghost Value = { ThreadsValue };
 
-    ghost view = { λ a. record { threads = a.threads.entries; waiting = a.waiting.items; next_tid = a.next_tid } };
+    ghost view = { λ a. record {
+      version = a.version;
+      threads = a.threads.entries;
+      waiting = a.waiting.items;
+      next_tid = a.next_tid;
+    } };
 
-    ghost invariant = { λ a. AreThreads (thread_map a.threads.entries) a.waiting.items a.next_tid };
+    ghost invariant = { λ a. AreThreads a.version (thread_map a.threads.entries) a.waiting.items a.next_tid };
 }
 
 // Written out: where one goes, a proof has one call, and not one for each of its parts.
 impl Drop for Threads {
     fn drop(self) {
         let Threads {
+            version: _,
             threads: _,
             waiting: _,
             next_tid: _,
@@ -50,15 +57,16 @@ impl Threads {
     ghost use Rattle.guest_threads.specs.Threads.{with_threads, thread_in, live_count, is_full, KeepRules};
 
     /// A guest's first thread, which runs under tid 1.
-    pub fn open(alloc: Global, first: Thread) -> Result<Threads, Memory>
-        requires fits { IsThread first }
-        requires runs { first.waits_at ≡ None }
+    pub fn open(alloc: Global, version: Version, first: Thread) -> Result<Threads, Memory>
+        requires fits { IsThread version first }
+        requires runs { first.wait ≡ None }
         ensures { IfOk result (λ threads. (s : State) → with_threads threads s
-            ≡ record s { threads = insert empty 1 first; waiting = []; next_tid = 2 }) }
+            ≡ record s { version = version; threads = insert empty 1 first; waiting = []; next_tid = 2 }) }
     {
         let mut threads = BTreeMap::new(alloc);
         match add_thread(&mut threads, 1, first) {
             Ok(()) => Ok(Threads {
+                version,
                 threads,
                 waiting: Vec::new(alloc),
                 next_tid: 2,
@@ -72,17 +80,25 @@ impl Threads {
         ensures { IfOk result (λ threads. threads ≡ self.now) }
     {
         Ok(Threads {
+            version: self.version,
             threads: clone_threads(&self.threads)?,
             waiting: self.waiting().to_vec(alloc)?,
             next_tid: self.next_tid,
         })
     }
 
+    /// The version of their guest.
+    pub fn version(&self) -> Version
+        ensures { result ≡ self.now.version }
+    {
+        self.version
+    }
+
     /// A thread, by its tid.
     #[inline]
     pub fn get(&self, tid: u32) -> Option<Thread>
         ensures value { result ≡ thread_in self.now tid }
-        ensures fits { IfSome result IsThread }
+        ensures fits { IfSome result (IsThread self.now.version) }
         ensures tid { OnSome result ((1 ≤ tid) × (tid < self.now.next_tid)) }
     {
         find_thread(&self.threads, tid)
@@ -95,7 +111,7 @@ impl Threads {
         ensures tid { IsTrue result → (1 ≤ tid) × (tid < self.now.next_tid) }
     {
         match self.get(tid) {
-            Some(thread) => thread.waits_at.is_none(),
+            Some(thread) => thread.wait.is_none(),
             None => false,
         }
     }
@@ -105,6 +121,13 @@ impl Threads {
         ensures { IsTrue result ↔ ((tid : ℕ) × IsRunning (thread_in self.now tid)) }
     {
         some_thread_runs(&self.threads)
+    }
+
+    /// Tests whether some thread waits with a timeout.
+    pub fn has_timed(&self) -> bool
+        ensures { IsTrue result ↔ ((tid : ℕ) × IsTimed (thread_in self.now tid)) }
+    {
+        some_wait_is_timed(&self.threads)
     }
 
     /// The tids of the threads that run, rising. Refused only for want of memory, where some thread runs.
@@ -136,7 +159,8 @@ impl Threads {
     pub fn is_full(&self) -> bool
         ensures { result ≡ is_full self.now }
     {
-        count_threads(&self.threads) >= MAX_THREADS as usize || self.next_tid > MAX_TID
+        count_threads(&self.threads) >= self.version.live_threads() as usize
+            || self.next_tid > MAX_TID
     }
 
     /// The tid of the thread that is made next; 2^31 where none is left.
@@ -157,6 +181,9 @@ impl Threads {
     pub fn same(&self, other: &Threads) -> bool
         ensures { IsTrue result ↔ ((s : State) → with_threads self.now s ≡ with_threads other.now s) }
     {
+        if self.version != other.version {
+            return false;
+        }
         same_threads(&self.threads, &other.threads)
             && self.waiting == other.waiting
             && self.next_tid == other.next_tid

@@ -6,7 +6,7 @@ use elf_load::parse;
 use guest_buffers::{join_buffers, list_buffers, total_len};
 use guest_opening::{open_space, opening_keeps_rules, opening_thread};
 use guest_pages::{AddressSpace, PageFault, PageView, Space};
-use rrv_model::machine::Permissions;
+use rrv_model::machine::{Permissions, Version};
 use std::alloc::Global;
 use test_guests::bytes::bytes_of;
 use test_guests::files::{EXIT_FIVE, file_of};
@@ -239,7 +239,7 @@ impl Pages {
     fn open(&mut self, alloc: Global) -> Option<String> {
         let elf = file_of(alloc, &EXIT_FIVE).ok()?;
         let image = parse(alloc, &elf).ok()?;
-        opening_keeps_rules(&image, b"a", &[7; 16]);
+        opening_keeps_rules(Version::One, &image, b"a", &[7; 16]);
         self.space = open_space(alloc, &image, b"a", &[7; 16]).ok()?;
         let regs = opening_thread(&image, b"a").regs;
         let (pc, stack) = (regs.pc, regs.registers[2]);

@@ -1,6 +1,7 @@
 //! A guest of one thread, recorded with checkpoints.
 
 use crate::limits::{CHOICE, SLICES};
+use rrv_model::machine::Version;
 use rrv_model::record::{Item, Record};
 use serial_sched::slice;
 use std::alloc::Global;
@@ -28,9 +29,9 @@ fn add_checkpoint(alloc: Global, recorded: &mut Recorded, records: &mut Vec<Reco
 
 /// Records a program's slices up to its end, with checkpoints so many instructions apart at the least, or none where that is 0.
 pub fn record_with_checkpoints(alloc: Global, elf: &[u8], every: u64) -> Option<Vec<Record>> {
-    let mut recorded = Recorded::start(alloc, elf)?;
+    let mut recorded = Recorded::start(alloc, Version::One, elf)?;
     let mut records = Vec::new(alloc);
-    add(&mut records, opening_of(alloc, elf)?)?;
+    add(&mut records, opening_of(alloc, Version::One, elf)?)?;
     let mut last = 0;
     for _ in 0..SLICES {
         let frame = slice(alloc, &mut recorded.guest, CHOICE, &mut Nothing).ok()?;

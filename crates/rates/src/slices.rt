@@ -4,6 +4,7 @@ use crate::runs::{follow_all, record_frames};
 use crate::words::number_and_file;
 use elf_load::{Image, parse};
 use guest_calls::Guest;
+use rrv_model::machine::Version;
 use rrv_model::record::Frame;
 use std::alloc::Global;
 use std::rt::Files;
@@ -22,7 +23,7 @@ struct Outcome {
 }
 
 fn opened(alloc: Global, image: &Image) -> Option<Guest> {
-    Guest::open(alloc, image, b"g0", [0; 16]).ok()
+    Guest::open(alloc, Version::One, image, b"g0", [0; 16]).ok()
 }
 
 /// Follows frames from an opening on, so many times, and answers how many instructions that ran.

@@ -5,6 +5,7 @@ use crate::limits::{QUANTUM, SLICES};
 use crate::words::file_or;
 use elf_load::parse;
 use guest_calls::{Guest, RunEnd};
+use rrv_model::machine::Version;
 use std::alloc::Global;
 use std::rt::Files;
 
@@ -40,7 +41,7 @@ fn run_guest(guest: &mut Guest) -> Outcome {
 /// Runs the program of these bytes; None where it is refused or there is no memory.
 fn run_program(alloc: Global, elf: &[u8]) -> Option<Outcome> {
     let image = parse(alloc, elf).ok()?;
-    let mut guest = Guest::open(alloc, &image, b"g0", [0; 16]).ok()?;
+    let mut guest = Guest::open(alloc, Version::One, &image, b"g0", [0; 16]).ok()?;
     Some(run_guest(&mut guest))
 }
 

@@ -10,3 +10,5 @@ pub mod Sliced
 pub mod PutMore
 pub mod Parted
 pub mod Kept
+pub mod Begun
+pub mod DeadlineLists

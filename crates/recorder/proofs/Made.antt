@@ -38,7 +38,8 @@ released_more old new put seen same seen_is rises low leaves out has = record {
 -- ---- calls one behind the other
 
 pub keeps_none : (r : GuestRecorder) → KeepsMade r r
-keeps_none r = record { made_is = refl; guest = refl; group = refl; place = refl; here = refl; checkpoints = (refl, refl) }
+keeps_none r =
+    record { made_is = refl; guest = refl; group = refl; place = refl; here = refl; checkpoints = (refl, refl); deadlines = (refl, refl) }
 
 pub keeps_both : (a b c : GuestRecorder) → KeepsMade a b → KeepsMade b c → KeepsMade a c
 keeps_both a b c h k = record {
@@ -48,6 +49,7 @@ keeps_both a b c h k = record {
   place = k.place ∙ h.place;
   here = k.here ∙ h.here;
   checkpoints = (k.checkpoints.0 ∙ h.checkpoints.0, k.checkpoints.1 ∙ h.checkpoints.1);
+  deadlines = (k.deadlines.0 ∙ h.deadlines.0, k.deadlines.1 ∙ h.deadlines.1);
 }
 
 pub keeps_sent : (a b : GuestRecorder) → SendsSome a b → KeepsMade a b
@@ -58,6 +60,7 @@ keeps_sent a b h = record {
   place = ap (λ (q : RecorderValue). q.guest) h.seat;
   here = ap (λ (q : RecorderValue). q.has_left) h.seat;
   checkpoints = h.checkpoints;
+  deadlines = h.deadlines;
 }
 
 pub keeps_released : (a b : GuestRecorder) → OnlyReleases a b → KeepsMade a b
@@ -68,6 +71,7 @@ keeps_released a b h = record {
   place = ap (λ (q : RecorderValue). q.guest) h.looks;
   here = ap (λ (q : RecorderValue). q.has_left) h.looks;
   checkpoints = h.checkpoints;
+  deadlines = h.deadlines;
 }
 
 pub looks_once : (a b c : GuestRecorder) → SendsSome a b → OnlyReleases b c → c.seat.looks ≡ a.seat.looks + 1

@@ -1,5 +1,5 @@
 -- A recorder's calls are events.
-use Rattle.std.proofs.Common.{◌≡◌, ℕ, zero, suc, ◌+◌, ◌<◌, ◌≤◌, List, [], ◌∷◌, ◌++◌, length, map, min, take, refl, sym, ap, ◌∙◌, subst, arith, append_assoc}
+use Rattle.std.proofs.Common.{◌≡◌, ℕ, zero, suc, ◌+◌, ◌≤◌, List, [], ◌∷◌, ◌++◌, length, map, min, take, refl, sym, ap, ◌∙◌, subst, arith, append_assoc}
 use Rattle.std.proofs.lemmas.List.{append-nil, append_cancel_left, length-map, map-append, map_push}
 use Rattle.rrv_model.specs.declared.limits.TheConstants.{MAX_NUMBER}
 use Rattle.rrv_model.specs.declared.record.Choice.{Choice}
@@ -212,7 +212,7 @@ module _ {O : Type 0} (gives : Gives O) (old new : GuestRecorder) (choice : Choi
   all_recorded =
       subst (λ (x : ℕ × List Record). IsRecorded x.0 x.1 end)
       (λ i. ((ap (λ (q : RecorderValue). q.guest) seats) i, (made_all ∙ ap (λ (l : List Record). (made old ++ f ∷ []) ++ l) prs_are) i))
-      recorded
+      recorded.recorded
 
   frame_recorded : IsRecorded at (made old ++ f ∷ []) end
   frame_recorded =

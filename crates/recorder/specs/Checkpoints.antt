@@ -47,6 +47,7 @@ pub record HasBase (its : List Item) (guest : GuestValue) (c : Checkpoints) : Ty
   pub is_state : IsState base
   pub behind : StandsBehind its base [] (state_of guest)
   pub kept : guest_snapshots guest c.base ≡ Some base.memory
+  pub version : base.version ≡ (state_of guest).version
   pub opening_break : base.opening_break ≡ (state_of guest).opening_break
 
 abbrev pub KeepsBase : Option Checkpoints → List Item → GuestValue → Type 0

@@ -1,15 +1,19 @@
 -- What the calls of a guest's recorder do.
-use Rattle.std.specs.Prelude.{◌≡◌, ◌≢◌, ◌↔◌, ℕ, ◌+◌, ◌<◌, ◌≤◌, true, false, IsSome, IfErr, Result, List, [], ◌∷◌, ◌++◌, length, map, Option, None}
+use Rattle.std.specs.Prelude.{◌≡◌, ◌≢◌, ◌↔◌, ◌⊎◌, ℕ, ◌+◌, ◌<◌, ◌≤◌, true, false, IsSome, IfErr, MatchOption, Result, List, [], ◌∷◌, ◌++◌, length, map, Option, None, Some}
+use Rattle.std.specs.Option.{unwrap_or}
 use Rattle.std.specs.List.{AllByRecursion}
 use Rattle.rrv_model.specs.declared.limits.TheConstants.{MAX_NUMBER}
 use Rattle.rrv_model.specs.declared.record.Choice.{Choice}
+use Rattle.rrv_model.specs.declared.machine.Timeout.{Timeout}
 use Rattle.rrv_model.specs.declared.record.End.{End}
+use Rattle.rrv_model.specs.declared.record.End.TheVariants.{Expire}
 use Rattle.rrv_model.specs.declared.record.Frame.{Frame}
 use Rattle.rrv_model.specs.declared.record.CheckpointRest.{CheckpointRest}
 use Rattle.rrv_model.specs.declared.record.Item.{Item}
 use Rattle.rrv_model.specs.declared.record.Item.TheVariants as items
 use Rattle.rrv_model.specs.declared.record.Part.{Part}
 use Rattle.rrv_model.specs.declared.record.Record.{Record}
+use Rattle.rrv_model.specs.Calls.{Time}
 use Rattle.rrv_model.specs.Checkpoint.{EndsWithRest, all_pages}
 use Rattle.recorder.specs.declared.checkpoints.Parts.{Parts}
 use Rattle.recorder.specs.declared.checkpoints.Parts.TheVariants as outcomes
@@ -25,6 +29,7 @@ use Rattle.rrv_model.specs.Recovered.{OpensAtZero}
 use Rattle.rrv_model.specs.State.{State, thread_at, IsRunning}
 use Rattle.rrv_model.specs.Step.{ThreadMayTakeMemory}
 use Rattle.guest_calls.specs.declared.put.Put.{Put}
+use Rattle.guest_calls.specs.Asking.{Clock}
 use Rattle.guest_calls.specs.Guest.{GuestValue, chunks_of, state_of}
 use Rattle.guest_calls.specs.Openings as guests
 use Rattle.guest_calls.specs.declared.fault.OpeningFault.TheVariants as opening_faults
@@ -32,11 +37,12 @@ use Rattle.checkpoint.specs.Made.{NamesChanges}
 use Rattle.serial_sched.specs.declared.fault.SliceFault.{SliceFault}
 use Rattle.serial_sched.specs.declared.fault.SliceFault.TheVariants as slice_faults
 use Rattle.serial_sched.specs.Asking.{Gives}
-use Rattle.serial_sched.specs.Slices.{IsLive, IsQuantum, IsSliceOf, NextMayGrow}
+use Rattle.serial_sched.specs.Slices.{IsAsleep, IsFrameOf, IsLive, IsQuantum, IsSliceOf, NextMayGrow}
 use Rattle.commit_group.specs.Seats.{RecorderValue, next_record}
 use Rattle.commit_group.specs.Submits.{after_look}
 use Rattle.recorder.specs.declared.fault.RecorderFault.{RecorderFault}
 use Rattle.recorder.specs.declared.fault.RecorderFault.TheVariants as faults
+use Rattle.recorder.specs.Deadlines as timed
 use Rattle.recorder.specs.Owed.{bytes_of, count_of}
 use Rattle.recorder.specs.Recorders.{GuestRecorder, HasPut, backlog_of, made, records_from}
 
@@ -56,6 +62,8 @@ RefusesSlice s choice slice_faults.Ended = IsSome s.ended
 RefusesSlice s choice slice_faults.BadQuantum = IsLive s × ¬ IsQuantum choice.quantum
 RefusesSlice s choice slice_faults.NotRunnable =
     IsLive s × IsQuantum choice.quantum × ¬ IsRunning (thread_at s choice.tid)
+RefusesSlice s choice slice_faults.Waiting = IsAsleep s
+RefusesSlice s choice slice_faults.NotTimed = ⊥
 RefusesSlice s choice slice_faults.Memory = ThreadMayTakeMemory s choice.tid × NextMayGrow s choice.tid
 
 -- a frame's output: what its call kept, else nothing
@@ -75,15 +83,70 @@ pub record Slices {O : Type 0} (gives : Gives O) (old : GuestValue) (choice : Ch
   pub kept : Option Put
   pub slice : IsSliceOf gives old choice f (record new { put = kept }) before after
 
+-- ---- step: deadlines
+
+-- the monotonic clock was asked once, and gave this, in nanoseconds
+pub record AsksMoment {O : Type 0} (gives : Gives O) (asked : Option ℕ) (before after : O) : Type 0 where
+  pub seconds : ℕ
+  pub nanoseconds : ℕ
+  pub given : gives before (Clock 1) (Time seconds nanoseconds) after
+  pub asked_is : asked ≡ Some (timed.moment_of seconds nanoseconds)
+
+-- before a slice a recorder asks the monotonic clock once, where some wait is timed, and not else
+abbrev pub AsksNow : {O : Type 0} → Gives O → List (ℕ × ℕ) → Option ℕ → O → O → Type 0
+AsksNow gives [] asked before between = (asked ≡ None) × (between ≡ before)
+AsksNow gives (d ∷ ds) asked before between = AsksMoment gives asked before between
+
+-- the clock was asked where some wait is timed, and its answer noted; this thread has come due, or none
+pub record FindsDue {O : Type 0} (gives : Gives O) (ds : List (ℕ × ℕ)) (clock : ℕ) (found : Option ℕ) (clock' : ℕ)
+    (before after : O) : Type 0 where
+  pub asked : Option ℕ
+  pub asks : AsksNow gives ds asked before after
+  pub found_is : found ≡ timed.due ds asked
+  pub clock_is : clock' ≡ unwrap_or asked clock
+
+-- the frame is an expiry of this thread's wait; nobody is asked by it
+pub record ExpiresNow (old : GuestValue) (tid : ℕ) (f : Frame) (new : GuestValue) : Type 0 where
+  pub expiry : f ≡ record { tid = tid; count = 0; end = Expire }
+  pub is_frame : IsFrameOf old f new
+
+-- the frame is an expiry of the thread that is due; else it is the slice of this choice
+abbrev pub IsStep : {O : Type 0} → Gives O → GuestValue → Choice → Frame → GuestValue → Option ℕ → O → O → Type 0
+IsStep gives old choice f new (Some tid) before after = ExpiresNow old tid f new × (after ≡ before)
+IsStep gives old choice f new None before after = Slices gives old choice f new before after
+
+-- The timeout with which a frame's thread waits behind it. Before the frame it ran, or the frame is the expiry of its wait, so
+-- that it began this wait by the frame.
+abbrev pub began : ℕ → State → Option Timeout
+began tid s = timed.timeout_of (thread_at s tid)
+
+-- Behind a frame by which a thread began a timed wait the clock is asked again, and its deadline is that answer plus its
+-- timeout. The others are as before, but for those of waits that are over.
+abbrev pub Notes : {O : Type 0} → Gives O → ℕ → State → List (ℕ × ℕ) → ℕ → List (ℕ × ℕ) → ℕ → O → O → Type 0
+Notes gives tid s old clock new clock' before after = MatchOption (began tid s)
+    ((new ≡ timed.kept s old) × (clock' ≡ clock) × (after ≡ before))
+    (λ timeout. AsksMoment gives (Some clock') before after
+    × (new ≡ timed.put tid (clock' + timed.length_of timeout) (timed.kept s old)))
+
 -- checkpoints are as far apart, and the last is the same
 abbrev pub KeepsCheckpoints : GuestRecorder → GuestRecorder → Type 0
 KeepsCheckpoints old new = (new.every ≡ old.every) × (new.last ≡ old.last)
 
--- One frame more was made, which is the slice of this choice. What had left is all the same.
+-- the deadlines are the same, and the last answer of the clock
+abbrev pub KeepsDeadlines : GuestRecorder → GuestRecorder → Type 0
+KeepsDeadlines old new = (new.deadlines ≡ old.deadlines) × (new.clock ≡ old.clock)
+
+-- One frame more was made: the expiry of a wait that is over, or the slice of this choice. What had left is all the same.
 pub record MakesFrame {O : Type 0} (gives : Gives O) (old : GuestRecorder) (choice : Choice) (new : GuestRecorder)
     (before after : O) : Type 0 where
   pub frame : Frame
-  pub slice : Slices gives old.guest choice frame new.guest before after
+  pub asked : Option ℕ
+  pub between : O
+  pub middle : O
+  pub asks : AsksNow gives old.deadlines asked before between
+  pub step : IsStep gives old.guest choice frame new.guest (timed.due old.deadlines asked) between middle
+  pub notes : Notes gives frame.tid (state_of new.guest) old.deadlines (unwrap_or asked old.clock) new.deadlines new.clock
+      middle after
   pub made_is : made new ≡ made old ++ frame_record old.seat.guest (length (made old)) frame ∷ []
   pub seat : new.seat ≡ old.seat
   pub released : new.owed.released ≡ old.owed.released
@@ -116,6 +179,7 @@ pub record KeepsParts (old : GuestRecorder) (outcome : Parts) (new : GuestRecord
   pub released : new.owed.released ≡ old.owed.released
   pub every : new.every ≡ old.every
   pub guest : (state_of new.guest ≡ state_of old.guest) × (new.guest.ran ≡ old.guest.ran)
+  pub deadlines : KeepsDeadlines old new
   pub has_put : (out : List (ℕ × ℕ)) → HasPut old out → HasPut new out
 
 -- One frame more was made, and behind it the parts of a checkpoint as this tells.
@@ -130,10 +194,37 @@ pub record HasPlace (r : GuestRecorder) : Type 0 where
   pub all_sent : r.backlog ≡ []
   pub few : length r.seat.sent < MAX_NUMBER + 1
 
--- there was a place for a frame, and no slice of this choice would be refused but for memory
-pub record MayStep (r : GuestRecorder) (choice : Choice) : Type 0 where
+-- the clock was asked where some wait is timed, and no thread has come due
+pub record NoneIsDue {O : Type 0} (gives : Gives O) (r : GuestRecorder) (before after : O) : Type 0 where
+  pub asked : Option ℕ
+  pub asks : AsksNow gives r.deadlines asked before after
+  pub none : timed.due r.deadlines asked ≡ None
+
+-- so it is where a slice is refused; of a guest that has ended the clock isn't asked
+abbrev pub AsksRefusedSlice : {O : Type 0} → Gives O → GuestRecorder → O → O → SliceFault → Type 0
+AsksRefusedSlice gives r before after slice_faults.Ended = after ≡ before
+AsksRefusedSlice gives r before after _ = NoneIsDue gives r before after
+
+-- what a refused step asked of the clock: nothing where there was no place for its frame
+abbrev pub AsksRefused : {O : Type 0} → Gives O → GuestRecorder → O → O → RecorderFault → Type 0
+AsksRefused gives r before after faults.Full = after ≡ before
+AsksRefused gives r before after faults.TooManyRecords = after ≡ before
+AsksRefused gives r before after (faults.Refused fault) = AsksRefusedSlice gives r before after fault
+AsksRefused gives r before after _ = Unit {0}
+
+-- no slice of this choice would be refused but for memory
+abbrev pub MaySlice : State → Choice → Type 0
+MaySlice s choice = (fault : SliceFault) → fault ≢ slice_faults.Memory → ¬ RefusesSlice s choice fault
+
+-- There was a place for a frame, in a guest that hasn't ended, and the slice of this choice isn't refused where no thread is
+-- due.
+pub record MayStep {O : Type 0} (gives : Gives O) (r : GuestRecorder) (choice : Choice) (before : O) : Type 0 where
   pub place : HasPlace r
-  pub slice : (fault : SliceFault) → fault ≢ slice_faults.Memory → ¬ RefusesSlice (state_of r.guest) choice fault
+  pub runs : (state_of r.guest).ended ≡ None
+  pub asked : Option ℕ
+  pub between : O
+  pub asks : AsksNow gives r.deadlines asked before between
+  pub slice : timed.due r.deadlines asked ≡ None → MaySlice (state_of r.guest) choice
 
 -- why no frame was made
 abbrev pub RefusesStep : GuestRecorder → Choice → RecorderFault → Type 0
@@ -144,8 +235,8 @@ RefusesStep r choice (faults.Refused fault) =
     HasPlace r × (fault ≢ slice_faults.Memory) × RefusesSlice (state_of r.guest) choice fault
 RefusesStep r choice _ = ⊥
 
--- nothing was made
-pub record IsUnmoved {O : Type 0} (old new : GuestRecorder) (before after : O) : Type 0 where
+-- nothing was made; the clock may have been asked
+pub record IsUnmoved {O : Type 0} (gives : Gives O) (old new : GuestRecorder) (before after : O) : Type 0 where
   pub seat : new.seat ≡ old.seat
   pub backlog : new.backlog ≡ old.backlog
   pub owed : (new.owed.released ≡ old.owed.released) × (new.owed.owed ≡ old.owed.owed)
@@ -153,7 +244,10 @@ pub record IsUnmoved {O : Type 0} (old new : GuestRecorder) (before after : O) :
   pub ran : new.guest.ran ≡ old.guest.ran
   pub put : new.guest.put ≡ old.guest.put
   pub checkpoints : KeepsCheckpoints old new
-  pub environment : after ≡ before
+  pub deadlines : new.deadlines ≡ old.deadlines
+  pub environment : (asked : Option ℕ)
+      × (AsksNow gives old.deadlines asked before after ⊎ ((asked ≡ None) × (after ≡ before)))
+      × (new.clock ≡ unwrap_or asked old.clock)
 
 -- ---- send
 
@@ -183,6 +277,7 @@ pub record SendsSome (old new : GuestRecorder) : Type 0 where
   pub owed : new.owed ≡ old.owed
   pub guest : new.guest ≡ old.guest
   pub checkpoints : KeepsCheckpoints old new
+  pub deadlines : KeepsDeadlines old new
   pub fewer : length new.backlog ≤ length old.backlog
 
 -- ---- release and settle
@@ -217,6 +312,7 @@ pub record OnlyReleases (old new : GuestRecorder) : Type 0 where
   pub backlog : new.backlog ≡ old.backlog
   pub guest : new.guest ≡ old.guest
   pub checkpoints : KeepsCheckpoints old new
+  pub deadlines : KeepsDeadlines old new
 
 -- only the sink refuses a release
 abbrev pub RefusesRelease : RecorderFault → ℕ → ℕ → Type 0
@@ -237,3 +333,4 @@ pub record KeepsMade (old new : GuestRecorder) : Type 0 where
   pub place : new.seat.guest ≡ old.seat.guest
   pub here : new.seat.has_left ≡ old.seat.has_left
   pub checkpoints : KeepsCheckpoints old new
+  pub deadlines : KeepsDeadlines old new

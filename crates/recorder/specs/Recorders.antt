@@ -12,12 +12,14 @@ use Rattle.commit_core.specs.Runs.{IsOutput, ItemsPut}
 use Rattle.commit_group.specs.Seats.{RecorderValue}
 use Rattle.recorder.specs.declared.checkpoints.Checkpoints.{Checkpoints}
 use Rattle.recorder.specs.Checkpoints.{KeepsBase, every_of, last_of}
+use Rattle.recorder.specs.Deadlines.{AreDeadlinesOf}
 use Rattle.recorder.specs.Owed.{Owed, left_of}
 use Rattle.recorder.specs.Recorded.{IsRecorded}
 
 -- A guest's recorder: its seat, the records that it made and didn't send, the output that waits, and the guest. The guest
 -- of each record is the place in the group. Then how many instructions lie between two checkpoints at the least, or 0 where
--- there are none, and how many had run at the last one, or at the start.
+-- there are none, and how many had run at the last one, or at the start. Then the deadlines of its waits, and the last answer
+-- of the monotonic clock, in nanoseconds, or 0 before the first.
 pub record GuestRecorder : Type 0 where
   pub seat : RecorderValue
   pub backlog : List Record
@@ -25,14 +27,17 @@ pub record GuestRecorder : Type 0 where
   pub guest : GuestValue
   pub every : ℕ
   pub last : ℕ
+  pub deadlines : List (ℕ × ℕ)
+  pub clock : ℕ
 
 -- all records that it made, of which the first are sent
 abbrev pub made : GuestRecorder → List Record
 made r = r.seat.sent ++ r.backlog
 
--- what it made is a recording that ends in the guest's state
-abbrev pub HasRecorded : GuestRecorder → Type 0
-HasRecorded r = IsRecorded r.seat.guest (made r) (state_of r.guest)
+-- what it made is a recording that ends in the guest's state, and it has a deadline of each wait with a timeout there
+pub record HasRecorded (r : GuestRecorder) : Type 0 where
+  pub recorded : IsRecorded r.seat.guest (made r) (state_of r.guest)
+  pub deadlines : AreDeadlinesOf (state_of r.guest) r.deadlines
 
 -- These bytes have left: what is left of the first k records' output behind them, they are all that these records put out,
 -- as soon as k is no less than how many are seen to be durable.
@@ -57,21 +62,24 @@ records_from place index (item ∷ items) =
 abbrev pub backlog_of : RecorderValue → List Item → List Record
 backlog_of seat items = records_from seat.guest (length seat.sent) items
 
-abbrev pub recorder_of : RecorderValue → List Item → Owed → GuestValue → Option Checkpoints → GuestRecorder
-recorder_of seat items owed guest checkpoints = record {
+abbrev pub recorder_of : RecorderValue → List Item → Owed → GuestValue → Option Checkpoints → List (ℕ × ℕ) → ℕ → GuestRecorder
+recorder_of seat items owed guest checkpoints deadlines clock = record {
   seat = seat;
   backlog = backlog_of seat items;
   owed = owed;
   guest = guest;
   every = every_of checkpoints;
   last = last_of checkpoints;
+  deadlines = deadlines;
+  clock = clock;
 }
 
 pub record KeepsGuest (seat : RecorderValue) (items : List Item) (owed : Owed) (guest : GuestValue)
-    (checkpoints : Option Checkpoints) : Type 0 where
+    (checkpoints : Option Checkpoints) (deadlines : List (ℕ × ℕ)) : Type 0 where
   pub here : seat.has_left ≡ false
   pub place : seat.guest ≤ MAX_NUMBER
   pub recorded : IsRecorded seat.guest (seat.sent ++ backlog_of seat items) (state_of guest)
+  pub waits : AreDeadlinesOf (state_of guest) deadlines
   pub base : KeepsBase checkpoints (items_of (seat.sent ++ backlog_of seat items)) guest
   pub opens : AllByRecursion OpensAtZero (backlog_of seat items)
   pub few : length seat.sent + length items ≤ MAX_NUMBER + 1

@@ -9,3 +9,5 @@ slice_told slice_faults.Memory = faults.Memory
 slice_told slice_faults.NotRunnable = faults.Refused slice_faults.NotRunnable
 slice_told slice_faults.BadQuantum = faults.Refused slice_faults.BadQuantum
 slice_told slice_faults.Ended = faults.Refused slice_faults.Ended
+slice_told slice_faults.Waiting = faults.Refused slice_faults.Waiting
+slice_told slice_faults.NotTimed = faults.Refused slice_faults.NotTimed

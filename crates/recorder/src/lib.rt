@@ -11,15 +11,19 @@
 //! - `MemSink`: a sink that keeps all that it takes. That it refuses only what finds no memory is in no contract.
 //! - `Recorder::new`, of any opening: its only record is that opening. `BadOpening` comes only if no guest starts so. `Memory`
 //!   comes only if the name is a guest's, the file is within its limit, and none of the first twelve refusals applies to it.
-//! - `step`: one record more, of the frame that is the slice of the choice, and after it the parts of a checkpoint or none.
+//! - `Deadlines`: of each wait with a timeout its tid and a moment, by rising tid, 64 at most, in room that is taken at the start.
+//!   `due` is the thread of the earliest, of equal ones the least tid, if that isn't after now.
+//! - `step`: one record more, and after it the parts of a checkpoint or none. The frame is the expiry of the thread that is due
+//!   by the monotonic clock, which is asked once if there is a deadline, else the slice of the choice. After a frame by which
+//!   a thread began a wait with a timeout the clock is asked once more. There is a deadline of each such wait, and no other.
 //!   What was made is again a recording, which ends in the guest's state, so that the parts describe just that state. It
 //!   returns `Kept` or `LeftOut` exactly if a checkpoint is due: the guest has not ended, and has run as many instructions as
 //!   were asked for since the last checkpoint or the start. At `Kept` all parts of one were made, at `LeftOut` and `NotDue`
 //!   none. The parts name exactly the pages that differ from those of the last complete checkpoint, or of the start, each with
 //!   the lines that do. That `LeftOut` comes only for want of memory or of indexes is in no contract; a test sees the parts.
 //!   `Full` comes only if a record waits to be sent, `TooManyRecords` only at 4,294,967,295 of them, and what `slice` refuses
-//!   only if it does. After each of them what was made, the output that waits, the guest's state and the environment are as
-//!   before.
+//!   only if it does. After each of them what was made, the output that waits, the guest's state and the deadlines are as
+//!   before, and so is the environment, but for the clock's answer if a slice was refused: then no thread is due.
 //! - `send`: sends what waits, in order, until the queue is reported to be full (see `try_submit`). It looks for a halt, also
 //!   if nothing waits: `Halted` comes only if one was seen, and Ok only if none was.
 //! - `release`: what the sink took is, after what had left before, a beginning of the output of the records that are seen to be
@@ -33,6 +37,7 @@
 #![tactic(auto)]
 
 mod checkpoints;
+mod deadlines;
 mod fault;
 mod mem_sink;
 mod outputs;

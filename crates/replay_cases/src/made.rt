@@ -1,20 +1,43 @@
 //! Recordings that are made here.
 
 use crate::lists::numbered;
+use rrv_model::machine::Version;
 use rrv_model::record::{Choice, Item, Part, Record};
-use serial_sched::slice;
+use serial_sched::{expire, slice};
 use std::alloc::Global;
 use test_guests::outsides::Nothing;
 use test_guests::recorded::{Recorded, opening_of};
 
-/// The slice of a guest's first thread for so many instructions.
-fn slice_of(alloc: Global, recorded: &mut Recorded, quantum: &str) -> Option<Item> {
-    let choice = Choice {
-        tid: 1,
-        quantum: quantum.parse().ok()?,
+/// The choice that a word says: a quantum of the first thread, or `TID:QUANTUM`.
+fn choice_in(word: &str) -> Option<Choice> {
+    let (tid, quantum) = match word.split_once(":") {
+        Some((tid, quantum)) => (tid.parse().ok()?, quantum),
+        None => (1, word),
     };
+    Some(Choice {
+        tid,
+        quantum: quantum.parse().ok()?,
+    })
+}
+
+/// The slice of a choice.
+fn slice_of(alloc: Global, recorded: &mut Recorded, choice: Choice) -> Option<Item> {
     let frame = slice(alloc, &mut recorded.guest, choice, &mut Nothing).ok()?;
     Some(Item::Frame(frame))
+}
+
+/// The end of the timed wait of a thread.
+fn expiry_of(recorded: &mut Recorded, tid: u32) -> Option<Item> {
+    let frame = expire(&mut recorded.guest, tid).ok()?;
+    Some(Item::Frame(frame))
+}
+
+/// The frame that a word says: `!TID` for the end of a timed wait, else a slice.
+fn frame_of(alloc: Global, recorded: &mut Recorded, word: &str) -> Option<Item> {
+    match word.strip_prefix("!") {
+        Some(tid) => expiry_of(recorded, tid.parse().ok()?),
+        None => slice_of(alloc, recorded, choice_in(word)?),
+    }
 }
 
 /// Adds the parts of a checkpoint.
@@ -25,7 +48,7 @@ fn add_parts(items: &mut Vec<Item>, parts: Vec<Part>) -> Option<()> {
     Some(())
 }
 
-/// Adds what words say of a guest: slices of its first thread; a `+` is a checkpoint.
+/// Adds what words say of a guest: its frames; a `+` is a checkpoint.
 fn add_said(
     alloc: Global,
     recorded: &mut Recorded,
@@ -35,17 +58,17 @@ fn add_said(
     for word in words {
         match *word {
             "+" => add_parts(items, recorded.checkpoint(alloc)?)?,
-            quantum => items.push(slice_of(alloc, recorded, quantum)?).ok()?,
+            frame => items.push(frame_of(alloc, recorded, frame)?).ok()?,
         }
     }
     Some(())
 }
 
-/// Records a guest of a file by slices of its first thread, as words say; a `+` is a checkpoint.
-pub fn record(alloc: Global, elf: &[u8], words: &[&str]) -> Option<Vec<Record>> {
-    let mut recorded = Recorded::start(alloc, elf)?;
+/// Records a guest of a version and a file, as words say: its frames; a `+` is a checkpoint.
+pub fn record(alloc: Global, version: Version, elf: &[u8], words: &[&str]) -> Option<Vec<Record>> {
+    let mut recorded = Recorded::start(alloc, version, elf)?;
     let mut items = Vec::new(alloc);
-    items.push(opening_of(alloc, elf)?).ok()?;
+    items.push(opening_of(alloc, version, elf)?).ok()?;
     add_said(alloc, &mut recorded, &mut items, words)?;
     numbered(alloc, items)
 }

@@ -4,7 +4,8 @@
 //! | Asked | Finds |
 //! |---|---|
 //! | `records NAME` | the list in the file NAME.records, once verified: its records and instructions, or its refusal |
-//! | `record FILE QUANTUM ..` | the same of slices of a file's first thread, made here; a `+` is a checkpoint |
+//! | `record FILE QUANTUM ..` | the same of slices of a file's first thread, made here, `TID:QUANTUM` of another; a `+` is a checkpoint |
+//! | `record two FILE ..` | the same of a guest of version 2; `!TID` is the end of a timed wait |
 //! | `state T TOLD` | what is told of the state at T |
 //! | `MOVE N .. TOLD` | what a cursor answers to moves from the start on, and what is told of where it then is |
 //! | `follow NAME TOLD` | the instructions behind each record of that list, its refusal, and what is told of its end |
@@ -23,6 +24,8 @@
 //!   with a recording before the record that is named, or taken, with the states to which its frames alone lead. At the limits:
 //!   1,024 changed pages are made one part, and 1,025 two; of a guest with 16,384 pages a checkpoint that names all is taken,
 //!   and one that maps another is refused by its last part.
+//! - A guest of version 2 whose waits expire, also after a checkpoint at the same count: at each count a cursor finds the same
+//!   state, whichever way it came; and lists in which such a frame, or a timeout of a checkpoint, lies.
 #![tactic(auto)]
 
 mod followed;

@@ -8,6 +8,7 @@ use crate::mutants::{Outcome, Random, count_of, mutate, outcome_named};
 use crate::told::{State, Told, told_of};
 use replayer::{Verified, verify};
 use reverse_step::Cursor;
+use rrv_model::machine::Version;
 use rrv_model::record::Record;
 use std::alloc::Global;
 use std::fs::{self, File};
@@ -110,11 +111,20 @@ fn mutate_list<R: Files + AllocGlobal>(rt: &R, words: &[&str]) -> Option<Vec<Out
     mutate(rt.alloc(), &texts, &others, count, &mut random).ok()
 }
 
-/// Records a guest of the file that words name.
+/// The version of a guest that words begin with, `two` or nothing, and the other words.
+fn version_in<'a, 'b>(words: &'a [&'b str]) -> (Version, &'a [&'b str]) {
+    match words {
+        ["two", rest @ ..] => (Version::Two, rest),
+        _ => (Version::One, words),
+    }
+}
+
+/// Records a guest of the version and the file that words name.
 fn record_file<R: Files + AllocGlobal>(rt: &R, words: &[&str]) -> Option<Vec<Record>> {
-    let (path, choices) = words.split_first()?;
+    let (version, words) = version_in(words);
+    let (path, said) = words.split_first()?;
     let elf = fs::read(rt, *path).ok()?;
-    record(rt.alloc(), &elf, choices)
+    record(rt.alloc(), version, &elf, said)
 }
 
 impl Session {

@@ -7,7 +7,7 @@ use Rattle.rrv_model.specs.Checkpoint.{Describes}
 use Rattle.rrv_model.specs.FrameStep.{FrameStep}
 use Rattle.rrv_model.specs.Memory.{Memory}
 use Rattle.rrv_model.specs.State.{State, IsState}
-use Rattle.rrv_model.proofs.FrameStays.{opening_break_stays}
+use Rattle.rrv_model.proofs.FrameStays.{opening_break_stays, version_stays}
 use Rattle.guest_calls.specs.Guest.{GuestValue, state_of}
 use Rattle.guest_calls.specs.Snapshots.{guest_snapshots}
 use Rattle.checkpoint.specs.Made.{IsBaseOf, kept_memory, memory_or_none}
@@ -20,6 +20,7 @@ pub keeps_new : (kept : Option ℕ) (old guest base : GuestValue) →
 keeps_new None old guest base kept same is = kept
 keeps_new (Some token) old guest base kept same is = record {
   memory = kept ∙ ap (λ (s : State). Some s.memory) is;
+  version = sym (ap (λ (s : State). s.version) (same ∙ is));
   opening_break = sym (ap (λ (s : State). s.opening_break) (same ∙ is));
 }
 
@@ -29,6 +30,7 @@ pub keeps_behind : (kept : Option ℕ) (old new base : GuestValue) (f : Frame) �
 keeps_behind None old new base f h same step = h
 keeps_behind (Some token) old new base f h same step = record {
   memory = (λ i. same i token) ∙ h.memory;
+  version = h.version ∙ sym (version_stays (state_of old) f (state_of new) step);
   opening_break = h.opening_break ∙ sym (opening_break_stays (state_of old) f (state_of new) step);
 }
 
@@ -55,6 +57,7 @@ made_describes guest base token made parts keeps is_state ended closed describes
     (describes (state_of base) (record {
       is_state = is_state;
       memory = ap memory_or_none keeps.memory;
+      version = keeps.version;
       opening_break = keeps.opening_break;
       reservation = closed;
       ended = ended;

@@ -14,7 +14,7 @@ use Rattle.replayer.specs.Places.{IsPlace, MarksLeft}
 use Rattle.replayer.specs.Verified.{VerifiedValue, IsLastCheckpoint, RanFromLast}
 use Rattle.replayer.proofs.Described.{one_described}
 
-pub start_place : (o : Opening) (frames : List Frame) (s : State) → Opens o.elf o.name o.random s → IsPlace o frames 0 0 s
+pub start_place : (o : Opening) (frames : List Frame) (s : State) → Opens o s → IsPlace o frames 0 0 s
 start_place o frames s opens = record { first = s; opens = opens; reached = (refl, refl); steps_are = refl; within = omega arith }
 
 pub start_marks : (o : Opening) (frames : List Frame) (marks : List Mark) (s : State) → AreKept o frames marks → IsPlace o frames 0 0 s →

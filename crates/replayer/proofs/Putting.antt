@@ -83,7 +83,7 @@ call_part end r kept d n bytes is kept_is =
 
 -- ---- so far
 
-pub so_far_first : (o : Opening) (frames : List Frame) (s : State) (before : List (ℕ × ℕ)) → Opens o.elf o.name o.random s →
+pub so_far_first : (o : Opening) (frames : List Frame) (s : State) (before : List (ℕ × ℕ)) → Opens o s →
     PutsSoFar o frames s frames before before
 so_far_first o frames s before opens = record { done = []; on = λ rest h. (s, opens, h); took = sym (append-nil before) }
 
@@ -161,13 +161,13 @@ none_put o frames marks before kept =
 
 -- ---- at the start
 
-pub start_opens : (o : Opening) (frames : List Frame) (n m : ℕ) (s : State) → IsPlace o frames n m s → n ≡ 0 → Opens o.elf o.name o.random s
+pub start_opens : (o : Opening) (frames : List Frame) (n m : ℕ) (s : State) → IsPlace o frames n m s → n ≡ 0 → Opens o s
 start_opens o frames n m s place none =
     let here = subst (λ i. StateAtFrom place.first (take i frames) m s) none place.reached in
-    subst (λ (x : State). Opens o.elf o.name o.random x) (sym here.1) place.opens
+    subst (λ (x : State). Opens o x) (sym here.1) place.opens
 
-pub start_ends : (o : Opening) (frames : List Frame) (marks : List Mark) (s : State) → AreKept o frames marks →
-    Opens o.elf o.name o.random s → (last : State) × StateAtFrom s frames (total frames) last
+pub start_ends : (o : Opening) (frames : List Frame) (marks : List Mark) (s : State) → AreKept o frames marks → Opens o s → (last : State) ×
+    StateAtFrom s frames (total frames) last
 start_ends o frames marks s kept opens =
     let same : kept.first ≡ s = kept.opens.state_is ∙ sym opens.state_is in
     (kept.last, subst (λ (m : State). StateAtFrom m frames (total frames) kept.last) same kept.ends)

@@ -31,8 +31,7 @@ one_more n = omega arith
 -- ---- walks
 
 -- the opening alone
-pub stands_first : (r : Record) (o : Opening) (base s : State) → r.index ≡ 0 → r.item ≡ items.Opening o → Opens o.elf o.name o.random base →
-    Opens o.elf o.name o.random s →
+pub stands_first : (r : Record) (o : Opening) (base s : State) → r.index ≡ 0 → r.item ≡ items.Opening o → Opens o base → Opens o s →
     Stands r.guest (r ∷ []) base [] s
 stands_first r o base s index_is item_is opens_base opens =
     let e : s ≡ base = opens.state_is ∙ sym opens_base.state_is in
@@ -44,7 +43,7 @@ stands_first r o base s index_is item_is opens_base opens =
     }
 
 -- the opening alone ends in the state that it opens
-pub ends_first : (it : Item) (o : Opening) (s : State) → it ≡ items.Opening o → Opens o.elf o.name o.random s → EndsIn (it ∷ []) s
+pub ends_first : (it : Item) (o : Opening) (s : State) → it ≡ items.Opening o → Opens o s → EndsIn (it ∷ []) s
 ends_first it o s is opens = subst (λ (i : Item). EndsIn (i ∷ []) s) (sym is) (s, opens, (refl, refl))
 
 pub stands_next : (guest : ℕ) (records : List Record) (r : Record) (base : State) (row : List Part) (s base' : State) (row' : List Part)
@@ -176,7 +175,7 @@ refused_opening opening_faults.BadOpening r o zero_is is refuses = λ h. let sta
 refused_opening opening_faults.Memory r o zero_is is refuses = (zero_is, (o, is, refuses))
 
 -- what opened took memory
-pub opened : (r : Record) (o : Opening) (s : State) → r.index ≡ 0 → r.item ≡ items.Opening o → Opens o.elf o.name o.random s → TakesMemory r
+pub opened : (r : Record) (o : Opening) (s : State) → r.index ≡ 0 → r.item ≡ items.Opening o → Opens o s → TakesMemory r
 opened r o s zero_is is opens = (
   zero_is,
   (

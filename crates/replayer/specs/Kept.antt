@@ -45,7 +45,7 @@ AreMarks s frames base (m ∷ marks) =
 -- the frames and marks of a guest that opens so
 pub record AreKept (o : Opening) (frames : List Frame) (marks : List Mark) : Type 0 where
   pub first : State
-  pub opens : Opens o.elf o.name o.random first
+  pub opens : Opens o first
   pub last : State
   pub ends : StateAtFrom first frames (total frames) last
   pub are_marks : AreMarks first frames first marks

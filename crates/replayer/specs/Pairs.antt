@@ -8,7 +8,8 @@ pub record PairValue : Type 0 where
   pub guest : GuestValue
   pub base : GuestValue
 
--- under this token a guest keeps the memory of a base, which has the same opening break
+-- under this token a guest keeps the memory of a base, which has the same version and opening break
 pub record KeepsBase (guest base : GuestValue) (token : ℕ) : Type 0 where
   pub memory : guest_snapshots guest token ≡ Some (state_of base).memory
+  pub version : (state_of base).version ≡ (state_of guest).version
   pub opening_break : (state_of base).opening_break ≡ (state_of guest).opening_break

@@ -20,7 +20,7 @@ pub record PlaceValue : Type 0 where
 -- the state behind the first frames, which take so many steps
 pub record IsPlace (o : Opening) (frames : List Frame) (done steps : ℕ) (s : State) : Type 0 where
   pub first : State
-  pub opens : Opens o.elf o.name o.random first
+  pub opens : Opens o first
   pub reached : StateAtFrom first (take done frames) steps s
   pub steps_are : steps ≡ total (take done frames)
   pub within : done ≤ length frames
@@ -28,7 +28,7 @@ pub record IsPlace (o : Opening) (frames : List Frame) (done steps : ℕ) (s : S
 -- the marks that are left go on from a base
 pub record MarksLeft (o : Opening) (frames : List Frame) (base : State) (marks : List Mark) : Type 0 where
   pub first : State
-  pub opens : Opens o.elf o.name o.random first
+  pub opens : Opens o first
   pub are_marks : AreMarks first frames base marks
 
 -- frames, of the first of which so many steps are done

@@ -93,7 +93,7 @@ pub(crate) fn copied_frame(frame: &Frame) -> Result<Frame, VerifyFault>
 pub(crate) fn last_behind(frame: &Frame, before: u32) -> u32
     ensures { result ≡ thread_after frame.now before }
 {
-    if frame.end.has_thread() {
+    if frame.end.runs_thread() {
         frame.tid
     } else {
         before

@@ -6,9 +6,11 @@ use Rattle.std.specs.Cmp.{nat_cmp_total}
 use Rattle.std.specs.FinMap.{get, len, remove, get-insert, get-remove}
 use Rattle.std.specs.Ordering.{nat_cmp, eq_by_cmp}
 use Rattle.rrv_model.specs.declared.machine.Thread.{Thread}
+use Rattle.rrv_model.specs.declared.machine.FutexWait.{FutexWait}
+use Rattle.rrv_model.specs.declared.machine.Version.{Version}
 use Rattle.rrv_model.specs.declared.record.Written.{Written}
 use Rattle.rrv_model.specs.Memory.{Memory, IsMemory}
-use Rattle.rrv_model.specs.State.{State, IsRunning, IsState, thread_at, with_thread}
+use Rattle.rrv_model.specs.State.{State, IsRunning, IsState, IsWait, thread_at, with_thread}
 use Rattle.rrv_model.specs.CallRows.{argument, change_thread, child_of, ends, has_flag, leaves, set_register, waiters, waits, wakes, with_memory, woken}
 use Rattle.rrv_model.specs.Calls.{results, writes}
 use Rattle.rrv_model.proofs.MemoryRules.{AreWritten}
@@ -24,19 +26,23 @@ abbrev pub Has : ℕ → Option Thread → Type 0
 Has n None = n ≡ 93
 Has n (Some t) = number t ≡ n
 
--- the rules of a state are kept, the break at the opening stays, and the thread tells the number that it told
+-- what stays of a guest through all its run: its version and the break at its opening
+abbrev pub fixed : State → Version × ℕ
+fixed s = (s.version, s.opening_break)
+
+-- the rules of a state are kept, what is fixed stays, and the thread tells the number that it told
 pub record Keeps (n tid : ℕ) (s s' : State) : Type 0 where
   pub rules : IsState s → IsState s'
-  pub opening_break : s'.opening_break ≡ s.opening_break
+  pub fixed : fixed s' ≡ fixed s
   pub told : Has n (thread_at s tid) → Has n (thread_at s' tid)
 
 pub nothing_keeps : (n tid : ℕ) (s : State) → Keeps n tid s s
-nothing_keeps n tid s = record { rules = λ h. h; opening_break = refl; told = λ h. h }
+nothing_keeps n tid s = record { rules = λ h. h; fixed = refl; told = λ h. h }
 
 pub both_keep : (n tid : ℕ) (s mid s' : State) → Keeps n tid s mid → Keeps n tid mid s' → Keeps n tid s s'
 both_keep n tid s mid s' p q = record {
   rules = λ h. q.rules (p.rules h);
-  opening_break = q.opening_break ∙ p.opening_break;
+  fixed = q.fixed ∙ p.fixed;
   told = λ h. q.told (p.told h);
 }
 
@@ -98,18 +104,18 @@ pub change_keeps : (n tid w : ℕ) (change : Thread → Thread) (s : State) → 
     (IsState s → IsState (change_thread w change s)) → Keeps n tid s (change_thread w change s)
 change_keeps n tid w change s same rules = record {
   rules = rules;
-  opening_break = ap (λ (q : State). q.opening_break) (change_is w change s);
+  fixed = ap fixed (change_is w change s);
   told = changing_has n tid w change same s;
 }
 
 pub memory_keeps : (n tid : ℕ) (m : Memory) (s : State) → (IsState s → IsMemory m) → Keeps n tid s (with_memory m s)
-memory_keeps n tid m s is = record { rules = λ h. keeps-memory m s (is h) h; opening_break = refl; told = λ h. h }
+memory_keeps n tid m s is = record { rules = λ h. keeps-memory m s (is h) h; fixed = refl; told = λ h. h }
 
 pub break_keeps : (n tid : ℕ) (m : Memory) (a : ℕ) (s : State) → (IsState s → IsMemory m) → s.opening_break ≤ a → a ≤ 0x70000000 →
     Keeps n tid s (record s { memory = m; program_break = a })
 break_keeps n tid m a s is low high = record {
   rules = λ h. keeps-break a (with_memory m s) low high (keeps-memory m s (is h) h);
-  opening_break = refl;
+  fixed = refl;
   told = λ h. h;
 }
 
@@ -120,38 +126,39 @@ woken_told : (n tid : ℕ) (tids : List ℕ) (s : State) → Has n (thread_at s 
 woken_told n tid [] s h = h
 woken_told n tid (w ∷ tids) s h =
     woken_told n tid tids (woken s w)
-    (changing_has n tid w (λ t. record t { waits_at = None }) (λ t. refl) (record s { waiting = filter (λ q. not (q == w)) s.waiting }) h)
+    (changing_has n tid w (λ t. record t { wait = None }) (λ t. refl) (record s { waiting = filter (λ q. not (q == w)) s.waiting }) h)
 
-woken_break : (tids : List ℕ) (s : State) → (fold woken s tids).opening_break ≡ s.opening_break
-woken_break [] s = refl
-woken_break (w ∷ tids) s =
-    woken_break tids (woken s w)
-    ∙ ap (λ (q : State). q.opening_break)
-    (change_is w (λ t. record t { waits_at = None }) (record s { waiting = filter (λ q. not (q == w)) s.waiting }))
+pub woken_fixed : (tids : List ℕ) (s : State) → fixed (fold woken s tids) ≡ fixed s
+woken_fixed [] s = refl
+woken_fixed (w ∷ tids) s =
+    woken_fixed tids (woken s w)
+    ∙ ap fixed
+    (change_is w (λ t. record t { wait = None }) (record s { waiting = filter (λ q. not (q == w)) s.waiting }))
 
 pub wakes_keep : (n tid a count : ℕ) (s : State) → Keeps n tid s (wakes a count s)
 wakes_keep n tid a count s = record {
   rules = keeps-wakes a count s;
-  opening_break = woken_break (waiters s a count) s;
+  fixed = woken_fixed (waiters s a count) s;
   told = woken_told n tid (waiters s a count) s;
 }
 
-pub waits_keeps : (n tid a : ℕ) (s : State) → IsRunning (thread_at s tid) → (IsState s → a < 2 ^ 32) → Keeps n tid s (waits tid a s)
-waits_keeps n tid a s runs low =
-    let change : Thread → Thread = λ t. record t { waits_at = Some a } in
+pub waits_keeps : (n tid : ℕ) (w : FutexWait) (s : State) → IsRunning (thread_at s tid) → (IsState s → IsWait s.version w) →
+    Keeps n tid s (waits tid w s)
+waits_keeps n tid w s runs is =
+    let change : Thread → Thread = λ t. record t { wait = Some w } in
     let listed : State = record s { waiting = s.waiting ++ tid ∷ [] } in
     record {
-      rules = λ h. keeps-waits tid a s runs (low h) h;
-      opening_break = ap (λ (q : State). q.opening_break) (change_is tid change listed);
+      rules = λ h. keeps-waits tid w s runs (is h) h;
+      fixed = ap fixed (change_is tid change listed);
       told = changing_has n tid tid change (λ t. refl) listed;
     }
 
 pub ends_keeps : (n tid status : ℕ) (s : State) → Keeps n tid s (ends status s)
-ends_keeps n tid status s = record { rules = keeps-ends status s; opening_break = refl; told = λ h. h }
+ends_keeps n tid status s = record { rules = keeps-ends status s; fixed = refl; told = λ h. h }
 
-either_left : (n tid : ℕ) (b : Bool) (x y s : State) → (x.opening_break ≡ s.opening_break) × Has n (thread_at x tid) →
-    (y.opening_break ≡ s.opening_break) × Has n (thread_at y tid) →
-    ((if b then x else y).opening_break ≡ s.opening_break) × Has n (thread_at (if b then x else y) tid)
+either_left : (n tid : ℕ) (b : Bool) (x y s : State) → (fixed x ≡ fixed s) × Has n (thread_at x tid) →
+    (fixed y ≡ fixed s) × Has n (thread_at y tid) →
+    (fixed (if b then x else y) ≡ fixed s) × Has n (thread_at (if b then x else y) tid)
 either_left n tid true x y s p q = p
 either_left n tid false x y s p q = q
 
@@ -161,7 +168,7 @@ leaves_keeps n tid status s runs exits =
     let rest : State = record s { threads = remove s.threads tid } in
     let left = either_left n tid (len rest.threads == 0) (ends status rest) rest s (refl, left_has n tid s exits)
     (refl, left_has n tid s exits) in
-    record { rules = keeps-leaves tid status s runs; opening_break = left.0; told = λ _. left.1 }
+    record { rules = keeps-leaves tid status s runs; fixed = left.0; told = λ _. left.1 }
 
 -- a new thread tells the same number
 pub spawn_keeps : (n tid next : ℕ) (t : Thread) (s : State) → number t ≡ n →
@@ -169,7 +176,7 @@ pub spawn_keeps : (n tid next : ℕ) (t : Thread) (s : State) → number t ≡ n
     Keeps n tid s (with_thread next t (record s { next_tid = next + 1 }))
 spawn_keeps n tid next t s same rules = record {
   rules = rules;
-  opening_break = refl;
+  fixed = refl;
   told = λ h. subst (λ (o : Option Thread). Has n o) (sym (get-insert nat_cmp_total s.threads next t tid))
       (either_has n (eq_by_cmp nat_cmp tid next) (Some t) (get s.threads tid) same h);
 }
@@ -181,7 +188,7 @@ answer_keeps n tid value written s s' low small keeps =
     let mid : State = writes written s' in
     record {
       rules = λ h. keeps-results tid value mid (low h) (keeps-writes written s' small (keeps.rules h));
-      opening_break = ap (λ (q : State). q.opening_break) (change_is tid (set_register 10 value) mid) ∙ keeps.opening_break;
+      fixed = ap fixed (change_is tid (set_register 10 value) mid) ∙ keeps.fixed;
       told = λ h. changing_has n tid tid (set_register 10 value) (set_10 value) mid (keeps.told h);
     }
 
@@ -189,6 +196,6 @@ pub written_keeps : (n tid : ℕ) (written : List Written) (s s' : State) → Ar
     Keeps n tid s (writes written s')
 written_keeps n tid written s s' small keeps = record {
   rules = λ h. keeps-writes written s' small (keeps.rules h);
-  opening_break = keeps.opening_break;
+  fixed = keeps.fixed;
   told = keeps.told;
 }

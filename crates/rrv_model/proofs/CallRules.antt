@@ -1,5 +1,5 @@
 -- What calls leave of a state, row by row.
-use Rattle.std.proofs.Common.{◌≡◌, ℕ, ◌+◌, ◌-◌, ◌*◌, ◌/◌, ◌%◌, ◌^◌, ◌<◌, ◌≤◌, min, Bool, true, false, not, ◌&&◌, ◌||◌, nat_lt, nat_le, ◌==◌, if◌then◌else◌, List, [], ◌∷◌, ◌++◌, length, filter, Option, Some, None, All, IfSome, refl, sym, ◌∙◌, subst, arith}
+use Rattle.std.proofs.Common.{◌≡◌, ℕ, ◌+◌, ◌-◌, ◌*◌, ◌/◌, ◌%◌, ◌^◌, ◌<◌, ◌≤◌, min, Bool, true, false, not, ◌&&◌, ◌||◌, nat_lt, nat_le, ◌==◌, if◌then◌else◌, List, [], ◌∷◌, ◌++◌, length, filter, Option, Some, None, Result, Ok, Err, All, IfSome, refl, sym, ◌∙◌, subst, arith}
 use Rattle.std.specs.Prelude.{flat_map, IsTrue}
 use Rattle.std.specs.FinMap.{insert, len}
 use Rattle.std.specs.Int.{w32, w64, to_le_bytes}
@@ -7,11 +7,14 @@ use Rattle.std.proofs.lemmas.Bool.Decides.{nat_tests}
 use Rattle.std.proofs.lemmas.List.{length-take}
 use Rattle.std.proofs.lemmas.List.Elements.{All-append}
 use Rattle.rrv_model.specs.declared.machine.Thread.{Thread}
+use Rattle.rrv_model.specs.declared.machine.Timeout.{Timeout}
+use Rattle.rrv_model.specs.declared.machine.Version.{Version}
+use Rattle.rrv_model.specs.declared.machine.Version.TheVariants.{One, Two}
 use Rattle.rrv_model.specs.declared.record.CallRecord.{CallRecord}
 use Rattle.rrv_model.specs.Memory.{Memory, IsMemory, mapped, unmapped, protected, page_count, page_bytes, pages_for, highest_free_up_to, readable, writable, all_mapped, all_free}
-use Rattle.rrv_model.specs.State.{State, IsState, IsThread, IsRunning, thread_at}
+use Rattle.rrv_model.specs.State.{State, IsState, IsThread, IsTimeout, IsRunning, thread_at, live_threads}
 use Rattle.rrv_model.specs.Step.{word_at}
-use Rattle.rrv_model.specs.CallRows.{Row, Returns, NoResult, AsksInput, AsksRandom, AsksTime, argument, set_register, fails, only_returns, range, transfer, is_output, read_row, write_row, writev_row, buffers_at, clipped, all_readable, total_len, exit_row, clears, wakes, waits_at, waiters, futex_row, clone_row, child_of, tid_places, are_clone_flags, has_flag, all_writable, permissions_of, page_limit, brk_row, munmap_row, mmap_place, maps_at, mmap_row, mprotect_row, getrandom_row, clock_gettime_row, row_of, syscall_of}
+use Rattle.rrv_model.specs.CallRows.{Row, Returns, NoResult, AsksInput, AsksRandom, AsksTime, argument, set_register, asked_timeout, timeout_at, wait_row, fails, only_returns, range, transfer, is_output, read_row, write_row, writev_row, buffers_at, clipped, all_readable, total_len, exit_row, clears, wakes, waits_at, waiters, futex_row, clone_row, child_of, tid_places, are_clone_flags, has_flag, all_writable, permissions_of, page_limit, brk_row, munmap_row, mmap_place, maps_at, mmap_row, mprotect_row, getrandom_row, clock_gettime_row, row_of, syscall_of}
 use Rattle.rrv_model.specs.declared.syscall.Syscall.{Syscall}
 use Rattle.rrv_model.specs.declared.syscall.Syscall.TheVariants as calls
 use Rattle.rrv_model.specs.Calls.{Answer, Silence, Bytes, Time, Calls, HasRecord, after_call, call_row, writes, results}
@@ -76,7 +79,7 @@ after_keeps n (AsksTime a) tid (Bytes bytes) r s has keeps = absurd has
 
 -- ---- numbers and threads
 
-small-argument : (t : Thread) (k : ℕ) → IsThread t → argument t k < 2 ^ 32
+small-argument : {v : Version} (t : Thread) (k : ℕ) → IsThread v t → argument t k < 2 ^ 32
 small-argument t k is = small-register t.regs (10 + k) is.regs
 
 small-transfer : (count : ℕ) → transfer count < 2 ^ 32
@@ -93,32 +96,54 @@ small-tid s tid t there h = low_tid (thread_at s tid) t tid s.next_tid there h.r
 few_waiters : (s : State) (a count : ℕ) → count < 2 ^ 32 → length (waiters s a count) < 2 ^ 32
 few_waiters s a count low = let few = length-take count (filter (waits_at s a) s.waiting) in omega (arith, few)
 
+-- what is asked is a timeout, or the errno is a word
+abbrev IsAsked : Version → Result (Option Timeout) ℕ → Type 0
+IsAsked v (Ok timeout) = IfSome timeout (IsTimeout v)
+IsAsked v (Err errno) = (1 ≤ errno) × (errno < 2 ^ 32)
+
+told : (m : Memory) (a : ℕ) (b c : Bool) → (c ≡ false → IsTimeout Two (timeout_at m a)) →
+    IsAsked Two (if b then Err 14 else if c then Err 22 else Ok (Some (timeout_at m a)))
+told m a true c is = (omega arith, omega arith)
+told m a false true is = (omega arith, omega arith)
+told m a false false is = is refl
+
+asked_if : (v : Version) (b : Bool) (other : Result (Option Timeout) ℕ) → IsAsked v other → IsAsked v (if b then Ok None else other)
+asked_if v true other h = tt
+asked_if v false other h = h
+
+asked : (v : Version) (m : Memory) (a : ℕ) → IsAsked v (asked_timeout v m a)
+asked One m a = asked_if One (a == 0) _ (omega arith, omega arith)
+asked Two m a =
+    asked_if Two (a == 0) _
+    (told m a (not (readable m a 16)) (nat_le (2 ^ 63) (timeout_at m a).seconds || nat_le (10 ^ 9) (timeout_at m a).nanoseconds)
+    (λ e. record { version = tt; seconds = grind (arith, nat_tests); nanoseconds = grind (arith, nat_tests) }))
+
 zeros : All (λ b. b < 256) (0 ∷ 0 ∷ 0 ∷ 0 ∷ [])
 zeros = all-low_first 4 0 0
 
 -- ---- the child of clone
 
-if_thread : (b : Bool) (x y : Thread) → IsThread x → IsThread y → IsThread (if b then x else y)
+if_thread : {v : Version} (b : Bool) (x y : Thread) → IsThread v x → IsThread v y → IsThread v (if b then x else y)
 if_thread true x y h g = h
 if_thread false x y h g = g
 
-with_value : (r value : ℕ) (t : Thread) → value < 2 ^ 32 → IsThread t → IsThread (set_register r value t)
+with_value : {v : Version} (r value : ℕ) (t : Thread) → value < 2 ^ 32 → IsThread v t → IsThread v (set_register r value t)
 with_value r value t low is = record { regs = regs-with_register r value t.regs low is.regs; waits = is.waits; clear = is.clear }
 
 small_if : (b : Bool) (n : ℕ) → n < 2 ^ 32 → (if b then n else 0) < 2 ^ 32
 small_if true n h = h
 small_if false n h = omega arith
 
-child_is : (t : Thread) → IsThread t → IsThread (child_of t)
-child_is t is =
+child_is : {v : Version} (t : Thread) → IsThread v t → IsThread v (child_of t)
+child_is {v = v} t is =
     let flags = argument t 0 in
     let zeroed : Thread = set_register 10 0 t in
-    let is_zeroed : IsThread zeroed = with_value 10 0 t (omega arith) is in
+    let is_zeroed : IsThread v zeroed = with_value 10 0 t (omega arith) is in
     let stacked : Thread = if argument t 1 == 0 then zeroed else set_register 2 (argument t 1) zeroed in
-    let is_stacked : IsThread stacked =
+    let is_stacked : IsThread v stacked =
     if_thread (argument t 1 == 0) zeroed _ is_zeroed (with_value 2 (argument t 1) zeroed (small-argument t 1 is) is_zeroed) in
     let pointed : Thread = if has_flag flags 0x80000 then set_register 4 (argument t 3) stacked else stacked in
-    let is_pointed : IsThread pointed =
+    let is_pointed : IsThread v pointed =
     if_thread (has_flag flags 0x80000) _ stacked (with_value 4 (argument t 3) stacked (small-argument t 3 is) is_stacked) is_stacked in
     record {
       regs = is_pointed.regs;
@@ -126,16 +151,16 @@ child_is t is =
       clear = small_if (has_flag flags 0x200000) (argument t 4) (small-argument t 4 is);
     }
 
-same_waits : (b : Bool) (x y : Thread) → x.waits_at ≡ None → y.waits_at ≡ None → (if b then x else y).waits_at ≡ None
+same_waits : (b : Bool) (x y : Thread) → x.wait ≡ None → y.wait ≡ None → (if b then x else y).wait ≡ None
 same_waits true x y h g = h
 same_waits false x y h g = g
 
-child_runs : (t : Thread) → t.waits_at ≡ None → (child_of t).waits_at ≡ None
+child_runs : (t : Thread) → t.wait ≡ None → (child_of t).wait ≡ None
 child_runs t runs =
     let flags = argument t 0 in
     let zeroed : Thread = set_register 10 0 t in
     let stacked : Thread = if argument t 1 == 0 then zeroed else set_register 2 (argument t 1) zeroed in
-    let stacked_runs : stacked.waits_at ≡ None = same_waits (argument t 1 == 0) zeroed (set_register 2 (argument t 1) zeroed) runs runs in
+    let stacked_runs : stacked.wait ≡ None = same_waits (argument t 1 == 0) zeroed (set_register 2 (argument t 1) zeroed) runs runs in
     same_waits (has_flag flags 0x80000) (set_register 4 (argument t 3) stacked) stacked stacked_runs stacked_runs
 
 words_written : (places : List ℕ) (word : ℕ) → AreWritten (flat_map (λ a. range a (to_le_bytes w32 word)) places)
@@ -223,6 +248,19 @@ module _ (n tid : ℕ) (s : State) (t : Thread) where
       (λ e. ((zeros, tt), both_keep n tid s woken _ (wakes_keep n tid t.clear 1 s) left))
       (λ e. (tt, leaves_keeps n tid (argument t 0) s runs exits))
 
+  wait_keeps : (o : Result (Option Timeout) ℕ) → IsAsked s.version o → (IsState s → IsThread s.version t) →
+      IsRunning (thread_at s tid) → RowKeeps n tid (wait_row tid s t o) s
+  wait_keeps (Err errno) ask is runs = failing errno ask.0
+  wait_keeps (Ok timeout) ask is runs =
+      let a = argument t 0 in
+      if_row (not (readable s.memory a 4)) _ _ (λ e. failing 14 (omega arith)) (λ e.
+      if_row (not (word_at s.memory a == argument t 2)) _ _ (λ e. failing 11 (omega arith)) (λ e. (
+        λ h. omega arith,
+        tt,
+        waits_keeps n tid (record { address = a; timeout = timeout }) s runs
+            (λ h. record { address = small-argument t 0 (is h); timeout = ask }),
+      )))
+
   futex_keeps : thread_at s tid ≡ Some t → IsRunning (thread_at s tid) → RowKeeps n tid (futex_row tid s t) s
   futex_keeps there runs =
       let small : (k : ℕ) → IsState s → argument t k < 2 ^ 32 = λ k h. small-argument t k (thread_of_state s tid t there h) in
@@ -232,18 +270,16 @@ module _ (n tid : ℕ) (s : State) (t : Thread) where
       if_row (not (a % 4 == 0)) _ _ (λ e. failing 22 (omega arith)) (λ e.
       if_row (op == 1) _ _
       (λ e. (λ h. few_waiters s a (argument t 2) (small 2 h), tt, wakes_keep n tid a (argument t 2) s)) (λ e.
-      if_row (not (argument t 3 == 0)) _ _ (λ e. failing 38 (omega arith)) (λ e.
-      if_row (not (readable s.memory a 4)) _ _ (λ e. failing 14 (omega arith)) (λ e.
-      if_row (not (word_at s.memory a == argument t 2)) _ _ (λ e. failing 11 (omega arith)) (λ e.
-      (λ h. omega arith, tt, waits_keeps n tid a s runs (small 0))))))))
+      wait_keeps (asked_timeout s.version s.memory (argument t 3)) (asked s.version s.memory (argument t 3))
+      (λ h. thread_of_state s tid t there h) runs)))
 
-  clone_keeps : thread_at s tid ≡ Some t → t.waits_at ≡ None → number t ≡ n → RowKeeps n tid (clone_row s t) s
+  clone_keeps : thread_at s tid ≡ Some t → t.wait ≡ None → number t ≡ n → RowKeeps n tid (clone_row s t) s
   clone_keeps there runs tells =
       let next = s.next_tid in
       if_row (not (are_clone_flags (argument t 0))) _ _ (λ e. failing 22 (omega arith)) (λ e.
-      if_row (nat_le 16 (len s.threads) || nat_lt (2 ^ 31 - 1) next) _ _ (λ e. failing 11 (omega arith)) (λ room.
+      if_row (nat_le (live_threads s.version) (len s.threads) || nat_lt (2 ^ 31 - 1) next) _ _ (λ e. failing 11 (omega arith)) (λ room.
       if_row (not (all_writable s.memory (tid_places t))) _ _ (λ e. failing 14 (omega arith)) (λ e.
-      let left = room_left (len s.threads) next room in (
+      let left = room_left (live_threads s.version) (len s.threads) next room in (
         λ h. omega (arith, left.1),
         words_written (tid_places t) next,
         spawn_keeps n tid next (child_of t) s (child_tells t ∙ tells) (λ h.
@@ -336,7 +372,7 @@ module _ (n tid : ℕ) (s : State) (t : Thread) where
       if_row (not (writable s.memory (argument t 1) 16)) _ _ (λ e. failing 14 (omega arith)) (λ e. tt))
 
   -- the call has the number n, which only that of exit looks at
-  row_keeps : (call : Syscall) → thread_at s tid ≡ Some t → t.waits_at ≡ None → IsRunning (thread_at s tid) → number t ≡ n →
+  row_keeps : (call : Syscall) → thread_at s tid ≡ Some t → t.wait ≡ None → IsRunning (thread_at s tid) → number t ≡ n →
       (call ≡ calls.Exit → n ≡ 93) → RowKeeps n tid (row_of call tid s t) s
   unfolding row_of
   row_keeps calls.Read there waits runs tells exits = read_keeps

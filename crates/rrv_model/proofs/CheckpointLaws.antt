@@ -15,14 +15,18 @@ use Rattle.std.proofs.lemmas.Map.Keys.{IsDistinct-from_apart}
 use Rattle.std.proofs.lemmas.Map.Steps.{length-le_from_keys}
 use Rattle.std.proofs.lemmas.Map.Views.{Contains-from_any}
 use Rattle.rrv_model.specs.declared.machine.Thread.{Thread}
+use Rattle.rrv_model.specs.declared.machine.FutexWait.{FutexWait}
+use Rattle.rrv_model.specs.declared.machine.Timeout.{Timeout}
+use Rattle.rrv_model.specs.declared.machine.Version.{Version}
+use Rattle.rrv_model.specs.declared.machine.Version.TheVariants.{One, Two}
 use Rattle.rrv_model.specs.declared.record.CheckpointRest.{CheckpointRest}
 use Rattle.rrv_model.specs.declared.record.PagePart.{PagePart}
 use Rattle.rrv_model.specs.declared.record.Part.{Part}
 use Rattle.rrv_model.specs.declared.record.ThreadPart.{ThreadPart}
 use Rattle.rrv_model.specs.Memory.{Memory, IsPaged, page_bytes}
-use Rattle.rrv_model.specs.State.{State, IsState, IsThread, IsWaiting, AreThreads}
+use Rattle.rrv_model.specs.State.{State, IsState, IsThread, IsTimeout, IsWait, IsWaiting, AreThreads, live_threads}
 use Rattle.rrv_model.specs.Checkpoint.{all_pages, described_state, patched, IsPagePart, EndsWithRest}
-use Rattle.rrv_model.specs.RecordText.{HasPageText, HasThreadText, HasRestText, HasPartText, CheckpointsExist}
+use Rattle.rrv_model.specs.RecordText.{HasPageText, HasThreadText, HasTimeoutText, HasWaitText, HasRestText, HasPartText, CheckpointsExist}
 use Rattle.rrv_model.proofs.MemoryRules.{Fits}
 use Rattle.rrv_model.proofs.PageTexts.{entries_from, length-entries_from, entries_append, number_of_entry, has_page_text, is_page_part, patched_whole}
 use Rattle.rrv_model.proofs.ThreadRules.{same_tid, tied, by_cmp, unequal}
@@ -141,27 +145,39 @@ waits_is_there : (o : Option Thread) → IsWaiting o → IsSome o
 waits_is_there None w = absurd w
 waits_is_there (Some t) w = refl
 
-few_wait : (m : FinMap nat_cmp Thread) (order : List ℕ) (next : ℕ) → AreThreads m order next → length order ≤ 16
-few_wait m order next h =
+few_threads : (v : Version) → live_threads v ≤ 64
+few_threads One = omega arith
+few_threads Two = omega arith
+
+few_wait : {v : Version} (m : FinMap nat_cmp Thread) (order : List ℕ) (next : ℕ) → AreThreads v m order next → length order ≤ 64
+few_wait {v = v} m order next h =
     let among : length order ≤ length (entries m) =
     length-le_from_keys (eq_by_cmp_equiv nat_cmp_total) order (entries m) (distinct order h.waiting_once) (λ q any.
     subst (λ (o : Option Thread). IsSome o) (get-entries m q ∙ found_is (entries m) q)
     (waits_is_there (get m q) ((h.waiting q).0 (Contains-from_any same_tid q order any)))) in
-    omega (arith, among, len-entries m, h.live)
+    omega (arith, among, len-entries m, h.live, few_threads v)
 
 -- ---- the rest
 
 abbrev rest_of : State → CheckpointRest
 rest_of s = record { program_break = s.program_break; next_tid = s.next_tid; threads = parts_of (entries s.threads); waiting = s.waiting }
 
-low_thread : (tid next : ℕ) (t : Thread) → next ≤ 2 ^ 31 → (1 ≤ tid) × (tid < next) → IsThread t →
+timeout_text : (v : Version) (o : Option Timeout) → IfSome o (IsTimeout v) → IfSome o HasTimeoutText
+timeout_text v None h = tt
+timeout_text v (Some t) h = record { seconds = omega (arith, h.seconds); nanoseconds = omega (arith, h.nanoseconds) }
+
+wait_has_text : (v : Version) (o : Option FutexWait) → IfSome o (IsWait v) → IfSome o HasWaitText
+wait_has_text v None h = tt
+wait_has_text v (Some w) h = record { address = h.address; timeout = timeout_text v w.timeout h.timeout }
+
+low_thread : {v : Version} (tid next : ℕ) (t : Thread) → next ≤ 2 ^ 31 → (1 ≤ tid) × (tid < next) → IsThread v t →
     HasThreadText (record { tid = tid; thread = t })
-low_thread tid next t most low is = record {
+low_thread {v = v} tid next t most low is = record {
   tid = omega (arith, low.1);
   pc = is.regs.pc;
   registers = (is.regs.registers.0, recursion_from_All (λ n. n < 2 ^ 32) t.regs.registers is.regs.registers.1);
   x0 = is.regs.zero;
-  waits = is.waits;
+  waits = wait_has_text v t.wait is.waits;
   clear = is.clear;
 }
 
@@ -173,7 +189,8 @@ waiting_tid : (o : Option Thread) (tid next : ℕ) → next ≤ 2 ^ 31 → IsWai
 waiting_tid None tid next most w low = absurd w
 waiting_tid (Some t) tid next most w low = omega (arith, low.1)
 
-each_waiting : (m : FinMap nat_cmp Thread) (order : List ℕ) (next : ℕ) → AreThreads m order next → All (λ n. n < 2 ^ 32) order
+each_waiting : {v : Version} (m : FinMap nat_cmp Thread) (order : List ℕ) (next : ℕ) → AreThreads v m order next →
+    All (λ n. n < 2 ^ 32) order
 each_waiting m order next h k d below =
     let q = get_or order k d in
     waiting_tid (get m q) q next h.next_tid ((h.waiting q).0 (Contains-get_or order k d below)) (h.tids q)
@@ -184,7 +201,7 @@ has_rest_text s h =
     record {
       program_break = omega (arith, h.rules.breaks.1);
       next_tid = omega (arith, are.next_tid);
-      sixteen = omega (arith, length-parts_of (entries s.threads), len-entries s.threads, are.live);
+      few = omega (arith, length-parts_of (entries s.threads), len-entries s.threads, are.live, few_threads s.version);
       rising = increasing (map (λ p. p.tid) (parts_of (entries s.threads))) (tids_rise (entries s.threads) (entries_sorted s.threads));
       threads = each_thread (λ tid t. HasThreadText (record { tid = tid; thread = t })) (entries s.threads) (entries_sorted s.threads) (λ q.
           subst (λ (o : Option Thread). IfSome o (λ t. HasThreadText (record { tid = q; thread = t }))) (get-entries s.threads q)
@@ -254,15 +271,16 @@ none_past : (m : Memory) → IsPaged m → (a : ℕ) → 0x80000 ≤ a / page_by
 none_past m h a past = h.high a (omega arith)
 
 described : (base s : State) (pages : List PagePart) → pages ≡ entries_from s.memory 0 0x80000 → IsState base → IsState s →
-    base.opening_break ≡ s.opening_break →
+    base.version ≡ s.version → base.opening_break ≡ s.opening_break →
     s.reservation ≡ None → s.ended ≡ None → s ≡ described_state base pages (rest_of s)
-described base s pages are b h same free runs =
+described base s pages are b h version same free runs =
     let memory : s.memory ≡ patched pages base.memory =
     sym (ap (λ (ps : List PagePart). patched ps base.memory) are
     ∙ patched_whole s.memory base.memory 0x80000 h.rules.memory (none_past s.memory h.rules.memory)
     (none_past base.memory b.rules.memory)) in
     let threads : s.threads ≡ from_entries (map (λ p. (p.tid, p.thread)) (parts_of (entries s.threads))) = sym (threads_again s.threads) in
     λ i. record {
+      version = sym version i;
       memory = memory i;
       threads = threads i;
       waiting = s.waiting;
@@ -274,7 +292,7 @@ described base s pages are b h same free runs =
     }
 
 pub checkpoints_exist : CheckpointsExist
-checkpoints_exist base s b h same free runs =
+checkpoints_exist base s b h version same free runs =
     let m = s.memory in
     let fits : Fits m = h.rules.memory.cells in
     let rest : CheckpointRest = rest_of s in
@@ -294,7 +312,7 @@ checkpoints_exist base s b h same free runs =
               (subst (λ (ps : List PagePart). AllByRecursion IsPagePart ps) (sym are) (are_page_parts m 0x80000 0));
           tids_rising = (has_rest_text s h).rising;
           is_state = h.rules;
-          state_is = described base s (all_pages parts) are b h same free runs;
+          state_is = described base s (all_pages parts) are b h version same free runs;
         };
         limit = h.limit;
       },

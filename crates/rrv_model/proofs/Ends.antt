@@ -1,19 +1,18 @@
 -- What frames do, by how they ended: the laws that have an arm for each end. Others ask an end by its words, and cite these.
-use Rattle.std.proofs.Common.{◌≡◌, ℕ, zero, suc, ◌+◌, ◌-◌, ◌<◌, ◌≤◌, true, false, List, [], Option, Some, None, IfSome, refl, sym, ◌∙◌, ap, subst, arith}
+use Rattle.std.proofs.Common.{◌≡◌, ℕ, zero, suc, ◌+◌, ◌-◌, ◌<◌, ◌≤◌, Bool, true, false, List, [], Option, Some, None, IfSome, refl, sym, ap, subst, arith}
 use Rattle.std.proofs.lemmas.Bool.{false≢true}
 use Rattle.rrv_model.specs.declared.machine.FaultKind.{FaultKind}
 use Rattle.rrv_model.specs.declared.machine.GuestEnd.{GuestEnd}
 use Rattle.rrv_model.specs.declared.machine.GuestEnd.TheVariants as guest_ends
-use Rattle.rrv_model.specs.declared.machine.FaultKind.{FaultKind}
 use Rattle.rrv_model.specs.declared.record.CallRecord.{CallRecord}
 use Rattle.rrv_model.specs.declared.record.End.{End}
 use Rattle.rrv_model.specs.declared.record.End.TheVariants as ends
 use Rattle.rrv_model.specs.declared.record.Frame.{Frame}
-use Rattle.rrv_model.specs.State.{State, thread_at, IsEnd, IsRunning}
+use Rattle.rrv_model.specs.State.{State, thread_at, IsEnd, IsRunning, IsTimed}
 use Rattle.rrv_model.specs.Step.{CallsFrom}
 use Rattle.rrv_model.specs.Calls.{Answer, Calls}
-use Rattle.rrv_model.specs.Ends.{call_in, fault_in, guest_end, has_thread, is_preempt}
-use Rattle.rrv_model.specs.FrameStep.{Steps, FrameStepBy, Preempts, EndsInCall, EndsInFault, closed_at_end, closed_by}
+use Rattle.rrv_model.specs.Ends.{call_in, fault_in, guest_end, runs_thread, is_preempt, is_expiry}
+use Rattle.rrv_model.specs.FrameStep.{Steps, FrameStepBy, Preempts, EndsInCall, EndsInFault, Expires, closed_at_end, closed_by, expired}
 use Rattle.rrv_model.specs.Output.{Chunk, FramePuts, put_out_by}
 
 -- ---- what the words of an end tell of it
@@ -23,12 +22,21 @@ call_is ends.Preempt r e = absurd cc
 call_is (ends.Call q) r e = let same : q ≡ r = cc in ap ends.Call same
 call_is (ends.Fault kind) r e = absurd cc
 call_is ends.Stuck r e = absurd cc
+call_is ends.Expire r e = absurd cc
 
 pub preempt_is : (end : End) → is_preempt end ≡ true → end ≡ ends.Preempt
 preempt_is ends.Preempt e = refl
 preempt_is (ends.Call r) e = absurd (false≢true e)
 preempt_is (ends.Fault kind) e = absurd (false≢true e)
 preempt_is ends.Stuck e = absurd (false≢true e)
+preempt_is ends.Expire e = absurd (false≢true e)
+
+pub expiry_is : (end : End) → is_expiry end ≡ true → end ≡ ends.Expire
+expiry_is ends.Preempt e = absurd (false≢true e)
+expiry_is (ends.Call r) e = absurd (false≢true e)
+expiry_is (ends.Fault kind) e = absurd (false≢true e)
+expiry_is ends.Stuck e = absurd (false≢true e)
+expiry_is ends.Expire e = refl
 
 -- the end of a thread's run, by its call or its fault
 abbrev pub ran_end : Option CallRecord → Option FaultKind → End
@@ -36,22 +44,29 @@ ran_end (Some r) fault = ends.Call r
 ran_end None (Some kind) = ends.Fault kind
 ran_end None None = ends.Preempt
 
--- an end that has a thread is what its words say
-pub ran_end_is : (end : End) → has_thread end ≡ true → ran_end (call_in end) (fault_in end) ≡ end
+-- the end of a frame in which a thread ran is what its words say
+pub ran_end_is : (end : End) → runs_thread end ≡ true → ran_end (call_in end) (fault_in end) ≡ end
 ran_end_is ends.Preempt some = refl
 ran_end_is (ends.Call r) some = refl
 ran_end_is (ends.Fault kind) some = refl
 ran_end_is ends.Stuck some = absurd (false≢true some)
+ran_end_is ends.Expire some = absurd (false≢true some)
 
-threadless_is : (end : End) → has_thread end ≡ false → end ≡ ends.Stuck
-threadless_is ends.Preempt e = absurd (false≢true (sym e))
-threadless_is (ends.Call r) e = absurd (false≢true (sym e))
-threadless_is (ends.Fault kind) e = absurd (false≢true (sym e))
-threadless_is ends.Stuck e = refl
+-- no thread runs in a frame in which a wait ends
+pub ran_still : (end : End) → runs_thread end ≡ true → is_expiry end ≡ false
+ran_still ends.Preempt some = refl
+ran_still (ends.Call r) some = refl
+ran_still (ends.Fault kind) some = refl
+ran_still ends.Stuck some = refl
+ran_still ends.Expire some = absurd (false≢true some)
 
 -- one end has no thread
-pub one_threadless : (end other : End) → has_thread end ≡ false → has_thread other ≡ false → end ≡ other
-one_threadless end other none none' = threadless_is end none ∙ sym (threadless_is other none')
+pub stuck_is : (end : End) → runs_thread end ≡ false → is_expiry end ≡ false → end ≡ ends.Stuck
+stuck_is ends.Preempt e f = absurd (false≢true (sym e))
+stuck_is (ends.Call r) e f = absurd (false≢true (sym e))
+stuck_is (ends.Fault kind) e f = absurd (false≢true (sym e))
+stuck_is ends.Stuck e f = refl
+stuck_is ends.Expire e f = absurd (false≢true (sym f))
 
 -- ---- the parts of a frame
 
@@ -61,12 +76,14 @@ plain_steps ends.Preempt count = count
 plain_steps (ends.Call r) count = count - 1
 plain_steps (ends.Fault kind) count = count - 1
 plain_steps ends.Stuck count = 0
+plain_steps ends.Expire count = 0
 
 pub guest_end_is : (end : End) → IfSome (guest_end end) IsEnd
 guest_end_is ends.Preempt = tt
 guest_end_is (ends.Call r) = tt
 guest_end_is (ends.Fault kind) = tt
 guest_end_is ends.Stuck = tt
+guest_end_is ends.Expire = tt
 
 -- what the call of a frame does, if it ends in one
 abbrev pub AnswersCall : Option CallRecord → ℕ → State → State → Type 0
@@ -74,13 +91,18 @@ AnswersCall None tid before after = after ≡ before
 AnswersCall (Some r) tid before after =
     (called : State) × (answer : Answer) × CallsFrom before tid called × Calls called tid answer r after
 
--- a frame is plain steps, what its call does, and what closes it
+-- what the end of a wait does, if it is over
+abbrev pub expired_by : Bool → ℕ → State → State
+expired_by true tid s = expired tid s
+expired_by false tid s = s
+
+-- a frame is plain steps, what its call does or the end of a wait, and what closes it
 pub record FrameParts (end : End) (old : State) (tid count : ℕ) (new : State) : Type 0 where
   pub before : State
   pub steps : Steps (plain_steps end count) tid old before
   pub after : State
   pub answers : AnswersCall (call_in end) tid before after
-  pub new_is : new ≡ closed_by (guest_end end) after
+  pub new_is : new ≡ closed_by (guest_end end) (expired_by (is_expiry end) tid after)
 
 pub frame_parts : (end : End) (old : State) (tid count : ℕ) (new : State) → FrameStepBy end old tid count new →
     FrameParts end old tid count new
@@ -96,6 +118,7 @@ frame_parts (ends.Call r) old tid count new p = record {
 frame_parts (ends.Fault kind) old tid count new p =
     record { before = p.before; steps = p.steps; after = p.before; answers = refl; new_is = p.new_is }
 frame_parts ends.Stuck old tid count new p = record { before = old; steps = refl; after = old; answers = refl; new_is = p.new_is }
+frame_parts ends.Expire old tid count new p = record { before = old; steps = refl; after = old; answers = refl; new_is = p.new_is }
 
 -- ---- frames of no thread
 
@@ -104,30 +127,58 @@ pub record HasNoThread (old : State) (tid count : ℕ) (new : State) : Type 0 wh
   pub no_tid : tid ≡ 0
   pub no_step : count ≡ 0
   pub none_running : (t : ℕ) → IsRunning (thread_at old t) → ⊥
+  pub none_timed : (t : ℕ) → IsTimed (thread_at old t) → ⊥
   pub ends_so : GuestEnd
   pub new_is : new ≡ closed_at_end ends_so old
 
-pub no_thread : (end : End) (old : State) (tid count : ℕ) (new : State) → has_thread end ≡ false → FrameStepBy end old tid count new →
-    HasNoThread old tid count new
-no_thread ends.Preempt old tid count new none p = absurd (false≢true (sym none))
-no_thread (ends.Call r) old tid count new none p = absurd (false≢true (sym none))
-no_thread (ends.Fault kind) old tid count new none p = absurd (false≢true (sym none))
-no_thread ends.Stuck old tid count new none p = record {
+pub no_thread : (end : End) (old : State) (tid count : ℕ) (new : State) → runs_thread end ≡ false → is_expiry end ≡ false →
+    FrameStepBy end old tid count new → HasNoThread old tid count new
+no_thread ends.Preempt old tid count new none still p = absurd (false≢true (sym none))
+no_thread (ends.Call r) old tid count new none still p = absurd (false≢true (sym none))
+no_thread (ends.Fault kind) old tid count new none still p = absurd (false≢true (sym none))
+no_thread ends.Expire old tid count new none still p = absurd (false≢true (sym still))
+no_thread ends.Stuck old tid count new none still p = record {
   no_tid = p.no_tid;
   no_step = p.no_step;
   none_running = p.none_running;
+  none_timed = p.none_timed;
   ends_so = guest_ends.Stuck;
   new_is = p.new_is;
 }
 
--- so where none runs, a frame of no thread ends the guest
-pub rests : (end : End) (old : State) (tid count : ℕ) (new : State) → has_thread end ≡ false → tid ≡ 0 → count ≡ 0 →
-    ((t : ℕ) → IsRunning (thread_at old t) → ⊥) → new ≡ closed_by (guest_end end) old → FrameStepBy end old tid count new
-rests ends.Preempt old tid count new none no_tid no_step none_running new_is = absurd (false≢true (sym none))
-rests (ends.Call r) old tid count new none no_tid no_step none_running new_is = absurd (false≢true (sym none))
-rests (ends.Fault kind) old tid count new none no_tid no_step none_running new_is = absurd (false≢true (sym none))
-rests ends.Stuck old tid count new none no_tid no_step none_running new_is =
-    record { no_tid = no_tid; no_step = no_step; none_running = none_running; new_is = new_is }
+-- so if none runs, and none waits for a time, a frame of no thread ends the guest
+pub rests : (end : End) (old : State) (tid count : ℕ) (new : State) → runs_thread end ≡ false → is_expiry end ≡ false → tid ≡ 0 →
+    count ≡ 0 → ((t : ℕ) → IsRunning (thread_at old t) → ⊥) → ((t : ℕ) → IsTimed (thread_at old t) → ⊥) →
+    new ≡ closed_by (guest_end end) old → FrameStepBy end old tid count new
+rests ends.Preempt old tid count new none still no_tid no_step none_running none_timed new_is = absurd (false≢true (sym none))
+rests (ends.Call r) old tid count new none still no_tid no_step none_running none_timed new_is = absurd (false≢true (sym none))
+rests (ends.Fault kind) old tid count new none still no_tid no_step none_running none_timed new_is = absurd (false≢true (sym none))
+rests ends.Expire old tid count new none still no_tid no_step none_running none_timed new_is = absurd (false≢true (sym still))
+rests ends.Stuck old tid count new none still no_tid no_step none_running none_timed new_is = record {
+  no_tid = no_tid;
+  no_step = no_step;
+  none_running = none_running;
+  none_timed = none_timed;
+  new_is = new_is;
+}
+
+-- ---- frames in which a wait ends
+
+pub expires : (end : End) (old : State) (tid count : ℕ) (new : State) → is_expiry end ≡ true → FrameStepBy end old tid count new →
+    Expires old tid count new
+expires ends.Preempt old tid count new is p = absurd (false≢true is)
+expires (ends.Call r) old tid count new is p = absurd (false≢true is)
+expires (ends.Fault kind) old tid count new is p = absurd (false≢true is)
+expires ends.Stuck old tid count new is p = absurd (false≢true is)
+expires ends.Expire old tid count new is p = p
+
+pub awakes : (end : End) (old : State) (tid count : ℕ) (new : State) → is_expiry end ≡ true → Expires old tid count new →
+    FrameStepBy end old tid count new
+awakes ends.Preempt old tid count new is p = absurd (false≢true is)
+awakes (ends.Call r) old tid count new is p = absurd (false≢true is)
+awakes (ends.Fault kind) old tid count new is p = absurd (false≢true is)
+awakes ends.Stuck old tid count new is p = absurd (false≢true is)
+awakes ends.Expire old tid count new is p = p
 
 -- ---- inside a frame
 
@@ -187,6 +238,7 @@ frame_split (ends.Fault kind) s new tid count n below h =
     let both = steps_split n (count - n - 1) tid s h.before (subst (λ i. Steps i tid s h.before) sum h.steps) in
     (both.0, both.1, fault_ends s both.0 tid count (count - n) kind new h (omega arith) both.2)
 frame_split ends.Stuck s new tid count n below h = absurd (omega (arith, h.no_step))
+frame_split ends.Expire s new tid count n below h = absurd (omega (arith, h.no_step))
 
 pub frame_join : (end : End) (s mid new : State) (tid count n : ℕ) → n < count → Steps n tid s mid →
     FrameStepBy end mid tid (count - n) new → FrameStepBy end s tid count new
@@ -209,6 +261,7 @@ frame_join (ends.Fault kind) s mid new tid count n below some h =
     let all = subst (λ i. Steps i tid s h.before) sum (steps_join n (count - n - 1) tid s mid h.before some h.steps) in
     fault_ends mid s tid (count - n) count kind new h (omega arith) all
 frame_join ends.Stuck s mid new tid count n below some h = absurd (omega (arith, h.no_step))
+frame_join ends.Expire s mid new tid count n below some h = absurd (omega (arith, h.no_step))
 
 -- ---- output
 
@@ -219,3 +272,4 @@ puts_some ends.Preempt s new f p = ([], refl)
 puts_some (ends.Call r) s new f p = (put_out_by (thread_at p.before f.tid) p.before.memory r.result, (p.before, p.steps, refl))
 puts_some (ends.Fault kind) s new f p = ([], refl)
 puts_some ends.Stuck s new f p = ([], refl)
+puts_some ends.Expire s new f p = ([], refl)

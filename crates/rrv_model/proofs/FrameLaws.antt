@@ -9,11 +9,11 @@ use Rattle.rrv_model.specs.Instructions.{Decodes}
 use Rattle.rrv_model.specs.State.{State}
 use Rattle.rrv_model.specs.Step.{Hart, Step, StepOfWord, HartStep, StepsTo, CallsFrom, Outcome, Next, Called, fetched, executed, hart_of, with_hart}
 use Rattle.rrv_model.specs.Calls.{Calls}
-use Rattle.rrv_model.specs.Ends.{call_in, guest_end}
+use Rattle.rrv_model.specs.Ends.{call_in, guest_end, is_expiry}
 use Rattle.rrv_model.specs.FrameStep.{Steps, FrameStepBy, OneStateAfterFrame, closed_by}
 use Rattle.rrv_model.proofs.InstructionLaws.{one_row}
 use Rattle.rrv_model.proofs.CallLaws.{one_state_after_call, same_thread}
-use Rattle.rrv_model.proofs.Ends.{AnswersCall, frame_parts, plain_steps}
+use Rattle.rrv_model.proofs.Ends.{AnswersCall, expired_by, frame_parts, plain_steps}
 
 one_decoding : (w : ℕ) (i j : Option Instr) → Decodes w i → Decodes w j → i ≡ j
 one_decoding w (Some i) (Some j) p q = ap Some (one_row w i j p q)
@@ -80,7 +80,8 @@ one_by end old tid count new new' p q =
     let b = frame_parts end old tid count new' q in
     let before : b.before ≡ a.before = one_end (plain_steps end count) tid old b.before a.before b.steps a.steps in
     a.new_is
-    ∙ ap (closed_by (guest_end end)) (one_answered (call_in end) tid a.before b.before a.after b.after before a.answers b.answers)
+    ∙ ap (λ (s : State). closed_by (guest_end end) (expired_by (is_expiry end) tid s))
+    (one_answered (call_in end) tid a.before b.before a.after b.after before a.answers b.answers)
     ∙ sym b.new_is
 
 pub one_state_after_frame : OneStateAfterFrame

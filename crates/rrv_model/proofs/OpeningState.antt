@@ -11,7 +11,10 @@ use Rattle.std.proofs.lemmas.List.Elements.{All-set, All-replicate, All-from_get
 use Rattle.std.proofs.lemmas.Bool.Decides.{nat_tests}
 use Rattle.rrv_model.specs.declared.machine.Thread.{Thread}
 use Rattle.rrv_model.specs.Memory.{page_bytes, pages_for}
-use Rattle.rrv_model.specs.State.{IsState, IsThread, AreThreads, AreRegs, IsWaiting}
+use Rattle.rrv_model.specs.declared.machine.FutexWait.{FutexWait}
+use Rattle.rrv_model.specs.declared.machine.Version.{Version}
+use Rattle.rrv_model.specs.declared.machine.Version.TheVariants.{One, Two}
+use Rattle.rrv_model.specs.State.{IsState, IsThread, AreThreads, AreRegs, IsWaiting, live_threads}
 use Rattle.rrv_model.specs.Elf.{Header, loads, load_end, refusal, elf_entry, is_empty_load, IsLoad}
 use Rattle.rrv_model.specs.Opening.{opening_state, opening_thread, image_break, stack_pointer, IsName, OpeningsAreStates}
 use Rattle.rrv_model.proofs.ImageParts.{AreLoads, IsAccepted}
@@ -43,8 +46,8 @@ first_regs pc sp small_pc small_sp = record {
   zero = refl;
 }
 
-pub is_first_thread : (pc sp : ℕ) → pc < 2 ^ 32 → sp < 2 ^ 32 →
-    IsThread (record { regs = record { pc = pc; registers = slice_set (replicate 32 0) 2 sp }; waits_at = None; clear = 0 })
+pub is_first_thread : {v : Version} (pc sp : ℕ) → pc < 2 ^ 32 → sp < 2 ^ 32 →
+    IsThread v (record { regs = record { pc = pc; registers = slice_set (replicate 32 0) 2 sp }; wait = None; clear = 0 })
 is_first_thread pc sp small_pc small_sp = record {
   regs = first_regs pc sp small_pc small_sp;
   waits = tt;
@@ -71,14 +74,14 @@ of_thread_one : (t : Thread) (tid : ℕ) (P : ℕ → Thread → Type 0) → P 1
     IfSome (get (insert (empty {X = Thread} {R = nat_cmp}) 1 t) tid) (P tid)
 of_thread_one t tid P h = subst (λ (o : Option Thread). IfSome o (P tid)) (sym (thread_one t tid)) (some_if t tid P (tid == 1) refl h)
 
-none_some : IsSome {T = ℕ} None → ⊥
+none_some : IsSome {T = FutexWait} None → ⊥
 none_some h = cc
 
-not_waiting_if : (t : Thread) (b : Bool) → t.waits_at ≡ None → IsWaiting (if b then Some t else None) → ⊥
-not_waiting_if t true e h = none_some (subst (λ (o : Option ℕ). IsSome o) e h)
+not_waiting_if : (t : Thread) (b : Bool) → t.wait ≡ None → IsWaiting (if b then Some t else None) → ⊥
+not_waiting_if t true e h = none_some (subst (λ (o : Option FutexWait). IsSome o) e h)
 not_waiting_if t false e h = h
 
-none_waits : (t : Thread) (tid : ℕ) → t.waits_at ≡ None → IsWaiting (get (insert (empty {X = Thread} {R = nat_cmp}) 1 t) tid) → ⊥
+none_waits : (t : Thread) (tid : ℕ) → t.wait ≡ None → IsWaiting (get (insert (empty {X = Thread} {R = nat_cmp}) 1 t) tid) → ⊥
 none_waits t tid e h = not_waiting_if t (tid == 1) e (subst IsWaiting (thread_one t tid) h)
 
 -- ---- the break
@@ -140,24 +143,28 @@ low_image_break file accepted = whole_pages _ (low_break file (loads file) 0 acc
 
 -- ---- the state
 
-len_if : {all before : ℕ} (has : Bool) → before ≡ 0 → all ≡ cond has before (before + 1) → all ≤ 16
+len_if : {all before : ℕ} (has : Bool) → before ≡ 0 → all ≡ cond has before (before + 1) → all ≤ 1
 len_if true e f = omega arith
 len_if false e f = omega arith
 
-live-one : (t : Thread) → len (insert (empty {X = Thread} {R = nat_cmp}) 1 t) ≤ 16
+live-one : (t : Thread) → len (insert (empty {X = Thread} {R = nat_cmp}) 1 t) ≤ 1
 live-one t = len_if _ (len-empty nat_cmp Thread) (len-insert nat_cmp_total empty 1 t)
 
-pub is_opening_state : (file name random : List ℕ) → refusal file ≡ None → All (λ b. b < 256) file → IsName name →
+one_may_live : (v : Version) → 1 ≤ live_threads v
+one_may_live One = omega arith
+one_may_live Two = omega arith
+
+pub is_opening_state : (version : Version) (file name random : List ℕ) → refusal file ≡ None → All (λ b. b < 256) file → IsName name →
     All (λ b. b < 256) random →
-    IsState (opening_state file name random)
-is_opening_state file name random none small is_name random_small =
+    IsState (opening_state version file name random)
+is_opening_state version file name random none small is_name random_small =
     let t = opening_thread file name in
     let memory = is_opening_memory file name random none small is_name random_small in
-    let threads : AreThreads (opening_state file name random).threads [] 2 = record {
-      threads = λ tid. of_thread_one t tid (λ _. IsThread)
+    let threads : AreThreads version (opening_state version file name random).threads [] 2 = record {
+      threads = λ tid. of_thread_one t tid (λ _. IsThread version)
           (is_first_thread (elf_entry file) (stack_pointer name) (word-small (drop 24 file) (small-drop 24 file (are_bytes file small)))
           (small-stack_pointer name));
-      live = live-one t;
+      live = omega (arith, live-one t, one_may_live version);
       tids = λ tid. of_thread_one t tid (λ k _. (1 ≤ k) × (k < 2)) (omega arith, omega arith);
       first = omega arith;
       next_tid = omega arith;
@@ -177,5 +184,6 @@ is_opening_state file name random none small is_name random_small =
     }
 
 pub openings_are_states : OpeningsAreStates
-openings_are_states file name random s opens =
-    subst IsState (sym opens.state_is) (is_opening_state file name random opens.accepted opens.file_bytes opens.is_name opens.random_bytes)
+openings_are_states o s opens =
+    subst IsState (sym opens.state_is)
+    (is_opening_state o.version o.elf o.name o.random opens.accepted opens.file_bytes opens.is_name opens.random_bytes)

@@ -14,7 +14,7 @@ use Rattle.rrv_model.specs.Standing.{Leads, StandsBehind}
 use Rattle.rrv_model.proofs.FrameLaws.{one_state_after_frame}
 
 -- the opening alone
-pub opening_behind : (o : Opening) (s : State) → Opens o.elf o.name o.random s → StandsBehind (items.Opening o ∷ []) s [] s
+pub opening_behind : (o : Opening) (s : State) → Opens o s → StandsBehind (items.Opening o ∷ []) s [] s
 opening_behind o s opens = λ rest. (
   λ h.
       let same : h.0 ≡ s = h.1.state_is ∙ sym opens.state_is in

@@ -6,7 +6,8 @@ use Rattle.rrv_model.specs.declared.machine.Thread.{Thread}
 use Rattle.rrv_model.specs.declared.machine.GuestEnd.{GuestEnd}
 use Rattle.rrv_model.specs.declared.record.Written.{Written}
 use Rattle.rrv_model.specs.Memory.{Memory, IsMemory}
-use Rattle.rrv_model.specs.State.{State, IsState, IsEnd, IsThread, IsRunning, AreThreads, thread_at}
+use Rattle.rrv_model.specs.declared.machine.FutexWait.{FutexWait}
+use Rattle.rrv_model.specs.State.{State, IsState, IsEnd, IsThread, IsWait, IsRunning, AreThreads, thread_at}
 use Rattle.rrv_model.specs.Step.{Hart, Outcome, Next, Called, Step, StepsTo, CallsFrom, hart_of, with_hart}
 use Rattle.rrv_model.specs.CallRows.{change_thread, changed, set_register, waiters, wakes, woken, waits, leaves, ends, with_memory}
 use Rattle.rrv_model.specs.Calls.{writes, results}
@@ -23,7 +24,7 @@ memory_of_state s h = record { pages = h.rules.memory; limit = h.limit }
 pub keeps-memory : (m : Memory) (s : State) → IsMemory m → IsState s → IsState (with_memory m s)
 keeps-memory m s is h = search rules
 
-pub keeps-threads : (m : FinMap nat_cmp Thread) (order : List ℕ) (next : ℕ) (s : State) → AreThreads m order next → IsState s →
+pub keeps-threads : (m : FinMap nat_cmp Thread) (order : List ℕ) (next : ℕ) (s : State) → AreThreads s.version m order next → IsState s →
     IsState (record s { threads = m; waiting = order; next_tid = next })
 keeps-threads m order next s are h = search rules
 
@@ -39,8 +40,8 @@ keeps-break a s low high h = search rules
 -- ---- threads
 
 -- a thread that is changed, but for where it waits
-pub keeps-change : (tid : ℕ) (change : Thread → Thread) (s : State) → ((t : Thread) → IsThread t → IsThread (change t)) →
-    ((t : Thread) → (change t).waits_at ≡ t.waits_at) →
+pub keeps-change : (tid : ℕ) (change : Thread → Thread) (s : State) →
+    ((t : Thread) → IsThread s.version t → IsThread s.version (change t)) → ((t : Thread) → (change t).wait ≡ t.wait) →
     IsState s → IsState (change_thread tid change s)
 keeps-change tid change s fits same h =
     subst IsState (sym (change_is tid change s))
@@ -69,10 +70,11 @@ all_woken (tid ∷ tids) s h = all_woken tids (woken s tid) (keeps-woken s tid h
 pub keeps-wakes : (a count : ℕ) (s : State) → IsState s → IsState (wakes a count s)
 keeps-wakes a count s h = all_woken (waiters s a count) s h
 
-pub keeps-waits : (tid a : ℕ) (s : State) → IsRunning (thread_at s tid) → a < 2 ^ 32 → IsState s → IsState (waits tid a s)
+pub keeps-waits : (tid : ℕ) (a : FutexWait) (s : State) → IsRunning (thread_at s tid) → IsWait s.version a → IsState s →
+    IsState (waits tid a s)
 keeps-waits tid a s runs low h =
-    subst IsState (sym (change_is tid (λ t. record t { waits_at = Some a }) (record s { waiting = s.waiting ++ tid ∷ [] })))
-    (keeps-threads (changed tid (λ t. record t { waits_at = Some a }) s.threads) (s.waiting ++ tid ∷ []) s.next_tid s
+    subst IsState (sym (change_is tid (λ t. record t { wait = Some a }) (record s { waiting = s.waiting ++ tid ∷ [] })))
+    (keeps-threads (changed tid (λ t. record t { wait = Some a }) s.threads) (s.waiting ++ tid ∷ []) s.next_tid s
     (keeps_waits s.threads s.waiting s.next_tid tid a h.rules.threads runs low) h)
 
 pub keeps-ends : (status : ℕ) (s : State) → IsState s → IsState (ends status s)
@@ -100,12 +102,12 @@ keeps-results tid result s low h = keeps-register tid 10 result s low h
 
 -- ---- steps
 
-there_is : (o : Option Thread) (t : Thread) → o ≡ Some t → IfSome o IsThread → IsThread t
-there_is o t e h = subst (λ (o : Option Thread). IfSome o IsThread) e h
+there_is : (P : Thread → Type 0) (o : Option Thread) (t : Thread) → o ≡ Some t → IfSome o P → P t
+there_is P o t e h = subst (λ (o : Option Thread). IfSome o P) e h
 
 -- the thread is one
-pub thread_of_state : (s : State) (tid : ℕ) (t : Thread) → thread_at s tid ≡ Some t → IsState s → IsThread t
-thread_of_state s tid t there h = there_is (thread_at s tid) t there (h.rules.threads.threads tid)
+pub thread_of_state : (s : State) (tid : ℕ) (t : Thread) → thread_at s tid ≡ Some t → IsState s → IsThread s.version t
+thread_of_state s tid t there h = there_is (IsThread s.version) (thread_at s tid) t there (h.rules.threads.threads tid)
 
 changed_there : (m : FinMap nat_cmp Thread) (tid : ℕ) (change : Thread → Thread) (t : Thread) → get m tid ≡ Some t →
     changed tid change m ≡ insert m tid (change t)
@@ -115,11 +117,12 @@ pub keeps-hart : (s : State) (tid : ℕ) (t : Thread) (h : Hart) → thread_at s
     IsState (with_hart tid t h s)
 keeps-hart s tid t h there is are =
     let change : Thread → Thread = λ u. record u { regs = h.regs } in
-    let threads : AreThreads (changed tid change s.threads) s.waiting s.next_tid =
+    let threads : AreThreads s.version (changed tid change s.threads) s.waiting s.next_tid =
     keeps_changed s.threads s.waiting s.next_tid tid change are.rules.threads
     (λ u g. record { regs = is.regs; waits = g.waits; clear = g.clear }) (λ u. refl) in
-    let now : AreThreads (insert s.threads tid (record t { regs = h.regs })) s.waiting s.next_tid =
-    subst (λ (m : FinMap nat_cmp Thread). AreThreads m s.waiting s.next_tid) (changed_there s.threads tid change t there) threads in
+    let now : AreThreads s.version (insert s.threads tid (record t { regs = h.regs })) s.waiting s.next_tid =
+    subst (λ (m : FinMap nat_cmp Thread). AreThreads s.version m s.waiting s.next_tid) (changed_there s.threads tid change t there)
+    threads in
     keeps-reservation h.reservation _ is.reservation (keeps-memory h.memory _ is.memory (keeps-threads _ s.waiting s.next_tid s now are))
 
 pub is_hart_of : (s : State) (tid : ℕ) (t : Thread) → thread_at s tid ≡ Some t → IsState s → IsHart (hart_of s t)

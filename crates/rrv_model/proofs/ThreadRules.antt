@@ -12,7 +12,10 @@ use Rattle.std.specs.Ordering.{nat_cmp, eq_by_cmp, is_eq}
 use Rattle.std.specs.declared.cmp.Ordering.{Ordering}
 use Rattle.std.specs.declared.cmp.Ordering.TheVariants.{Less, Equal, Greater}
 use Rattle.rrv_model.specs.declared.machine.Thread.{Thread}
-use Rattle.rrv_model.specs.State.{State, IsThread, IsRunning, IsWaiting, AreThreads, thread_at}
+use Rattle.rrv_model.specs.declared.machine.FutexWait.{FutexWait}
+use Rattle.rrv_model.specs.declared.machine.Version.{Version}
+use Rattle.rrv_model.specs.declared.machine.Version.TheVariants.{One, Two}
+use Rattle.rrv_model.specs.State.{State, IsThread, IsWait, IsRunning, IsWaiting, AreThreads, thread_at, live_threads}
 use Rattle.rrv_model.specs.CallRows.{change_thread, changed, waiters, wakes, woken}
 
 -- ---- tids
@@ -60,8 +63,8 @@ of_filtered p xs q c = (
 
 -- ---- one thread that is another
 
-pub not_waiting : (t : Thread) → t.waits_at ≡ None → IsSome t.waits_at → ⊥
-not_waiting t runs w = false≢true (subst (λ (o : Option ℕ). IsSome o) runs w)
+pub not_waiting : (t : Thread) → t.wait ≡ None → IsSome t.wait → ⊥
+not_waiting t runs w = false≢true (subst (λ (o : Option FutexWait). IsSome o) runs w)
 
 pub running_not_waiting : (o : Option Thread) → IsRunning o → IsWaiting o → ⊥
 running_not_waiting None r w = r
@@ -76,13 +79,15 @@ wider None q n n' more h = tt
 wider (Some t) q n n' more h = (h.0, omega (arith, h.1))
 
 -- the map differs at one tid
-keeps : (m m' : FinMap nat_cmp Thread) (order order' : List ℕ) (next next' tid : ℕ) (o : Option Thread) → AreThreads m order next →
-    ((q : ℕ) → get m' q ≡ cond (eq_by_cmp nat_cmp q tid) o (get m q)) → len m' ≤ 16 → IfSome o IsThread →
+keeps : {v : Version} (m m' : FinMap nat_cmp Thread) (order order' : List ℕ) (next next' tid : ℕ) (o : Option Thread) →
+    AreThreads v m order next →
+    ((q : ℕ) → get m' q ≡ cond (eq_by_cmp nat_cmp q tid) o (get m q)) → len m' ≤ live_threads v → IfSome o (IsThread v) →
     IfSome o (λ _. (1 ≤ tid) × (tid < next')) →
     next ≤ next' → next' ≤ 2 ^ 31 → ((q : ℕ) → Contains order' q ↔ IsWaiting (cond (eq_by_cmp nat_cmp q tid) o (get m q))) →
-    AllPairs (λ a b. a ≢ b) order' → AreThreads m' order' next'
-keeps m m' order order' next next' tid o h reads live fits low more most waits once = record {
-  threads = λ q. subst (λ (p : Option Thread). IfSome p IsThread) (sym (reads q)) (one_of IsThread _ o (get m q) (λ _. fits) (h.threads q));
+    AllPairs (λ a b. a ≢ b) order' → AreThreads v m' order' next'
+keeps {v = v} m m' order order' next next' tid o h reads live fits low more most waits once = record {
+  threads = λ q. subst (λ (p : Option Thread). IfSome p (IsThread v)) (sym (reads q))
+      (one_of (IsThread v) _ o (get m q) (λ _. fits) (h.threads q));
   live = live;
   tids = λ q. subst (λ (p : Option Thread). IfSome p (λ _. (1 ≤ q) × (q < next'))) (sym (reads q))
       (one_of (λ _. (1 ≤ q) × (q < next')) _ o (get m q)
@@ -95,17 +100,21 @@ keeps m m' order order' next next' tid o h reads live fits low more most waits o
 }
 
 -- the rules, along equations
-pub moved : {m m' : FinMap nat_cmp Thread} {order order' : List ℕ} {next : ℕ} → m' ≡ m → order' ≡ order → AreThreads m order next →
-    AreThreads m' order' next
-moved {m = m} {order' = order'} {next = next} e f h =
-    subst (λ (n : FinMap nat_cmp Thread). AreThreads n order' next) (sym e) (subst (λ (o : List ℕ). AreThreads m o next) (sym f) h)
+pub moved : {v : Version} {m m' : FinMap nat_cmp Thread} {order order' : List ℕ} {next : ℕ} → m' ≡ m → order' ≡ order →
+    AreThreads v m order next → AreThreads v m' order' next
+moved {v = v} {m = m} {order' = order'} {next = next} e f h =
+    subst (λ (n : FinMap nat_cmp Thread). AreThreads v n order' next) (sym e) (subst (λ (o : List ℕ). AreThreads v m o next) (sym f) h)
 
 -- ---- no thread
 
-pub no_threads : AreThreads empty [] 1
-no_threads = record {
-  threads = λ q. subst (λ (o : Option Thread). IfSome o IsThread) (sym (get-empty nat_cmp q)) tt;
-  live = omega (arith, len-empty nat_cmp Thread);
+pub few_at_once : (v : Version) → 1 ≤ live_threads v
+few_at_once One = omega arith
+few_at_once Two = omega arith
+
+pub no_threads : (v : Version) → AreThreads v empty [] 1
+no_threads v = record {
+  threads = λ q. subst (λ (o : Option Thread). IfSome o (IsThread v)) (sym (get-empty nat_cmp q)) tt;
+  live = omega (arith, len-empty nat_cmp Thread, few_at_once v);
   tids = λ q. subst (λ (o : Option Thread). IfSome o (λ _. (1 ≤ q) × (q < 1))) (sym (get-empty nat_cmp q)) tt;
   first = omega arith;
   next_tid = omega arith;
@@ -117,8 +126,8 @@ no_threads = record {
 -- ---- one more
 
 -- what the test of room means
-pub room_left : (live next : ℕ) → nat_le 16 live || nat_lt (2 ^ 31 - 1) next ≡ false → (live < 16) × (next < 2 ^ 31)
-room_left live next e = (grind (arith, nat_tests), grind (arith, nat_tests))
+pub room_left : (limit live next : ℕ) → nat_le limit live || nat_lt (2 ^ 31 - 1) next ≡ false → (live < limit) × (next < 2 ^ 31)
+room_left limit live next e = (grind (arith, nat_tests), grind (arith, nat_tests))
 
 grown : (b : Bool) (n : ℕ) → cond b n (n + 1) ≤ n + 1
 grown true n = omega arith
@@ -129,9 +138,9 @@ unborn : (o : Option Thread) (q next : ℕ) → IfSome o (λ _. (1 ≤ q) × (q 
 unborn None q next h e w = w
 unborn (Some t) q next h e w = omega (arith, h.1)
 
-pub keeps_spawned : (m : FinMap nat_cmp Thread) (order : List ℕ) (next : ℕ) (t : Thread) → AreThreads m order next → len m < 16 →
-    next < 2 ^ 31 → IsThread t →
-    t.waits_at ≡ None → AreThreads (insert m next t) order (next + 1)
+pub keeps_spawned : {v : Version} (m : FinMap nat_cmp Thread) (order : List ℕ) (next : ℕ) (t : Thread) → AreThreads v m order next →
+    len m < live_threads v → next < 2 ^ 31 → IsThread v t →
+    t.wait ≡ None → AreThreads v (insert m next t) order (next + 1)
 keeps_spawned m order next t h room left fits runs =
     let size : len (insert m next t) ≤ len m + 1 = subst (λ n. n ≤ len m + 1) (sym (len-insert nat_cmp_total m next t)) (grown _ (len m)) in
     keeps m (insert m next t) order order next (next + 1) next (Some t) h (get-insert nat_cmp_total m next t) (omega arith) fits
@@ -148,8 +157,8 @@ shrunk : (b : Bool) (n : ℕ) → cond b (n - 1) n ≤ n
 shrunk true n = omega arith
 shrunk false n = omega arith
 
-pub keeps_left : (m : FinMap nat_cmp Thread) (order : List ℕ) (next tid : ℕ) → AreThreads m order next → IsRunning (get m tid) →
-    AreThreads (remove m tid) order next
+pub keeps_left : {v : Version} (m : FinMap nat_cmp Thread) (order : List ℕ) (next tid : ℕ) → AreThreads v m order next →
+    IsRunning (get m tid) → AreThreads v (remove m tid) order next
 keeps_left m order next tid h runs =
     let size : len (remove m tid) ≤ len m = subst (λ n. n ≤ len m) (sym (len-remove nat_cmp_total m tid)) (shrunk _ (len m)) in
     keeps m (remove m tid) order order next next tid None h (get-remove nat_cmp_total m tid) (omega (arith, h.live)) tt tt (omega arith)
@@ -199,8 +208,8 @@ len-changed m tid change = by (get m tid) refl where
   by (Some t) e = ap (λ (m' : FinMap nat_cmp Thread). len m') (changed_there m tid change t e) ∙ len-insert nat_cmp_total m tid (change t)
       ∙ ap (λ (o : Option Thread). cond (is_some o) (len m) (len m + 1)) e
 
-maps_fits : (tid : ℕ) (change : Thread → Thread) (o : Option Thread) → ((t : Thread) → IsThread t → IsThread (change t)) →
-    IfSome o IsThread → IfSome (changed_at tid change o) IsThread
+maps_fits : {v : Version} (tid : ℕ) (change : Thread → Thread) (o : Option Thread) → ((t : Thread) → IsThread v t → IsThread v (change t)) →
+    IfSome o (IsThread v) → IfSome (changed_at tid change o) (IsThread v)
 maps_fits tid change None f h = tt
 maps_fits tid change (Some t) f h = f t h
 
@@ -210,9 +219,10 @@ maps_low tid next change None h = tt
 maps_low tid next change (Some t) h = h
 
 -- a change that leaves where the thread waits
-pub keeps_changed : (m : FinMap nat_cmp Thread) (order : List ℕ) (next tid : ℕ) (change : Thread → Thread) → AreThreads m order next →
-    ((t : Thread) → IsThread t → IsThread (change t)) → ((t : Thread) → (change t).waits_at ≡ t.waits_at) →
-    AreThreads (changed tid change m) order next
+pub keeps_changed : {v : Version} (m : FinMap nat_cmp Thread) (order : List ℕ) (next tid : ℕ) (change : Thread → Thread) →
+    AreThreads v m order next →
+    ((t : Thread) → IsThread v t → IsThread v (change t)) → ((t : Thread) → (change t).wait ≡ t.wait) →
+    AreThreads v (changed tid change m) order next
 keeps_changed m order next tid change h fits same =
     keeps m (changed tid change m) order order next next tid (changed_at tid change (get m tid)) h (get-changed m tid change)
     (omega (arith, h.live, len-changed m tid change))
@@ -220,7 +230,7 @@ keeps_changed m order next tid change h fits same =
     (λ q. waits q (eq_by_cmp nat_cmp q tid) refl) h.waiting_once where
       waiting_same : (o : Option Thread) → IsWaiting (changed_at tid change o) ≡ IsWaiting o
       waiting_same None = refl
-      waiting_same (Some t) = ap (λ (o : Option ℕ). IsSome o) (same t)
+      waiting_same (Some t) = ap (λ (o : Option FutexWait). IsSome o) (same t)
 
       waits : (q : ℕ) (b : Bool) → eq_by_cmp nat_cmp q tid ≡ b →
           Contains order q ↔ IsWaiting (cond b (changed_at tid change (get m tid)) (get m q))
@@ -231,10 +241,10 @@ keeps_changed m order next tid change h fits same =
 
 -- a thread that runs again
 abbrev pub resumed : Thread → Thread
-resumed t = record t { waits_at = None }
+resumed t = record t { wait = None }
 
-pub keeps_woken : (m : FinMap nat_cmp Thread) (order : List ℕ) (next tid : ℕ) → AreThreads m order next →
-    AreThreads (changed tid resumed m) (filter (λ w. not (nat_eq w tid)) order) next
+pub keeps_woken : {v : Version} (m : FinMap nat_cmp Thread) (order : List ℕ) (next tid : ℕ) → AreThreads v m order next →
+    AreThreads v (changed tid resumed m) (filter (λ w. not (nat_eq w tid)) order) next
 keeps_woken m order next tid h =
     keeps m (changed tid resumed m) order (filter (λ w. not (nat_eq w tid)) order) next next tid (changed_at tid resumed (get m tid)) h
     (get-changed m tid resumed)
@@ -260,17 +270,17 @@ keeps_woken m order next tid h =
 
 -- ---- one that waits
 
--- a thread that waits at a
-abbrev waits_from : ℕ → Thread → Thread
-waits_from a t = record t { waits_at = Some a }
+-- a thread that waits so
+abbrev waits_from : FutexWait → Thread → Thread
+waits_from a t = record t { wait = Some a }
 
-it_waits : (a tid : ℕ) (o : Option Thread) → IsRunning o → IsWaiting (changed_at tid (waits_from a) o)
+it_waits : (a : FutexWait) (tid : ℕ) (o : Option Thread) → IsRunning o → IsWaiting (changed_at tid (waits_from a) o)
 it_waits a tid None r = absurd r
 it_waits a tid (Some t) r = refl
 
-pub keeps_waits : (m : FinMap nat_cmp Thread) (order : List ℕ) (next tid a : ℕ) → AreThreads m order next → IsRunning (get m tid) →
-    a < 2 ^ 32 →
-    AreThreads (changed tid (λ t. record t { waits_at = Some a }) m) (order ++ tid ∷ []) next
+pub keeps_waits : {v : Version} (m : FinMap nat_cmp Thread) (order : List ℕ) (next tid : ℕ) (a : FutexWait) → AreThreads v m order next →
+    IsRunning (get m tid) → IsWait v a →
+    AreThreads v (changed tid (λ t. record t { wait = Some a }) m) (order ++ tid ∷ []) next
 keeps_waits m order next tid a h runs fits =
     keeps m (changed tid (waits_from a) m) order (order ++ tid ∷ []) next next tid (changed_at tid (waits_from a) (get m tid)) h
     (get-changed m tid (waits_from a))

@@ -23,5 +23,5 @@ pub changed_there : (tid : ℕ) (change : Thread → Thread) (s : State) (t : Th
 changed_there tid change s t there = rw there refl
 
 -- the thread there runs
-pub running_there : (o : Option Thread) (t : Thread) → o ≡ Some t → t.waits_at ≡ None → IsRunning o
+pub running_there : (o : Option Thread) (t : Thread) → o ≡ Some t → t.wait ≡ None → IsRunning o
 running_there o t there runs = subst (λ (o : Option Thread). IsRunning o) (sym there) runs

@@ -1,12 +1,16 @@
 -- What each call does: the subset of Linux calls that a guest may make, a row a call (Linux man pages, section 2).
 use Rattle.std.specs.Prelude.{ℕ, zero, suc, ◌+◌, ◌-◌, ◌*◌, ◌/◌, ◌%◌, ◌^◌, min, Bool, true, false, not, ◌&&◌, ◌||◌}
-use Rattle.std.specs.Prelude.{◌==◌, nat_lt, nat_le, bit_and, if◌then◌else◌, List, [], ◌∷◌, ◌++◌, length, take, filter}
-use Rattle.std.specs.Prelude.{flat_map, sum_by, fold, Option, Some, None, codes}
+use Rattle.std.specs.Prelude.{◌==◌, nat_lt, nat_le, bit_and, if◌then◌else◌, List, [], ◌∷◌, ◌++◌, length, take, drop, filter}
+use Rattle.std.specs.Prelude.{flat_map, sum_by, fold, Option, Some, None, Result, Ok, Err, codes}
 use Rattle.std.specs.FinMap.{FinMap, get, insert, remove, len}
 use Rattle.std.specs.Ordering.{nat_cmp}
-use Rattle.std.specs.Int.{w32, to_le_bytes}
+use Rattle.std.specs.Int.{w32, w64, from_le_bytes, to_le_bytes}
 use Rattle.rrv_model.specs.declared.machine.Permissions.{Permissions}
 use Rattle.rrv_model.specs.declared.machine.Thread.{Thread}
+use Rattle.rrv_model.specs.declared.machine.FutexWait.{FutexWait}
+use Rattle.rrv_model.specs.declared.machine.Timeout.{Timeout}
+use Rattle.rrv_model.specs.declared.machine.Version.{Version}
+use Rattle.rrv_model.specs.declared.machine.Version.TheVariants.{One, Two}
 use Rattle.rrv_model.specs.declared.machine.GuestEnd.TheVariants.{Exited}
 use Rattle.rrv_model.specs.declared.record.Written.{Written}
 use Rattle.rrv_model.specs.declared.syscall.Syscall.{Syscall}
@@ -16,8 +20,8 @@ use Rattle.rrv_model.specs.declared.syscall.Syscall.TheVariants.{Clone, Mmap, Mp
 use Rattle.rrv_model.specs.declared.syscall.Syscall.TheVariants.{Other}
 use Rattle.rrv_model.specs.declared.limits.TheConstants.{MAX_PAGES, MAX_TRANSFER}
 use Rattle.rrv_model.specs.Memory.{Memory, readable, writable, mapped, unmapped, protected, page_count, all_free}
-use Rattle.rrv_model.specs.Memory.{all_mapped, highest_free_up_to, pages_for, page_bytes}
-use Rattle.rrv_model.specs.State.{State, thread_at, with_thread, register, with_register}
+use Rattle.rrv_model.specs.Memory.{all_mapped, highest_free_up_to, pages_for, page_bytes, bytes_at}
+use Rattle.rrv_model.specs.State.{State, thread_at, with_thread, register, with_register, live_threads}
 use Rattle.rrv_model.specs.Step.{word_at}
 
 -- ---- rows
@@ -117,10 +121,10 @@ abbrev pub waits_at : State → ℕ → ℕ → Bool
 waits_at s a tid = is_at a (thread_at s tid) where
   is_at : ℕ → Option Thread → Bool
   is_at a None = false
-  is_at a (Some t) = is_address a t.waits_at where
-    is_address : ℕ → Option ℕ → Bool
+  is_at a (Some t) = is_address a t.wait where
+    is_address : ℕ → Option FutexWait → Bool
     is_address a None = false
-    is_address a (Some b) = a == b
+    is_address a (Some w) = a == w.address
 
 -- the first count waiters at a, in order of waiting
 abbrev pub waiters : State → ℕ → ℕ → List ℕ
@@ -141,7 +145,7 @@ changed tid change m = changed_found (get m tid) where
 
 abbrev pub woken : State → ℕ → State
 woken s tid =
-    change_thread tid (λ t. record t { waits_at = None })
+    change_thread tid (λ t. record t { wait = None })
     (record s { waiting = filter (λ w. not (w == tid)) s.waiting })
 
 -- the first count waiters at a run again
@@ -176,9 +180,37 @@ exit_group_row t = NoResult [] (ends (argument t 0))
 abbrev pub set_tid_address_row : ℕ → Thread → Row
 set_tid_address_row tid t = Returns tid [] (change_thread tid (λ t'. record t' { clear = argument t 0 }))
 
--- the thread waits at a, last in the waiting order
-abbrev pub waits : ℕ → ℕ → State → State
-waits tid a s = change_thread tid (λ t. record t { waits_at = Some a }) (record s { waiting = s.waiting ++ tid ∷ [] })
+-- the thread waits so, last in the waiting order
+abbrev pub waits : ℕ → FutexWait → State → State
+waits tid w s = change_thread tid (λ t. record t { wait = Some w }) (record s { waiting = s.waiting ++ tid ∷ [] })
+
+-- the timeout that 16 bytes tell: seconds and nanoseconds, 8 bytes each (a struct timespec of 64-bit times)
+abbrev pub timeout_in : List ℕ → Timeout
+timeout_in bytes = record { seconds = from_le_bytes w64 bytes; nanoseconds = from_le_bytes w64 (drop 8 bytes) }
+
+abbrev pub timeout_at : Memory → ℕ → Timeout
+timeout_at m a = timeout_in (bytes_at m a 16)
+
+-- the timeout that stands at an address, or the errno
+abbrev pub told_timeout : Memory → ℕ → Result (Option Timeout) ℕ
+told_timeout m a =
+    if not (readable m a 16) then Err 14
+    else if nat_le (2 ^ 63) (timeout_at m a).seconds || nat_le (10 ^ 9) (timeout_at m a).nanoseconds then Err 22
+    else Ok (Some (timeout_at m a))
+
+-- the timeout of a wait, whose address is a3, or the errno; 0 is none
+abbrev pub asked_timeout : Version → Memory → ℕ → Result (Option Timeout) ℕ
+asked_timeout One m a = if a == 0 then Ok None else Err 38
+asked_timeout Two m a = if a == 0 then Ok None else told_timeout m a
+
+-- the thread waits at a, if the word there is the one that it expects
+abbrev pub wait_row : ℕ → State → Thread → Result (Option Timeout) ℕ → Row
+wait_row tid s t (Err errno) = fails errno
+wait_row tid s t (Ok timeout) =
+    let a = argument t 0 in
+    if not (readable s.memory a 4) then fails 14
+    else if not (word_at s.memory a == argument t 2) then fails 11
+    else Returns 0 [] (waits tid (record { address = a; timeout = timeout }))
 
 -- futex(2): futex(a, op, val, timeout). Bit 128 of op is dropped; then 0 is WAIT and 1 is WAKE
 abbrev pub futex_row : ℕ → State → Thread → Row
@@ -188,10 +220,7 @@ futex_row tid s t =
     if nat_lt 1 op then fails 38
     else if not (a % 4 == 0) then fails 22
     else if op == 1 then Returns (length (waiters s a (argument t 2))) [] (wakes a (argument t 2))
-    else if not (argument t 3 == 0) then fails 38
-    else if not (readable s.memory a 4) then fails 14
-    else if not (word_at s.memory a == argument t 2) then fails 11
-    else Returns 0 [] (waits tid a)
+    else wait_row tid s t (asked_timeout s.version s.memory (argument t 3))
 
 -- ---- clone(2): clone(flags, stack, ptid, tls, ctid)
 
@@ -234,7 +263,7 @@ abbrev pub clone_row : State → Thread → Row
 clone_row s t =
     let tid = s.next_tid in
     if not (are_clone_flags (argument t 0)) then fails 22
-    else if nat_le 16 (len s.threads) || nat_lt (2 ^ 31 - 1) tid then fails 11
+    else if nat_le (live_threads s.version) (len s.threads) || nat_lt (2 ^ 31 - 1) tid then fails 11
     else if not (all_writable s.memory (tid_places t)) then fails 14
     else Returns tid (flat_map (λ a. range a (to_le_bytes w32 tid)) (tid_places t))
     (λ s'. with_thread tid (child_of t) (record s' { next_tid = tid + 1 }))

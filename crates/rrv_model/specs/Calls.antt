@@ -63,7 +63,7 @@ after_call (AsksTime a) tid r s = results tid r.result (writes r.written s)
 pub record Calls (s : State) (tid : ℕ) (answer : Answer) (r : CallRecord) (after : State) : Type 0 where
   pub thread : Thread
   pub there : thread_at s tid ≡ Some thread
-  pub running : thread.waits_at ≡ None
+  pub running : thread.wait ≡ None
   pub records : HasRecord (call_row s tid thread) answer r
   pub leaves : after ≡ after_call (call_row s tid thread) tid r s
 

@@ -5,13 +5,14 @@ use Rattle.rrv_model.specs.declared.limits.TheConstants.{MAX_QUANTUM}
 use Rattle.rrv_model.specs.declared.machine.GuestEnd.{GuestEnd}
 use Rattle.rrv_model.specs.declared.machine.GuestEnd.TheVariants as guest_ends
 use Rattle.rrv_model.specs.declared.record.End.{End}
-use Rattle.rrv_model.specs.declared.record.End.TheVariants.{Preempt, Call, Fault, Stuck}
+use Rattle.rrv_model.specs.declared.record.End.TheVariants.{Preempt, Call, Fault, Stuck, Expire}
 use Rattle.rrv_model.specs.declared.record.Frame.{Frame}
 use Rattle.rrv_model.specs.declared.record.CallRecord.{CallRecord}
 use Rattle.rrv_model.specs.declared.machine.FaultKind.{FaultKind}
-use Rattle.rrv_model.specs.State.{State, thread_at, IsRunning, IsState}
+use Rattle.rrv_model.specs.State.{State, thread_at, IsRunning, IsTimed, IsState}
 use Rattle.rrv_model.specs.Step.{StepsTo, CallsFrom, FaultsFrom}
-use Rattle.rrv_model.specs.Calls.{Calls, Answer}
+use Rattle.rrv_model.specs.CallRows.{woken}
+use Rattle.rrv_model.specs.Calls.{Calls, Answer, results}
 
 -- the thread takes so many steps, none of which is a call or a fault
 abbrev pub Steps : ℕ → ℕ → State → State → Type 0
@@ -58,13 +59,29 @@ pub record IsStuck (old : State) (tid count : ℕ) (new : State) : Type 0 where
   pub no_tid : tid ≡ 0
   pub no_step : count ≡ 0
   pub none_running : (t : ℕ) → IsRunning (thread_at old t) → ⊥
+  pub none_timed : (t : ℕ) → IsTimed (thread_at old t) → ⊥
   pub new_is : new ≡ closed_at_end guest_ends.Stuck old
+
+-- -ETIMEDOUT
+abbrev pub timed_out : ℕ
+timed_out = 0xFFFFFF92
+
+-- the thread no longer waits, and its wait has timed out
+abbrev pub expired : ℕ → State → State
+expired tid s = results tid timed_out (woken s tid)
+
+-- No step is made. That the time has come is not looked at: a replay has no clock.
+pub record Expires (old : State) (tid count : ℕ) (new : State) : Type 0 where
+  pub no_step : count ≡ 0
+  pub timed : IsTimed (thread_at old tid)
+  pub new_is : new ≡ closed (expired tid old)
 
 abbrev pub FrameStepBy : End → State → ℕ → ℕ → State → Type 0
 FrameStepBy Preempt old tid count new = Preempts old tid count new
 FrameStepBy (Call r) old tid count new = EndsInCall old tid count r new
 FrameStepBy (Fault kind) old tid count new = EndsInFault old tid count kind new
 FrameStepBy Stuck old tid count new = IsStuck old tid count new
+FrameStepBy Expire old tid count new = Expires old tid count new
 
 -- the frame leads from old, which hasn't ended, to new
 pub record FrameStep (old : State) (frame : Frame) (new : State) : Type 0 where

@@ -7,6 +7,8 @@ use Rattle.std.specs.Int.{w32, to_le_bytes}
 use Rattle.rrv_model.specs.declared.limits.TheConstants.{MAX_NAME}
 use Rattle.rrv_model.specs.declared.machine.Permissions.{Permissions}
 use Rattle.rrv_model.specs.declared.machine.Thread.{Thread}
+use Rattle.rrv_model.specs.declared.machine.Version.{Version}
+use Rattle.rrv_model.specs.declared.record.Opening.{Opening}
 use Rattle.rrv_model.specs.Memory.{Memory, stored, mapped, is_within, page_bytes, pages_for}
 use Rattle.rrv_model.specs.State.{State, IsState}
 use Rattle.rrv_model.specs.CallRows.{has_flag}
@@ -104,12 +106,13 @@ opening_memory file name random = stored random_at random (memory_with_name file
 abbrev pub opening_thread : List ℕ → List ℕ → Thread
 opening_thread file name = record {
   regs = record { pc = elf_entry file; registers = slice_set (replicate 32 0) 2 (stack_pointer name) };
-  waits_at = None;
+  wait = None;
   clear = 0;
 }
 
-abbrev pub opening_state : List ℕ → List ℕ → List ℕ → State
-opening_state file name random = record {
+abbrev pub opening_state : Version → List ℕ → List ℕ → List ℕ → State
+opening_state version file name random = record {
+  version = version;
   memory = opening_memory file name random;
   threads = insert empty 1 (opening_thread file name);
   waiting = [];
@@ -129,14 +132,14 @@ abbrev pub IsName : List ℕ → Type 0
 IsName name = (1 ≤ length name) × (length name ≤ MAX_NAME) × All (λ b. (0x21 ≤ b) × (b ≤ 0x7E)) name
 
 -- the state from which the guest starts; there is none where the file is refused or the name breaks its limit
-pub record Opens (file name random : List ℕ) (s : State) : Type 0 where
-  pub accepted : refusal file ≡ None
-  pub file_bytes : All (λ b. b < 256) file
-  pub is_name : IsName name
-  pub sixteen : length random ≡ 16
-  pub random_bytes : All (λ b. b < 256) random
-  pub state_is : s ≡ opening_state file name random
+pub record Opens (o : Opening) (s : State) : Type 0 where
+  pub accepted : refusal o.elf ≡ None
+  pub file_bytes : All (λ b. b < 256) o.elf
+  pub is_name : IsName o.name
+  pub sixteen : length o.random ≡ 16
+  pub random_bytes : All (λ b. b < 256) o.random
+  pub state_is : s ≡ opening_state o.version o.elf o.name o.random
 
 -- a guest starts in a state
 abbrev pub OpeningsAreStates : Type 0
-OpeningsAreStates = (file name random : List ℕ) (s : State) → Opens file name random s → IsState s
+OpeningsAreStates = (o : Opening) (s : State) → Opens o s → IsState s

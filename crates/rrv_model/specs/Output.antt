@@ -67,4 +67,4 @@ PutFrom s (f ∷ frames) chunks =
     × PutFrom mid frames rest × (chunks ≡ first ++ rest)
 
 abbrev pub Output : Opening → List Frame → List Chunk → Type 0
-Output o frames chunks = (s : State) × Opens o.elf o.name o.random s × PutFrom s frames chunks
+Output o frames chunks = (s : State) × Opens o s × PutFrom s frames chunks

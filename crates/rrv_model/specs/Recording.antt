@@ -43,7 +43,7 @@ ItemsFollow base parts s (items.Part p ∷ rest) =
 
 abbrev pub Starts : List Item → Type 0
 Starts [] = ⊥
-Starts (items.Opening o ∷ rest) = (s : State) × Opens o.elf o.name o.random s × ItemsFollow s [] s rest
+Starts (items.Opening o ∷ rest) = (s : State) × Opens o s × ItemsFollow s [] s rest
 Starts (items.Frame f ∷ rest) = ⊥
 Starts (items.Part p ∷ rest) = ⊥
 

@@ -20,7 +20,7 @@ StateAtFrom s (f ∷ frames) t at =
 
 -- the state at t, the ends of the frames at or before t included
 abbrev pub StateAt : Opening → List Frame → ℕ → State → Type 0
-StateAt o frames t at = (s : State) × Opens o.elf o.name o.random s × StateAtFrom s frames t at
+StateAt o frames t at = (s : State) × Opens o s × StateAtFrom s frames t at
 
 -- whatever a guest was recorded to do, it was in a state at each count
 abbrev pub RecordedStatesAreStates : Type 0

@@ -252,7 +252,7 @@ with_hart tid t h s =
 -- the thread runs, and its one instruction has this outcome
 pub record Step (s : State) (tid : ℕ) (t : Thread) (outcome : Outcome) : Type 0 where
   pub there : thread_at s tid ≡ Some t
-  pub running : t.waits_at ≡ None
+  pub running : t.wait ≡ None
   pub does : HartStep (hart_of s t) outcome
 
 -- a plain step from a state to the next
@@ -308,7 +308,7 @@ MayStore h = NextIs may_store h
 pub record ThreadNextIs (test : Instr → Hart → Bool) (s : State) (tid : ℕ) : Type 0 where
   pub thread : Thread
   pub there : thread_at s tid ≡ Some thread
-  pub running : thread.waits_at ≡ None
+  pub running : thread.wait ≡ None
   pub next : NextIs test (hart_of s thread)
 
 abbrev pub ThreadMayTakeMemory : State → ℕ → Type 0

@@ -81,7 +81,7 @@ pub fn frames_keep_states()
     ensures { FramesKeepStates }
 {}
 
-/// A state that runs and has no reservation has a checkpoint, against any state with its opening break.
+/// A state that runs and has no reservation has a checkpoint, against any state of its version with its opening break.
 pub fn checkpoints_exist()
     ensures { CheckpointsExist }
 {}

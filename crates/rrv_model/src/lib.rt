@@ -22,10 +22,12 @@
 //! - `openings_are_states`: a guest starts in a state, with all rules that hold of every state.
 //! - `frames_keep_states`: a frame from a state leads to a state, whatever was answered.
 //! - `recorded_states_are_states`: at each count of its instructions a recorded guest was in a state.
-//! - `checkpoints_exist`: a state that runs and has no reservation is described, against any state with its opening break, by
-//!   parts that have a text.
-//! - `End::has_thread`: whether a frame that ended so has a thread; `End::is_preempt`: whether that was preempted; `End::call`,
-//!   `End::fault`: the call or the fault that it ended in; `End::guest_end`: the guest's end, if the frame ended the guest.
+//! - `checkpoints_exist`: a state that runs and has no reservation is described, against any state of its version with its
+//!   opening break, by parts that have a text.
+//! - `End::runs_thread`: whether a thread ran in a frame that ended so; `End::is_preempt`: whether that was preempted;
+//!   `End::is_expiry`: whether the time of a wait was over; `End::call`, `End::fault`: the call or the fault that it ended in;
+//!   `End::guest_end`: the guest's end, if the frame ended the guest.
+//! - `Version::live_threads`: how many threads of a guest of that version may live at once.
 //! - `End::kind`, `Item::kind`: the kind of its record. `Kind::number`, `Kind::from_number`, `Kind::name`: a kind's byte, both ways,
 //!   and its word; `GuestEnd::name`: the word of a guest's end.
 //! - `Item::into_opening`: the opening that an item is; None exactly if it is another. `Opening::into_name`: its name.

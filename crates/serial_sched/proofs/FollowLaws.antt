@@ -11,7 +11,7 @@ use Rattle.rrv_model.specs.declared.record.End.TheVariants as frame_ends
 use Rattle.rrv_model.specs.declared.record.Frame.{Frame}
 use Rattle.rrv_model.specs.State.{State, thread_at}
 use Rattle.rrv_model.specs.Calls.{Answer, Calls}
-use Rattle.rrv_model.specs.Ends.{call_in, has_thread}
+use Rattle.rrv_model.specs.Ends.{call_in, runs_thread}
 use Rattle.rrv_model.specs.FrameStep.{Steps, FrameStep, FrameStepBy, EndsInCall, EndsInFault, closed}
 use Rattle.rrv_model.specs.Output.{CallPutsAt, Chunk, put_out_by}
 use Rattle.rv_machine.specs.declared.run.RunEnd.{RunEnd}
@@ -113,12 +113,13 @@ call_put tid count q r answer old called after chunks e run calls puts =
     subst (λ (t : CallRecord). CallPutsAt old tid count t.result chunks) e
     (call_puts count tid count old called after answer q chunks run calls puts)
 
--- an end of no thread is no call
-pub without_call : (end : End) (P : CallRecord → Type 0) → has_thread end ≡ false → IfSome (call_in end) P
+-- the end of a frame in which no thread ran is no call
+pub without_call : (end : End) (P : CallRecord → Type 0) → runs_thread end ≡ false → IfSome (call_in end) P
 without_call frame_ends.Preempt P none = tt
 without_call (frame_ends.Call told) P none = absurd (false≢true (sym none))
 without_call (frame_ends.Fault kind) P none = tt
 without_call frame_ends.Stuck P none = tt
+without_call frame_ends.Expire P none = tt
 
 -- what was put out may stay at any end
 pub kept : {old new : Option Put} (end : End) → new ≡ old → KeepsPut end old new
@@ -126,6 +127,7 @@ kept frame_ends.Preempt same = same
 kept (frame_ends.Call told) same = tt
 kept (frame_ends.Fault kind) same = same
 kept frame_ends.Stuck same = same
+kept frame_ends.Expire same = same
 
 -- ---- a frame by its end
 

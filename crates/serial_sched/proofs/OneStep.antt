@@ -142,7 +142,7 @@ one_called n tid s a b p q =
 
 -- ---- running threads
 
-running : (o : Option Thread) (t : Thread) → o ≡ Some t → t.waits_at ≡ None → IsRunning o
+running : (o : Option Thread) (t : Thread) → o ≡ Some t → t.wait ≡ None → IsRunning o
 running o t there runs = subst (λ (x : Option Thread). IsRunning x) (sym there) runs
 
 running_before : (n tid : ℕ) (s a : State) → Steps n tid s a → IsRunning (thread_at a tid) → IsRunning (thread_at s tid)

@@ -6,7 +6,7 @@ use Rattle.rrv_model.specs.declared.record.CallRecord.{CallRecord}
 use Rattle.rrv_model.specs.declared.record.End.{End}
 use Rattle.rrv_model.specs.declared.record.End.TheVariants as ends
 use Rattle.rrv_model.specs.State.{State, thread_at, IsRunning}
-use Rattle.rrv_model.specs.Ends.{call_in, fault_in, has_thread, is_preempt}
+use Rattle.rrv_model.specs.Ends.{call_in, fault_in, runs_thread, is_preempt, is_expiry}
 use Rattle.rrv_model.specs.FrameStep.{FrameStepBy}
 use Rattle.rrv_model.proofs.Ends.{call_is, no_thread, ran_end, ran_end_is}
 use Rattle.rv_machine.specs.declared.run.RunEnd.{RunEnd}
@@ -22,14 +22,14 @@ run_of (Some r) fault = run_ends.Call
 run_of None (Some kind) = run_ends.Fault kind
 run_of None None = run_ends.Limit
 
--- so of an end that has a thread; a frame of no thread has the end that none reaches
+-- so of the end of a frame in which a thread ran; another has the end that none reaches
 abbrev pub run_end : End → RunEnd
-run_end end = if has_thread end then run_of (call_in end) (fault_in end) else run_ends.Memory
+run_end end = if runs_thread end then run_of (call_in end) (fault_in end) else run_ends.Memory
 
-runs : (end : End) → has_thread end ≡ true → run_end end ≡ run_of (call_in end) (fault_in end)
+runs : (end : End) → runs_thread end ≡ true → run_end end ≡ run_of (call_in end) (fault_in end)
 runs end some = rw some refl
 
-pub reaches : (end : End) (old : State) (tid count : ℕ) (new : State) → has_thread end ≡ true → FrameStepBy end old tid count new →
+pub reaches : (end : End) (old : State) (tid count : ℕ) (new : State) → runs_thread end ≡ true → FrameStepBy end old tid count new →
     (1 ≤ count) × (last : State) × Reaches (run_end end) count tid old last
 reaches end old tid count new some p =
     subst (λ (x : RunEnd). (1 ≤ count) × (last : State) × Reaches x count tid old last) (sym (runs end some))
@@ -41,7 +41,7 @@ reaches end old tid count new some p =
       by None None p = (p.some, p.last, p.steps)
 
 pub limit_is_preempt : (end : End) → run_end end ≡ run_ends.Limit → is_preempt end ≡ true
-limit_is_preempt end limit = by (has_thread end) (call_in end) (fault_in end) (ran_end_is end) limit where
+limit_is_preempt end limit = by (runs_thread end) (call_in end) (fault_in end) (ran_end_is end) limit where
   by : (thread : Bool) (call : Option CallRecord) (fault : Option FaultKind) → (thread ≡ true → ran_end call fault ≡ end) →
       cond thread (run_of call fault) run_ends.Memory ≡ run_ends.Limit → is_preempt end ≡ true
   by false call fault is e = absurd cc
@@ -49,27 +49,27 @@ limit_is_preempt end limit = by (has_thread end) (call_in end) (fault_in end) (r
   by true None (Some kind) is e = absurd cc
   by true None None is e = sym (ap is_preempt (is refl))
 
--- ---- whether a frame has a thread
+-- ---- whether a thread ran in a frame
 
 -- its thread was running
-pub frame_runs : (end : End) (old : State) (tid count : ℕ) (new : State) → has_thread end ≡ true → FrameStepBy end old tid count new →
+pub frame_runs : (end : End) (old : State) (tid count : ℕ) (new : State) → runs_thread end ≡ true → FrameStepBy end old tid count new →
     IsRunning (thread_at old tid)
 frame_runs end old tid count new some p =
     let r = reaches end old tid count new some p in running_at (run_end end) count tid old r.1 r.0 r.2
 
--- where a thread runs, it has one
-pub has_one : (end : End) (old : State) (tid count : ℕ) (new : State) (t : ℕ) → IsRunning (thread_at old t) →
-    FrameStepBy end old tid count new → has_thread end ≡ true
-has_one end old tid count new t running p = by (has_thread end) refl where
-  by : (b : Bool) → has_thread end ≡ b → has_thread end ≡ true
+-- where a thread runs, one does in it, unless a wait ends
+pub has_one : (end : End) (old : State) (tid count : ℕ) (new : State) (t : ℕ) → is_expiry end ≡ false → IsRunning (thread_at old t) →
+    FrameStepBy end old tid count new → runs_thread end ≡ true
+has_one end old tid count new t still running p = by (runs_thread end) refl where
+  by : (b : Bool) → runs_thread end ≡ b → runs_thread end ≡ true
   by true some = some
-  by false none = let own = no_thread end old tid count new none p in absurd (own.none_running t running)
+  by false none = let own = no_thread end old tid count new none still p in absurd (own.none_running t running)
 
 -- where none runs, it has none
 pub has_none : (end : End) (old : State) (tid count : ℕ) (new : State) → ((t : ℕ) → IsRunning (thread_at old t) → ⊥) →
-    FrameStepBy end old tid count new → has_thread end ≡ false
-has_none end old tid count new rests p = by (has_thread end) refl where
-  by : (b : Bool) → has_thread end ≡ b → has_thread end ≡ false
+    FrameStepBy end old tid count new → runs_thread end ≡ false
+has_none end old tid count new rests p = by (runs_thread end) refl where
+  by : (b : Bool) → runs_thread end ≡ b → runs_thread end ≡ false
   by true some = absurd (rests tid (frame_runs end old tid count new some p))
   by false none = none
 
@@ -92,7 +92,7 @@ alike None None None (Some kind) e = absurd cc
 alike None None None None e = refl
 
 -- frames of a thread whose runs end alike end alike
-pub same_run_end : (end other : End) → has_thread end ≡ true → has_thread other ≡ true → run_end end ≡ run_end other →
+pub same_run_end : (end other : End) → runs_thread end ≡ true → runs_thread other ≡ true → run_end end ≡ run_end other →
     IsAlike (call_in end) end other
 same_run_end end other some some' same =
     let e : run_of (call_in end) (fault_in end) ≡ run_of (call_in other) (fault_in other) = sym (runs end some) ∙ same ∙ runs other some' in

@@ -120,13 +120,15 @@ quiet_slice : {O : Type 0} (gives : Gives O) (old new : GuestValue) (choice : Ch
     FrameStep (state_of old) f (state_of new) → HasFrameText f.end f.tid f.count → FitsChoice f.end (state_of old) f choice →
     Counts old f.count new before after → IsSliceOf gives old choice f new before after
 quiet_slice gives old new choice before after f none frame text fits counts = record {
-  frame = frame;
-  text = text;
+  is_frame = record {
+    frame = frame;
+    text = text;
+    puts = rw none tt;
+    keeps = rw none counts.put;
+    ran = counts.ran;
+    snapshots = counts.snapshots;
+  };
   fits = fits;
-  puts = rw none tt;
-  keeps = rw none counts.put;
-  ran = counts.ran;
-  snapshots = counts.snapshots;
   answered = rw none counts.environment;
   unasked = λ _. counts.environment;
 }
@@ -166,7 +168,7 @@ module _ {O : Type 0} (gives : Gives O) (old new : GuestValue) (choice : Choice)
       let most = can.quantum.1 in
       quiet_slice gives old new choice before after (preempt choice count) refl
       (record { runs = can.runs; limit = omega arith; goes = record { some = some; last = last; steps = steps; new_is = closes } })
-      (counted_text count some within, tt) (refl, whole) counts
+      (counted_text count some within, tt) (refl, (refl, whole)) counts
 
   -- the whole quantum
   pub limit_slice : (f : Frame) (count : ℕ) (mid : GuestValue) → f ≡ preempt choice count → count ≡ choice.quantum →
@@ -240,7 +242,7 @@ module _ {O : Type 0} (gives : Gives O) (old new : GuestValue) (choice : Choice)
         limit = omega arith;
         goes = record { some = p.some; before = state_of mid; steps = p.steps; faults = p.faults; new_is = closes.state };
       })
-      (counted_text count p.some p.within, tt) (refl, p.within) (still_counts count mid closes.keeps closes.put counts)
+      (counted_text count p.some p.within, tt) (refl, (refl, p.within)) (still_counts count mid closes.keeps closes.put counts)
 
   pub call_slice : (f : Frame) (count : ℕ) (called after_call : State) (answer : Answer) (r : CallRecord) →
       f ≡ record { tid = choice.tid; count = count; end = ends.Call r } → RunsToCall choice.quantum choice.tid count (state_of old) called →
@@ -253,17 +255,19 @@ module _ {O : Type 0} (gives : Gives O) (old new : GuestValue) (choice : Choice)
       let most = can.quantum.1 in let some = p.some in let within = p.within in
       let reaches = call_reached choice.quantum count choice.tid (state_of old) called p in
       same_frame gives old new choice before after (record { tid = choice.tid; count = count; end = ends.Call r }) f is (record {
-        frame = record {
-          runs = can.runs;
-          limit = omega arith;
-          goes = ends_in_call choice.quantum choice.tid count (state_of old) called after_call (state_of new) answer r p calls closes;
+        is_frame = record {
+          frame = record {
+            runs = can.runs;
+            limit = omega arith;
+            goes = ends_in_call choice.quantum choice.tid count (state_of old) called after_call (state_of new) answer r p calls closes;
+          };
+          text = (counted_text count p.some p.within, text);
+          puts = call_puts choice.quantum choice.tid count (state_of old) called after_call answer r (chunks_of new.put) p calls puts;
+          keeps = tt;
+          ran = ran;
+          snapshots = snapshots;
         };
-        text = (counted_text count p.some p.within, text);
-        fits = (refl, p.within);
-        puts = call_puts choice.quantum choice.tid count (state_of old) called after_call answer r (chunks_of new.put) p calls puts;
-        keeps = tt;
-        ran = ran;
-        snapshots = snapshots;
+        fits = (refl, (refl, p.within));
         answered = record { called = called; reaches = reaches; answered = answered };
         unasked = λ no. unasked (λ asks. no (record { called = called; reaches = reaches; asks = asks }));
       })

@@ -7,7 +7,7 @@ use Rattle.rrv_model.specs.declared.record.Frame.{Frame}
 use Rattle.rrv_model.specs.State.{State, thread_at}
 use Rattle.rrv_model.specs.Step.{CallsFrom, FaultsFrom, ThreadMayStore}
 use Rattle.rrv_model.specs.FrameStep.{FrameStepBy, Steps}
-use Rattle.rrv_model.specs.Ends.{call_in, has_thread}
+use Rattle.rrv_model.specs.Ends.{call_in, runs_thread}
 use Rattle.rv_machine.specs.declared.run.RunEnd.{RunEnd}
 use Rattle.rv_machine.specs.declared.run.RunEnd.TheVariants.{Limit, Call, Fault, Memory}
 use Rattle.guest_calls.specs.Growth.{CallMayGrow}
@@ -48,10 +48,10 @@ pub record CallMeetsNoMemory (old : State) (tid count : ℕ) : Type 0 where
   pub reaches : ReachesCall count tid old called
   pub grows : CallMayGrow called tid (thread_at called tid)
 
--- so on the way to such an end, of a frame that has a thread
+-- so on the way to such an end, of a frame in which a thread ran
 abbrev pub EndMeetsNoMemory : End → State → ℕ → ℕ → Type 0
 EndMeetsNoMemory end old tid count =
-    MatchBool (has_thread end)
+    MatchBool (runs_thread end)
     (MatchOption (call_in end) (MeetsNoMemory old tid count)
     (λ _. MeetsNoMemory old tid count ⊎ CallMeetsNoMemory old tid count))
     ⊥

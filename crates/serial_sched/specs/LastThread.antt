@@ -2,11 +2,11 @@
 use Rattle.std.specs.Prelude.{ℕ, if◌then◌else◌, List, [], ◌∷◌}
 use Rattle.rrv_model.specs.declared.record.End.{End}
 use Rattle.rrv_model.specs.declared.record.Frame.{Frame}
-use Rattle.rrv_model.specs.Ends.{has_thread}
+use Rattle.rrv_model.specs.Ends.{runs_thread}
 
 -- the thread of a slice that ended so; where none ran, the last is the one before
 abbrev pub thread_by : End → ℕ → ℕ → ℕ
-thread_by end tid before = if has_thread end then tid else before
+thread_by end tid before = if runs_thread end then tid else before
 
 -- the last thread behind a frame: the frame's, or the one before where none ran
 abbrev pub thread_after : Frame → ℕ → ℕ
@@ -17,6 +17,6 @@ abbrev pub last_from : ℕ → List Frame → ℕ
 last_from before [] = before
 last_from before (f ∷ frames) = last_from (thread_after f before) frames
 
--- the tid of the last frame that has a thread; 0 if there is none
+-- the tid of the last frame in which a thread ran; 0 if there is none
 abbrev pub last_tid : List Frame → ℕ
 last_tid frames = last_from 0 frames

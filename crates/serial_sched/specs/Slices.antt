@@ -1,21 +1,23 @@
 -- What the slice of a choice does.
-use Rattle.std.specs.Prelude.{◌≡◌, ℕ, ◌^◌, ◌<◌, ◌≤◌, ◌⊎◌, Bool, true, false, List, Option, None, IfNone, IfSome}
+use Rattle.std.specs.Prelude.{◌≡◌, ℕ, ◌^◌, ◌<◌, ◌≤◌, ◌⊎◌, Bool, true, false, List, Option, None, IfNone, IfSome, IsSome}
 use Rattle.rrv_model.specs.declared.limits.TheConstants.{MAX_QUANTUM, MIN_QUANTUM}
 use Rattle.rrv_model.specs.declared.record.Choice.{Choice}
 use Rattle.rrv_model.specs.declared.record.End.{End}
 use Rattle.rrv_model.specs.declared.record.End.TheVariants.{Call}
 use Rattle.rrv_model.specs.declared.record.Frame.{Frame}
-use Rattle.rrv_model.specs.State.{State, thread_at, IsRunning}
+use Rattle.rrv_model.specs.State.{State, thread_at, IsRunning, IsTimed}
 use Rattle.rrv_model.specs.Step.{CallsFrom, ThreadMayStore, ThreadMayTakeMemory}
 use Rattle.rrv_model.specs.FrameStep.{Steps, FrameStep}
-use Rattle.rrv_model.specs.Ends.{call_in, has_thread, is_preempt}
+use Rattle.rrv_model.specs.Ends.{call_in, runs_thread, is_preempt, is_expiry}
 use Rattle.rrv_model.specs.Output.{Chunk, FramePuts}
 use Rattle.rrv_model.specs.RecordText.{HasFrameText}
 use Rattle.guest_calls.specs.declared.put.Put.{Put}
 use Rattle.guest_calls.specs.Growth.{CallMayGrow}
-use Rattle.guest_calls.specs.Guest.{GuestValue, HasRunning, chunks_of, counted, state_of}
+use Rattle.guest_calls.specs.Guest.{GuestValue, HasRunning, HasTimed, chunks_of, counted, state_of}
 use Rattle.guest_calls.specs.Snapshots.{guest_snapshots}
 use Rattle.serial_sched.specs.Asking.{FrameAsks, FrameIsAnswered, Gives}
+use Rattle.serial_sched.specs.declared.fault.SliceFault.{SliceFault}
+use Rattle.serial_sched.specs.declared.fault.SliceFault.TheVariants as faults
 
 -- the thread's next instruction makes a call that may take memory
 pub record CallsToGrow (s : State) (tid : ℕ) : Type 0 where
@@ -38,15 +40,15 @@ pub record FindsNoMemory (old : State) (tid count : ℕ) : Type 0 where
 abbrev pub IsWhole : State → ℕ → ℕ → ℕ → Type 0
 IsWhole old tid count quantum = (count ≡ quantum) ⊎ ((count < quantum) × FindsNoMemory old tid count)
 
--- the frame is one of the chosen thread and within the quantum, unless it has no thread; whole if that was preempted
+-- the frame is one of the chosen thread and within the quantum, unless no thread ran; whole if that was preempted
 abbrev pub FitsIf : (thread preempt : Bool) → State → Frame → Choice → Type 0
 FitsIf false preempt old f choice = Unit {0}
 FitsIf true true old f choice = (f.tid ≡ choice.tid) × IsWhole old f.tid f.count choice.quantum
 FitsIf true false old f choice = (f.tid ≡ choice.tid) × (f.count ≤ choice.quantum)
 
--- so by how it ended
+-- so by how it ended: no slice ends a wait
 abbrev pub FitsChoice : End → State → Frame → Choice → Type 0
-FitsChoice end old f choice = FitsIf (has_thread end) (is_preempt end) old f choice
+FitsChoice end old f choice = (is_expiry end ≡ false) × FitsIf (runs_thread end) (is_preempt end) old f choice
 
 -- what a call put out is what the frame puts out
 abbrev pub CallPuts : End → State → Frame → List Chunk → Type 0
@@ -64,6 +66,12 @@ IsQuantum quantum = (MIN_QUANTUM ≤ quantum) × (quantum ≤ MAX_QUANTUM)
 abbrev pub IsLive : State → Type 0
 IsLive s = (s.ended ≡ None) × HasRunning s
 
+-- the guest hasn't ended, no thread runs, and some wait has a timeout
+pub record IsAsleep (s : State) : Type 0 where
+  pub runs : s.ended ≡ None
+  pub none_running : ¬ HasRunning s
+  pub timed : HasTimed s
+
 -- the chosen thread runs, in a guest that hasn't ended
 pub record CanRun (old : State) (choice : Choice) : Type 0 where
   pub runs : old.ended ≡ None
@@ -71,17 +79,22 @@ pub record CanRun (old : State) (choice : Choice) : Type 0 where
   pub running : IsRunning (thread_at old choice.tid)
   pub quantum : IsQuantum choice.quantum
 
--- The frame is the slice of this choice. It leads from one guest to the other, whose snapshots stay, and from one state
--- of the environment to another, which is asked by the frame's call alone.
-pub record IsSliceOf {O : Type 0} (gives : Gives O) (old : GuestValue) (choice : Choice) (f : Frame) (new : GuestValue)
-    (before after : O) : Type 0 where
+-- The frame, whoever made it, leads from one guest to the other: it has a text, its instructions are counted, only a call
+-- puts out, and the snapshots stay.
+pub record IsFrameOf (old : GuestValue) (f : Frame) (new : GuestValue) : Type 0 where
   pub frame : FrameStep (state_of old) f (state_of new)
   pub text : HasFrameText f.end f.tid f.count
-  pub fits : FitsChoice f.end (state_of old) f choice
   pub puts : CallPuts f.end (state_of old) f (chunks_of new.put)
   pub keeps : KeepsPut f.end old.put new.put
   pub ran : new.ran ≡ counted old.ran f.count
   pub snapshots : guest_snapshots new ≡ guest_snapshots old
+
+-- The frame is the slice of this choice. It leads from one guest to the other, and from one state of
+-- the environment to another, which is asked by the frame's call alone.
+pub record IsSliceOf {O : Type 0} (gives : Gives O) (old : GuestValue) (choice : Choice) (f : Frame) (new : GuestValue)
+    (before after : O) : Type 0 where
+  pub is_frame : IsFrameOf old f new
+  pub fits : FitsChoice f.end (state_of old) f choice
   pub answered : FrameIsAnswered gives f.end (state_of old) f.tid f.count before after
   pub unasked : ¬ FrameAsks f.end (state_of old) f.tid f.count → after ≡ before
 
@@ -92,3 +105,12 @@ pub record IsUntouched {O : Type 0} (old new : GuestValue) (before after : O) : 
   pub put : new.put ≡ old.put
   pub snapshots : guest_snapshots new ≡ guest_snapshots old
   pub environment : after ≡ before
+
+-- why a thread's wait isn't ended: the guest has ended, else the thread doesn't wait with a timeout
+abbrev pub RefusesExpiry : State → ℕ → SliceFault → Type 0
+RefusesExpiry s tid faults.Ended = IsSome s.ended
+RefusesExpiry s tid faults.NotTimed = (s.ended ≡ None) × ¬ IsTimed (thread_at s tid)
+RefusesExpiry s tid faults.NotRunnable = ⊥
+RefusesExpiry s tid faults.BadQuantum = ⊥
+RefusesExpiry s tid faults.Memory = ⊥
+RefusesExpiry s tid faults.Waiting = ⊥

@@ -22,6 +22,12 @@ pub enum SliceFault {
     /// A growth was refused before the first instruction.
     #[error("out of memory")]
     Memory,
+    /// No thread runs, and some wait has a timeout.
+    #[error("all threads wait, and a wait has a timeout")]
+    Waiting,
+    /// The thread doesn't wait with a timeout.
+    #[error("the thread has no timed wait")]
+    NotTimed,
 }
 
 /// Why a frame was not followed. The guest is then fit only to be dropped.

@@ -2,7 +2,7 @@
 
 ghost use Rattle.std.specs.Prelude.{◌≡◌, false, None, IfOk, OnOk, IsErrOf};
 ghost use Rattle.rrv_model.specs.State.{State};
-ghost use Rattle.rrv_model.specs.Ends.{has_thread};
+ghost use Rattle.rrv_model.specs.Ends.{runs_thread, is_expiry};
 ghost use Rattle.rrv_model.specs.FrameStep.{FrameStep, Steps};
 ghost use Rattle.rv_machine.specs.declared.run.RunEnd.{RunEnd};
 ghost use Rattle.guest_calls.specs.Snapshots.{guest_snapshots};
@@ -50,6 +50,7 @@ fn follow_to_end(alloc: Global, guest: &mut Guest, frame: &Frame) -> Result<(), 
         End::Preempt => follow_preempt(guest, frame.tid, frame.count),
         End::Call(told) => follow_call(alloc, guest, frame.tid, frame.count, told),
         End::Fault(kind) => follow_fault(guest, frame.tid, frame.count, *kind),
+        End::Expire => follow_expire(guest, frame.tid, frame.count),
         end => follow_threadless(guest, end, frame.tid, frame.count),
     }
 }
@@ -111,14 +112,28 @@ fn follow_preempt(guest: &mut Guest, tid: u32, count: u32) -> Result<(), FollowF
     Ok(())
 }
 
-/// Follows a frame of no thread, which ends a guest of which no thread runs.
+/// Follows a frame in which the time of a wait is over.
+fn follow_expire(guest: &mut Guest, tid: u32, count: u32) -> Result<(), FollowFault>
+    ensures { FollowsEnd End.Expire guest.old tid count result guest.new }
+{
+    // No instruction is counted; the count fits 64 bits, which this line tells the proof.
+    let _ran = guest.ran();
+    if count != 0 || guest.expire(tid).is_err() {
+        return Err(FollowFault::GoesNowhere);
+    }
+    guest.close_slice(None);
+    Ok(())
+}
+
+/// Follows a frame of no thread, which ends a guest of which no thread runs and none waits with a timeout.
 fn follow_threadless(guest: &mut Guest, end: &End, tid: u32, count: u32) -> Result<(), FollowFault>
-    requires { has_thread end.now ≡ false }
+    requires none { runs_thread end.now ≡ false }
+    requires still { is_expiry end.now ≡ false }
     ensures { FollowsEnd end.now guest.old tid count result guest.new }
 {
     // No instruction is counted; the count fits 64 bits, which this line tells the proof.
     let _ran = guest.ran();
-    if tid != 0 || count != 0 || guest.has_running() {
+    if tid != 0 || count != 0 || guest.has_running() || guest.has_timed() {
         return Err(FollowFault::GoesNowhere);
     }
     guest.close_slice(end.guest_end());

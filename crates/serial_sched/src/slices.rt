@@ -1,12 +1,13 @@
 //! The slice of a choice.
 
-ghost use Rattle.std.specs.Prelude.{◌≡◌, ◌↔◌, ◌≤◌, None, IsSome, IfOk, OnOk, OnErr, IsErrOf, IsOkAnd};
+ghost use Rattle.std.specs.Prelude.{◌≡◌, ◌↔◌, ◌≤◌, None, IsSome, IfErr, IfOk, OnOk, OnErr, IsErrOf, IsOkAnd};
 ghost use Rattle.rrv_model.specs.State.{thread_at, IsRunning};
 ghost use Rattle.rrv_model.specs.Step.{ThreadMayTakeMemory};
-ghost use Rattle.rrv_model.specs.FrameStep.{FrameStep, closed, closed_at_end};
+ghost use Rattle.rrv_model.specs.FrameStep.{closed};
 ghost use Rattle.guest_calls.specs.Carries.{Becomes, BecomesOrStays};
-ghost use Rattle.guest_calls.specs.Guest.{state_of, counted, HasRunning};
-ghost use Rattle.serial_sched.specs.Slices.{CanRun, IsLive, IsQuantum, IsSliceOf, IsUntouched, NextMayGrow};
+ghost use Rattle.guest_calls.specs.Guest.{state_of, HasRunning, HasTimed};
+ghost use Rattle.serial_sched.specs.Slices.{CanRun, IsAsleep, IsFrameOf, IsLive, IsQuantum, IsSliceOf, IsUntouched};
+ghost use Rattle.serial_sched.specs.Slices.{NextMayGrow, RefusesExpiry};
 
 use crate::fault::SliceFault;
 use guest_calls::{Guest, Outside, RunEnd};
@@ -17,8 +18,8 @@ use rrv_model::refusal::Memory;
 use std::alloc::Global;
 
 /// Runs the chosen thread until it has run the quantum, makes a call or faults, or its next instruction finds no
-/// memory. Where no thread runs, whatever the choice, the guest is stuck, which ends it. The environment is asked by
-/// calls alone, and its answer is what the frame tells. A refusal changes nothing.
+/// memory. If no thread runs, whatever the choice, the guest is stuck, which ends it, or sleeps until a wait expires. The
+/// environment is asked by calls alone, and its answer is what the frame tells. A refusal changes nothing.
 pub fn slice<O: Outside>(
     alloc: Global,
     guest: &mut Guest,
@@ -28,7 +29,8 @@ pub fn slice<O: Outside>(
     ensures is_slice { IfOk result (λ f. IsSliceOf O.gives guest.old choice f guest.new outside.old outside.new) }
     ensures ended { IsErrOf result SliceFault.Ended ↔ IsSome (state_of guest.old).ended }
     ensures stuck { (state_of guest.old).ended ≡ None → ¬ HasRunning (state_of guest.old)
-        → IsOkAnd result (λ f. f.end ≡ End.Stuck) }
+        → ¬ HasTimed (state_of guest.old) → IsOkAnd result (λ f. f.end ≡ End.Stuck) }
+    ensures waiting { IsErrOf result SliceFault.Waiting ↔ IsAsleep (state_of guest.old) }
     ensures bad_quantum { IsErrOf result SliceFault.BadQuantum
         ↔ (IsLive (state_of guest.old) × ¬ IsQuantum choice.quantum) }
     ensures not_runnable { IsErrOf result SliceFault.NotRunnable
@@ -36,12 +38,16 @@ pub fn slice<O: Outside>(
         × ¬ IsRunning (thread_at (state_of guest.old) choice.tid)) }
     ensures memory { IsErrOf result SliceFault.Memory → ThreadMayTakeMemory (state_of guest.old) choice.tid }
     ensures grows { IsErrOf result SliceFault.Memory → NextMayGrow (state_of guest.old) choice.tid }
+    ensures not_timed { ¬ IsErrOf result SliceFault.NotTimed }
     ensures refused { OnErr result (IsUntouched guest.old guest.new outside.old outside.new) }
 {
     if guest.ended().is_some() {
         return Err(SliceFault::Ended);
     }
     if !guest.has_running() {
+        if guest.has_timed() {
+            return Err(SliceFault::Waiting);
+        }
         return Ok(get_stuck(guest));
     }
     if choice.quantum < MIN_QUANTUM || MAX_QUANTUM < choice.quantum {
@@ -53,14 +59,34 @@ pub fn slice<O: Outside>(
     Ok(run_slice(alloc, guest, choice, outside)?)
 }
 
-/// Ends a guest of which no thread runs.
+/// The time of a thread's wait is over: it runs again. That it is over is the caller's to see, for no frame tells of time. It takes
+/// no memory, and asks nobody.
+pub fn expire(guest: &mut Guest, tid: u32) -> Result<Frame, SliceFault>
+    ensures expires { IfOk result (λ f. f ≡ record { tid = tid; count = 0; end = End.Expire }) }
+    ensures is_frame { IfOk result (λ f. IsFrameOf guest.old f guest.new) }
+    ensures refused { IfErr result (RefusesExpiry (state_of guest.old) tid) }
+    ensures stays { OnErr result (guest.new ≡ guest.old) }
+    ensures ran { guest.new.ran ≡ guest.old.ran }
+    ensures put { guest.new.put ≡ guest.old.put }
+{
+    // No instruction is counted; the count fits 64 bits, which this line tells the proof.
+    let _ran = guest.ran();
+    let None = guest.ended() else {
+        return Err(SliceFault::Ended);
+    };
+    let Ok(()) = guest.expire(tid) else {
+        return Err(SliceFault::NotTimed);
+    };
+    Ok(closed_frame(guest, tid, 0, End::Expire))
+}
+
+/// Ends a guest of which no thread runs, and none waits with a timeout.
 fn get_stuck(guest: &mut Guest) -> Frame
     requires runs { (state_of guest.old).ended ≡ None }
     requires none { ¬ HasRunning (state_of guest.old) }
+    requires none_timed { ¬ HasTimed (state_of guest.old) }
     ensures stuck { result ≡ record { tid = 0; count = 0; end = End.Stuck } }
-    ensures frame { FrameStep (state_of guest.old) result (state_of guest.new) }
-    ensures ran { guest.new.ran ≡ counted guest.old.ran 0 }
-    ensures closes { Becomes (closed_at_end GuestEnd.Stuck (state_of guest.old)) guest.old guest.new }
+    ensures is_frame { IsFrameOf guest.old result guest.new }
 {
     // No instruction is counted; the count fits 64 bits, which this line tells the proof.
     let _ran = guest.ran();

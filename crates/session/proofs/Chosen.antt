@@ -1,9 +1,10 @@
 -- Frames that a chooser chose.
-use Rattle.std.proofs.Common.{true, false, true≢false, ◌≡◌, ◌∙◌, inl, inr, ℕ, ◌+◌, ◌<◌, ◌^◌, arith, List, [], ◌∷◌, ◌++◌, length, map, take, drop, refl, sym, ap, subst, append_assoc}
+use Rattle.std.proofs.Common.{true, false, true≢false, Option, ◌≡◌, ◌∙◌, inl, inr, ℕ, ◌+◌, ◌<◌, ◌^◌, arith, List, [], ◌∷◌, ◌++◌, length, map, take, drop, refl, sym, ap, subst, append_assoc}
 use denote.Enum.Bare.{sameb}
 use Rattle.std.proofs.lemmas.List.{append-nil, take-append-drop}
 use Rattle.std.proofs.lemmas.List.Sums.{sum_by-append}
-use Rattle.std.specs.Prelude.{◌≢◌, Some, None, Err, vec_items}
+use Rattle.std.proofs.lemmas.Bool.{false≢true}
+use Rattle.std.specs.Prelude.{◌≢◌, Some, None, Err, IfSome, IsSome, IsSomeAnd, vec_items}
 use Rattle.rrv_model.specs.declared.record.Choice.{Choice}
 use Rattle.rrv_model.specs.declared.record.Frame.{Frame}
 use Rattle.rrv_model.specs.declared.record.Item.{Item}
@@ -12,10 +13,16 @@ use Rattle.rrv_model.specs.declared.record.Opening.{Opening}
 use Rattle.rrv_model.specs.declared.record.Part.{Part}
 use Rattle.rrv_model.specs.declared.record.Record.{Record}
 use Rattle.rrv_model.specs.FrameStep.{FrameStep}
+use Rattle.rrv_model.specs.declared.machine.FutexWait.{FutexWait}
+use Rattle.rrv_model.specs.declared.machine.Thread.{Thread}
+use Rattle.rrv_model.specs.declared.machine.Timeout.{Timeout}
+use Rattle.rrv_model.specs.declared.machine.Version.{Version}
+use Rattle.rrv_model.specs.declared.machine.Version.TheVariants.{One}
 use Rattle.rrv_model.specs.Opening.{opening_state}
 use Rattle.rrv_model.specs.Recording.{EndsIn, frame_record, frames_of, items_of}
-use Rattle.rrv_model.specs.State.{State}
+use Rattle.rrv_model.specs.State.{State, thread_at, IsState, IsThread, IsTimed, IsTimeout, IsWait}
 use Rattle.rrv_model.specs.StateAt.{total}
+use Rattle.rrv_model.proofs.FrameStays.{version_stays}
 use Rattle.guest_calls.specs.Guest.{GuestValue, counted, state_of}
 use Rattle.serial_sched.specs.Asking.{Gives}
 use Rattle.serial_sched.specs.Chosen.{AreChosen, Choosing, Picks}
@@ -23,10 +30,14 @@ use Rattle.serial_sched.proofs.Chosen.{beginnings_are_chosen, chosen_on}
 use Rattle.commit_core.proofs.Runs.{frames_of-append}
 use Rattle.commit_core.specs.World.{opening_record}
 use Rattle.commit_group.specs.Numbers.{renumbered}
+use Rattle.commit_group.specs.Seats.{RecorderValue}
 use Rattle.recorder.specs.declared.checkpoints.Parts.{Parts}
 use Rattle.recorder.specs.declared.fault.RecorderFault.{RecorderFault}
 use Rattle.recorder.specs.declared.fault.RecorderFault.TheVariants as recorder_faults
-use Rattle.recorder.specs.RecorderCalls.{HasStepped, IsUnmoved, KeepsMade, part_records}
+use Rattle.recorder.specs.Deadlines.{AreDeadlinesOf, HasDeadline, due}
+use Rattle.recorder.specs.Recorded.{IsRecorded}
+use Rattle.recorder.specs.RecorderCalls.{AsksNow, HasStepped, IsStep, IsUnmoved, KeepsMade, Slices, part_records}
+use Rattle.recorder.proofs.Kept.{is_state}
 use Rattle.recorder.specs.Recorders.{GuestRecorder, HasRecorded, made, records_from}
 use Rattle.session.specs.contracts.rounds.Step.{the_type}
 use Rattle.session.specs.declared.job.Job.{Job}
@@ -35,7 +46,7 @@ use Rattle.session.specs.declared.rounds.Step.TheVariants as turns
 use Rattle.session.specs.declared.rounds.WorkFault.{WorkFault}
 use Rattle.session.specs.declared.rounds.WorkFault.TheVariants as work_faults
 use Rattle.session.specs.Drives.{fault_told, work_told}
-use Rattle.session.specs.Chosen.{HasChosen, HasChosenOn, IsAskedOnce, IsAtStart, IsLeftWith, LeavesChooser, MakesChosen, TurnLeaves, WorkLeaves, frames_in, start_of}
+use Rattle.session.specs.Chosen.{HasChosen, HasChosenOn, IsAskedOnce, IsAtStart, IsLeftWith, IsUntimed, LeavesChooser, MakesChosen, TurnLeaves, WorkLeaves, frames_in, start_of}
 
 -- ---- the frames among records
 
@@ -68,17 +79,63 @@ counts_both a b c fs gs p q low =
 counts_one : (a b : ℕ) (f : Frame) → b ≡ counted a f.count → Counts a (total (f ∷ [])) b
 counts_one a b f is low = is ∙ omega arith
 
+-- ---- a guest of version 1
+
+-- a wait of one has no timeout
+untimed_thread : (t : Thread) → IsThread One t → IsTimed (Some t) → ⊥
+untimed_thread t is timed = by t.wait is.waits timed where
+  of_wait : (w : FutexWait) → IsWait One w → IsSome w.timeout → ⊥
+  of_wait w h some = of_timeout w.timeout h.timeout some where
+    of_timeout : (o : Option Timeout) → IfSome o (IsTimeout One) → IsSome o → ⊥
+    of_timeout None g some = false≢true some
+    of_timeout (Some timeout) g some = g.version
+
+  by : (o : Option FutexWait) → IfSome o (IsWait One) → IsSomeAnd o (λ w. IsSome w.timeout) → ⊥
+  by None h g = g
+  by (Some w) h g = of_wait w h g
+
+none_timed : (o : Option Thread) → IfSome o (IsThread One) → IsTimed o → ⊥
+none_timed None h timed = timed
+none_timed (Some t) h timed = untimed_thread t h timed
+
+-- so its recorder has no deadlines
+no_deadlines : (r : GuestRecorder) → IsUntimed r → r.deadlines ≡ []
+no_deadlines r u = by r.deadlines (λ tid h. (u.recorded.deadlines.each tid).0 h) where
+  is : IsState (state_of r.guest)
+  is = is_state (items_of (made r)) (state_of r.guest) u.recorded.recorded.ends
+
+  untimed : (tid : ℕ) → IsTimed (thread_at (state_of r.guest) tid) → ⊥
+  untimed tid =
+      none_timed (thread_at (state_of r.guest) tid)
+      (subst (λ (v : Version). IfSome (thread_at (state_of r.guest) tid) (IsThread v)) u.version (is.rules.threads.threads tid))
+
+  by : (ds : List (ℕ × ℕ)) → ((tid : ℕ) → HasDeadline ds tid → IsTimed (thread_at (state_of r.guest) tid)) → ds ≡ []
+  by [] h = refl
+  by (d ∷ ds) h = absurd (untimed d.0 (h d.0 (inl refl)))
+
+untimed_same : (a b : GuestRecorder) → b.seat.guest ≡ a.seat.guest → made b ≡ made a → state_of b.guest ≡ state_of a.guest →
+    b.deadlines ≡ a.deadlines → IsUntimed a → IsUntimed b
+untimed_same a b place made_is state deadlines u = record {
+  version = ap (λ (s : State). s.version) state ∙ u.version;
+  recorded = record {
+    recorded = subst (λ (x : ℕ × (List Record × State)). IsRecorded x.0 x.1.0 x.1.1)
+        (λ i. (sym place i, (sym made_is i, sym state i))) u.recorded.recorded;
+    deadlines = subst (λ (x : State × List (ℕ × ℕ)). AreDeadlinesOf x.0 x.1) (λ i. (sym state i, sym deadlines i)) u.recorded.deadlines;
+  };
+}
+
 -- ---- what a recorder makes
 
 module _ {C : Type 0} (chooses : Choosing C) where
   -- no frame
   pub makes_none : (r : GuestRecorder) (c : C) (E : C → Type 0) → E c → MakesChosen chooses r c r E
-  makes_none r c E e = record {
+  makes_none r c E e u = record {
     frames = [];
     made_are = sym (append-nil (frames_in (made r)));
     last = c;
     chosen = (refl, refl);
     ran = counts_none r.guest.ran;
+    untimed = u;
     ends = e;
   }
 
@@ -87,60 +144,70 @@ module _ {C : Type 0} (chooses : Choosing C) where
       MakesChosen chooses r c r (IsLeftWith chooses c' (state_of r.guest))
   makes_left r c c' picks = makes_none r c (IsLeftWith chooses c' (state_of r.guest)) (inr picks)
 
-  pub makes_unmoved : {O : Type 0} (a b : GuestRecorder) (before after : O) (c : C) (E : C → Type 0) → E c → IsUnmoved a b before after →
+  pub makes_unmoved : {O : Type 0} (gives : Gives O) (a b : GuestRecorder) (before after : O) (c : C) (E : C → Type 0) → E c →
+      IsUnmoved gives a b before after →
       MakesChosen chooses a c b E
-  makes_unmoved a b before after c E e h = record {
+  makes_unmoved gives a b before after c E e h u = record {
     frames = [];
     made_are = (λ i. frames_in ((h.seat i).sent ++ h.backlog i)) ∙ sym (append-nil (frames_in (made a)));
     last = c;
     chosen = (h.state, refl);
     ran = subst (λ (n : ℕ). Counts a.guest.ran 0 n) (sym h.ran) (counts_none a.guest.ran);
+    untimed = untimed_same a b (ap (λ (q : RecorderValue). q.guest) h.seat) (λ i. (h.seat i).sent ++ h.backlog i) h.state h.deadlines u;
     ends = e;
   }
 
   pub makes_kept : (o a b : GuestRecorder) (c : C) (E : C → Type 0) → KeepsMade a b → MakesChosen chooses o c a E →
       MakesChosen chooses o c b E
-  makes_kept o a b c E keeps p = record {
+  makes_kept o a b c E keeps makes u = let p = makes u in record {
     frames = p.frames;
     made_are = ap (λ (l : List Record). frames_in l) keeps.made_is ∙ p.made_are;
     last = p.last;
     chosen = subst (λ (g : GuestValue). AreChosen chooses (state_of o.guest) c p.frames (state_of g) p.last) (sym keeps.guest) p.chosen;
     ran = subst (λ (g : GuestValue). Counts o.guest.ran (total p.frames) g.ran) (sym keeps.guest) p.ran;
+    untimed = untimed_same a b keeps.place keeps.made_is (ap (λ (g : GuestValue). state_of g) keeps.guest) keeps.deadlines.0 p.untimed;
     ends = p.ends;
   }
 
   pub makes_both : (o a b : GuestRecorder) (c c' : C) (E : C → Type 0) → MakesChosen chooses o c a (λ last. c' ≡ last) →
       MakesChosen chooses a c' b E → MakesChosen chooses o c b E
-  makes_both o a b c c' E p q = record {
+  makes_both o a b c c' E first second u = let p = first u in let q = second p.untimed in record {
     frames = p.frames ++ q.frames;
     made_are = q.made_are ∙ ap (λ (l : List Frame). l ++ q.frames) p.made_are ∙ append_assoc (frames_in (made o)) p.frames q.frames;
     last = q.last;
     chosen = chosen_on chooses p.frames q.frames (state_of o.guest) (state_of a.guest) (state_of b.guest) c c' q.last
         (subst (λ (x : C). AreChosen chooses (state_of o.guest) c p.frames (state_of a.guest) x) (sym p.ends) p.chosen) q.chosen;
     ran = counts_both o.guest.ran a.guest.ran b.guest.ran p.frames q.frames p.ran q.ran;
+    untimed = q.untimed;
     ends = q.ends;
   }
 
   -- a step was refused, and its choice is lost
-  pub makes_lost : {O : Type 0} (a b : GuestRecorder) (choice : Choice) (before after : O) (c c' : C) → IsUnmoved a b before after →
+  pub makes_lost : {O : Type 0} (gives : Gives O) (a b : GuestRecorder) (choice : Choice) (before after : O) (c c' : C) →
+      IsUnmoved gives a b before after →
       Picks chooses (state_of a.guest) c (Some choice) c'
       → MakesChosen chooses a c b (IsAskedOnce chooses c' (state_of b.guest))
-  makes_lost a b choice before after c c' h picks =
-      makes_unmoved a b before after c (IsAskedOnce chooses c' (state_of b.guest))
+  makes_lost gives a b choice before after c c' h picks =
+      makes_unmoved gives a b before after c (IsAskedOnce chooses c' (state_of b.guest))
       (inr (Some choice, subst (λ (s : State). Picks chooses s c (Some choice) c') (sym h.state) picks)) h
 
   -- one frame
   pub makes_one : {O : Type 0} (gives : Gives O) (a b : GuestRecorder) (choice : Choice) (outcome : Parts) (before after : O) (c c' : C) →
       HasStepped gives a choice outcome b before after
-      → Picks chooses (state_of a.guest) c (Some choice) c' → MakesChosen chooses a c b (λ last. c' ≡ last)
-  makes_one gives a b choice outcome before after c c' h picks =
+      → HasRecorded b → Picks chooses (state_of a.guest) c (Some choice) c' → MakesChosen chooses a c b (λ last. c' ≡ last)
+  makes_one gives a b choice outcome before after c c' h recorded picks u =
       let f = h.makes.frame in
+      let none_waits : a.deadlines ≡ [] = no_deadlines a u in
+      let unasked = subst (λ (ds : List (ℕ × ℕ)). AsksNow gives ds h.makes.asked before h.makes.between) none_waits h.makes.asks in
+      let slices : Slices gives a.guest choice f h.between.guest h.makes.between h.makes.middle =
+      subst (λ (o : Option ℕ). IsStep gives a.guest choice f h.between.guest (due a.deadlines o) h.makes.between h.makes.middle) unasked.0
+      h.makes.step in
       let r = frame_record a.seat.guest (length (made a)) f in
       let more = part_records h.between h.keeps.parts in
       let made_is : made b ≡ (made a ++ r ∷ []) ++ more = h.keeps.made_is ∙ ap (λ (l : List Record). l ++ more) h.makes.made_is in
       let none : frames_in more ≡ [] = no_frames h.between.seat.guest (length (made h.between)) h.keeps.parts in
       let step : FrameStep (state_of a.guest) f (state_of b.guest) =
-      subst (λ (s : State). FrameStep (state_of a.guest) f s) (sym h.keeps.guest.0) h.makes.slice.slice.frame in
+      subst (λ (s : State). FrameStep (state_of a.guest) f s) (sym h.keeps.guest.0) slices.slice.is_frame.frame in
       record {
         frames = f ∷ [];
         made_are = ap (λ (l : List Record). frames_in l) made_is ∙ frames_append (made a ++ r ∷ []) more
@@ -150,17 +217,25 @@ module _ {C : Type 0} (chooses : Choosing C) where
         chosen = (
           state_of b.guest,
           c',
-          record { step = step; choice = choice; picks = picks; fits = h.makes.slice.slice.fits },
+          record { step = step; choice = choice; picks = picks; fits = slices.slice.fits },
           (refl, refl),
         );
-        ran = counts_one a.guest.ran b.guest.ran f (h.keeps.guest.1 ∙ h.makes.slice.slice.ran);
+        ran = counts_one a.guest.ran b.guest.ran f (h.keeps.guest.1 ∙ slices.slice.is_frame.ran);
+        untimed = record { version = version_stays (state_of a.guest) f (state_of b.guest) step ∙ u.version; recorded = recorded };
         ends = refl;
       }
 
   makes_weaker : (o a : GuestRecorder) (c : C) (E F : C → Type 0) → ((last : C) → E last → F last) → MakesChosen chooses o c a E →
       MakesChosen chooses o c a F
-  makes_weaker o a c E F weaker p =
-      record { frames = p.frames; made_are = p.made_are; last = p.last; chosen = p.chosen; ran = p.ran; ends = weaker p.last p.ends }
+  makes_weaker o a c E F weaker makes u = let p = makes u in record {
+    frames = p.frames;
+    made_are = p.made_are;
+    last = p.last;
+    chosen = p.chosen;
+    ran = p.ran;
+    untimed = p.untimed;
+    ends = weaker p.last p.ends;
+  }
 
   -- behind a turn that isn't the last the chooser is the one that the frames lead to
   pub goes_round : (turn : Step) (new : C) (s : State) (last : C) → turn ≢ turns.Over → TurnLeaves chooses turn new s last → new ≡ last
@@ -247,9 +322,13 @@ same_items b [] = refl
 same_items b (r ∷ rs) = ap (λ l. r.item ∷ l) (same_items b rs)
 
 module _ {C O S : Type 0} (chooses : Choosing C) (job : Job C O S) where
+  pub untimed_start : (r : GuestRecorder) → IsAtStart job r → IsUntimed r
+  untimed_start r start = record { version = ap (λ (s : State). s.version) start.state; recorded = start.recorded }
+
   pub chosen_from_start : (old new : GuestRecorder) (E : C → Type 0) → IsAtStart job old → MakesChosen chooses old job.chooser new E
       → HasChosen chooses job (made new) (λ s last. (s ≡ state_of new.guest) × E last)
-  chosen_from_start old new E start p =
+  chosen_from_start old new E start makes =
+      let p = makes (untimed_start old start) in
       let same : frames_in (made new) ≡ p.frames = p.made_are ∙ ap (λ (l : List Frame). l ++ p.frames) start.none in
       record {
         state = state_of new.guest;
@@ -261,15 +340,16 @@ module _ {C O S : Type 0} (chooses : Choosing C) (job : Job C O S) where
 
   -- a recorder of the job's opening alone
   pub at_start : (r : GuestRecorder) (guest : ℕ) (o : Opening) → made r ≡ opening_record guest o ∷ [] → HasRecorded r → r.guest.ran ≡ 0 →
-      o ≡ record { elf = vec_items job.elf; name = vec_items job.name; random = job.random }
+      o ≡ record { version = One; elf = vec_items job.elf; name = vec_items job.name; random = job.random }
       → IsAtStart job r
   at_start r guest o is recorded ran o_is =
       let e : EndsIn (items_of (opening_record guest o ∷ [])) (state_of r.guest) =
-      subst (λ (l : List Record). EndsIn (items_of l) (state_of r.guest)) is recorded.ends in
+      subst (λ (l : List Record). EndsIn (items_of l) (state_of r.guest)) is recorded.recorded.ends in
       record {
         none = ap (λ (l : List Record). frames_in l) is;
-        state = e.2.1 ∙ e.1.state_is ∙ ap (λ (p : Opening). opening_state p.elf p.name p.random) o_is;
+        state = e.2.1 ∙ e.1.state_is ∙ ap (λ (p : Opening). opening_state p.version p.elf p.name p.random) o_is;
         ran = ran;
+        recorded = recorded;
       }
 
   pub none_chosen : HasChosen chooses job [] (λ _ _. Unit {0})

@@ -79,14 +79,15 @@ goes_stepped gives a b choice outcome before after h recorded =
         recorded = record {
           opens = subst (IsFirst opening) (sym made_is)
               (still_first opening (made a ++ r ∷ []) more (still_first opening (made a) (r ∷ []) d.recorded.opens));
-          recorded = recorded;
+          recorded = recorded.recorded;
         };
         has_put = subst (HasPut b) (sym (append-nil out)) (h.keeps.has_put out (h.makes.has_put out d.has_put));
       };
     }
 
-pub goes_unmoved : {O : Type 0} (a b : GuestRecorder) (before after : O) → IsUnmoved a b before after → GoesOn a b []
-goes_unmoved a b before after h =
+pub goes_unmoved : {O : Type 0} (gives : Gives O) (a b : GuestRecorder) (before after : O) → IsUnmoved gives a b before after →
+    GoesOn a b []
+goes_unmoved gives a b before after h =
     let same : made b ≡ made a = λ i. (h.seat i).sent ++ h.backlog i in
     record {
       group = ap (λ (q : RecorderValue). q.group) h.seat;

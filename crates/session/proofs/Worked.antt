@@ -32,7 +32,7 @@ use Rattle.session.specs.declared.job.Job.{Job}
 use Rattle.session.specs.declared.task.Task.{Task}
 use Rattle.session.specs.declared.task.Worked.{Worked}
 use Rattle.session.proofs.Works.{no_fault, none_put}
-use Rattle.session.proofs.Chosen.{chosen_from_start, none_on, sent_on}
+use Rattle.session.proofs.Chosen.{chosen_from_start, none_on, sent_on, untimed_start}
 use Rattle.session.specs.Chosen.{HasChosenOn, IsAtStart, IsLeftWith, LeavesChooser, MakesChosen, frames_in}
 use Rattle.session.specs.Drives.{Drives, HasHalted, IsDone, IsDriven, IsOver, LeavesWith}
 use Rattle.session.specs.Works.{AreMet, Choosers, FaultTellsSink, HasChosenAll, HasFinished, IsBehind, HasStopped, HasWorked, IsBegun, IsRecordedFrom, IsSameJob, Sinks, opening_for}
@@ -135,7 +135,8 @@ low_total place (r ∷ records) numbered h =
 left_behind : {C O S : Type 0} (choosers : Choosers C) (job : Job C O S) (old new : GuestRecorder) (opening : Record) (Ends : C → Type 0) →
     IsRecordedFrom opening new.seat.guest (made new) (state_of new.guest) → IsAtStart job old
     → MakesChosen choosers.chooses old job.chooser new Ends → IsBehind (made new) new.guest
-left_behind choosers job old new opening Ends recorded start makes =
+left_behind choosers job old new opening Ends recorded start makes_all =
+    let makes = makes_all (untimed_start choosers.chooses job old start) in
     let all : frames_in (made new) ≡ makes.frames = makes.made_are ∙ ap (λ (l : List Frame). l ++ makes.frames) start.none in
     let count : total (frames_in (made new)) ≡ total makes.frames = ap (λ (l : List Frame). total l) all in
     let none = start.ran in

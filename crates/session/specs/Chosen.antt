@@ -3,13 +3,14 @@ use Rattle.std.specs.Prelude.{◌≡◌, ◌⊎◌, ◌+◌, ◌<◌, ◌^◌, L
 use Rattle.rrv_model.specs.declared.record.Choice.{Choice}
 use Rattle.rrv_model.specs.declared.record.Frame.{Frame}
 use Rattle.rrv_model.specs.declared.record.Record.{Record}
+use Rattle.rrv_model.specs.declared.machine.Version.TheVariants.{One}
 use Rattle.rrv_model.specs.Opening.{opening_state}
 use Rattle.rrv_model.specs.Recording.{frames_of, items_of}
 use Rattle.rrv_model.specs.State.{State}
 use Rattle.rrv_model.specs.StateAt.{total}
 use Rattle.guest_calls.specs.Guest.{state_of}
 use Rattle.serial_sched.specs.Chosen.{Choosing, AreChosen, Picks}
-use Rattle.recorder.specs.Recorders.{GuestRecorder, made}
+use Rattle.recorder.specs.Recorders.{GuestRecorder, HasRecorded, made}
 use Rattle.session.specs.declared.fault.SessionFault.{SessionFault}
 use Rattle.session.specs.declared.fault.SessionFault.TheVariants as faults
 use Rattle.session.specs.declared.job.Job.{Job}
@@ -24,7 +25,7 @@ frames_in records = frames_of (items_of records)
 
 -- where a job's guest starts
 abbrev pub start_of : {C O S : Type 0} → Job C O S → State
-start_of job = opening_state (vec_items job.elf) (vec_items job.name) job.random
+start_of job = opening_state One (vec_items job.elf) (vec_items job.name) job.random
 
 -- it is the same chooser, but where it was asked once more in this state, and had no choice left
 abbrev pub IsLeftWith : {C : Type 0} → Choosing C → (new : C) → State → (last : C) → Type 0
@@ -34,7 +35,8 @@ IsLeftWith chooses new s last = (new ≡ last) ⊎ Picks chooses s last None new
 abbrev pub IsAskedOnce : {C : Type 0} → Choosing C → (new : C) → State → (last : C) → Type 0
 IsAskedOnce chooses new s last = (new ≡ last) ⊎ ((choice : Option Choice) × Picks chooses s last choice new)
 
--- What a worker leaves of the chooser that its frames lead to, by what it met: a choice is lost only for want of memory.
+-- What a worker leaves of the chooser that its frames lead to, by what it met. No wait of its guest has a timeout, so a choice
+-- is lost only for want of memory.
 abbrev pub LeavesChooser : {C : Type 0} → Choosing C → Option SessionFault → (new : C) → State → (last : C) → Type 0
 LeavesChooser chooses None new s last = IsLeftWith chooses new s last
 LeavesChooser chooses (Some faults.DeviceFailed) new s last = IsLeftWith chooses new s last
@@ -71,16 +73,26 @@ pub record HasChosenOn {C O S : Type 0} (chooses : Choosing C) (job : Job C O S)
   pub chosen : AreChosen chooses (start_of job) job.chooser (frames_in records ++ behind) state last
   pub ends : Ends state last
 
+-- the guest is of version 1, so that no wait has a timeout and no choice is lost by one
+pub record IsUntimed (r : GuestRecorder) : Type 0 where
+  pub version : (state_of r.guest).version ≡ One
+  pub recorded : HasRecorded r
+
 -- the frames that a recorder made are the slices of what the chooser chose, whose steps its guest counts as far as it can;
 -- this is so of the chooser that they lead to
-pub record MakesChosen {C : Type 0} (chooses : Choosing C) (old : GuestRecorder) (chooser : C) (new : GuestRecorder)
+pub record MakesSlices {C : Type 0} (chooses : Choosing C) (old : GuestRecorder) (chooser : C) (new : GuestRecorder)
     (Ends : C → Type 0) : Type 0 where
   pub frames : List Frame
   pub made_are : frames_in (made new) ≡ frames_in (made old) ++ frames
   pub last : C
   pub chosen : AreChosen chooses (state_of old.guest) chooser frames (state_of new.guest) last
   pub ran : old.guest.ran + total frames < 2 ^ 64 → new.guest.ran ≡ old.guest.ran + total frames
+  pub untimed : IsUntimed new
   pub ends : Ends last
+
+-- so they are of a guest of version 1
+abbrev pub MakesChosen : {C : Type 0} → Choosing C → GuestRecorder → (chooser : C) → GuestRecorder → (C → Type 0) → Type 0
+MakesChosen chooses old chooser new Ends = IsUntimed old → MakesSlices chooses old chooser new Ends
 
 -- what a turn leaves of the chooser that its frames lead to
 abbrev pub TurnLeaves : {C : Type 0} → Choosing C → Step → (new : C) → State → (last : C) → Type 0
@@ -94,3 +106,4 @@ pub record IsAtStart {C O S : Type 0} (job : Job C O S) (r : GuestRecorder) : Ty
   pub none : frames_in (made r) ≡ []
   pub state : state_of r.guest ≡ start_of job
   pub ran : r.guest.ran ≡ 0
+  pub recorded : HasRecorded r

@@ -5,18 +5,20 @@ ghost use Rattle.rrv_model.specs.Elf.{refusal};
 ghost use Rattle.rrv_model.specs.Opening.{IsName};
 ghost use Rattle.rrv_model.specs.RecordText.{HasOpeningText};
 
+use rrv_model::machine::Version;
 use rrv_model::record::Opening;
 use rrv_model::sequence::Sequence;
 use std::alloc::{AllocError, Global};
 
-/// The opening of these bytes.
+/// The opening of these bytes, of a guest of version 1.
 fn join(elf: Vec<u8>, name: Vec<u8>, random: &[u8; 16]) -> Opening
     requires accepted { refusal elf.items ≡ None }
     requires name { IsName name.items }
-    ensures is { result ≡ record { elf = elf.items; name = name.items; random = random.now } }
+    ensures is { result ≡ record { version = Version.One; elf = elf.items; name = name.items; random = random.now } }
     ensures text { HasOpeningText result }
 {
     Opening {
+        version: Version::One,
         elf: Sequence::from_vec(elf),
         name: Sequence::from_vec(name),
         random: *random,
@@ -32,7 +34,8 @@ pub(crate) fn copy_opening(
 ) -> Result<Opening, AllocError>
     requires accepted { refusal elf.now ≡ None }
     requires name { IsName name.now }
-    ensures is { IfOk result (λ o. o ≡ record { elf = elf.now; name = name.now; random = random.now }) }
+    ensures is { IfOk result (λ o.
+        o ≡ record { version = Version.One; elf = elf.now; name = name.now; random = random.now }) }
     ensures text { IfOk result HasOpeningText }
 {
     let elf = Vec::from_slice(alloc, elf)?;

@@ -45,7 +45,8 @@ impl From<RecorderFault> for WorkFault {
         match fault {
             RecorderFault::Halted => WorkFault::Halted,
             RecorderFault::SinkFailed { .. } => WorkFault::SinkFailed,
-            // A step with a place for its frame, by a choice that fits, is refused for want of memory alone.
+            // A step with a place for its frame, by a choice that fits, is refused for want of memory alone: a session's guests are
+            // of version 1, so that none waits for a time.
             RecorderFault::Memory
             | RecorderFault::Full
             | RecorderFault::Refused(_)

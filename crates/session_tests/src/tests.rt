@@ -4,6 +4,7 @@ use std::fmt::Debug;
 use std::process::Abort;
 
 mod at_once;
+mod deadlines;
 mod fail_sink;
 mod gates;
 mod jobs;

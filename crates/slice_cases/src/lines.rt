@@ -11,10 +11,16 @@ pub enum Asked<'a> {
     Guest(&'a str, u8),
     /// The slice of a choice.
     Choose(Choice),
+    /// The end of the timed wait of a thread.
+    Expire(u32),
     /// The guest's threads by turns to its end, each for so many instructions.
     Turns(u32),
     /// What the next call put out that put something out.
     Put,
+    /// The last frame's line with its places.
+    Places,
+    /// The last frame as an event of a trace.
+    Event,
     End,
     Frames,
     Instructions,
@@ -95,8 +101,11 @@ pub fn asked_of<'a>(words: &[&'a str]) -> Option<Asked<'a>> {
             Some(Asked::Guest(words.get(1).copied()?, random))
         }
         "choose" => Some(Asked::Choose(choice_of(words)?)),
+        "expire" => Some(Asked::Expire(number(words, 1)?)),
         "turns" => Some(Asked::Turns(number(words, 1)?)),
         "put" => Some(Asked::Put),
+        "places" => Some(Asked::Places),
+        "event" => Some(Asked::Event),
         "end" => Some(Asked::End),
         "frames" => Some(Asked::Frames),
         "instructions" => Some(Asked::Instructions),

@@ -5,6 +5,7 @@ use crate::runs::{Left, Outcome};
 use crate::wrong::Wrong;
 use guest_calls::Guest;
 use rrv_model::limits::{MAX_QUANTUM, MIN_QUANTUM};
+use rrv_model::machine::Version;
 use rrv_model::record::Choice;
 use serial_sched::{Chooser, Listed, RoundRobin, slice};
 use std::alloc::{AllocError, Global};
@@ -167,7 +168,7 @@ fn record_pair(alloc: Global, pair: &mut Pair, list: &[Choice]) -> Result<Outcom
 
 /// Records a guest by a list, and by turns from where the list is left.
 fn record(alloc: Global, elf: &[u8], random: u8, list: &[Choice]) -> Result<Outcome, Wrong> {
-    let mut pair = Pair::open(alloc, elf, random)?;
+    let mut pair = Pair::open(alloc, Version::One, elf, random)?;
     record_pair(alloc, &mut pair, list)
 }
 

@@ -1,6 +1,7 @@
 //! Goes through cases of slices, which come as lines of text: a line names a guest, or has its instructions in hexadecimal digits behind
-//! `guest code`, asks for slices of it, or asks what became of it, and says behind ` = ` what has to be found. Each slice is followed from
-//! another guest of the same file, which has to come to the same state.
+//! `guest code`, or `guest two code` for one of version 2, asks for slices of it or for the end of a timed wait, or asks what became of it,
+//! and says behind ` = ` what has to be found. Each frame is followed from another guest of the same file, which has to come to the same
+//! state.
 //! Prints each line of which something else was found, and last how many there were.
 #![tactic(auto)]
 

@@ -3,13 +3,14 @@
 use crate::wrong::Wrong;
 use guest_calls::Guest;
 use rrv_model::limits::{MAX_QUANTUM, MIN_QUANTUM};
-use rrv_model::machine::GuestEnd;
+use rrv_model::machine::{GuestEnd, Version};
 use rrv_model::record::{Choice, Frame, Item, Record};
-use serial_sched::{Chooser, follow, slice};
+use serial_sched::{Chooser, SliceFault, expire, follow, slice};
 use std::alloc::{AllocError, Global};
-use test_guests::files::guest_of_file;
+use test_guests::files::guest_of_version;
 use test_guests::outsides::Nothing;
 use trace_text::{EndText, RecordLine};
+use turn_text::{EventText, PlacesLine};
 
 /// A recording has fewer frames.
 const FRAMES: u32 = 10_000;
@@ -28,22 +29,41 @@ pub struct Pair {
 
 impl Pair {
     /// Two guests at their opening.
-    pub fn open(alloc: Global, elf: &[u8], random: u8) -> Result<Pair, Wrong> {
+    pub fn open(alloc: Global, version: Version, elf: &[u8], random: u8) -> Result<Pair, Wrong> {
         Ok(Pair {
-            recorded: guest_of_file(alloc, elf, random).ok_or(Wrong::NoGuest)?,
-            follower: guest_of_file(alloc, elf, random).ok_or(Wrong::NoGuest)?,
+            recorded: guest_of_version(alloc, version, elf, random).ok_or(Wrong::NoGuest)?,
+            follower: guest_of_version(alloc, version, elf, random).ok_or(Wrong::NoGuest)?,
             frames: Vec::new(alloc),
             output: Vec::new(alloc),
             puts: Vec::new(alloc),
         })
     }
 
-    /// Records a slice, and follows it.
+    /// Records a slice, and follows it. A refused one changes nothing.
     pub fn slice(&mut self, alloc: Global, choice: Choice) -> Result<(), Wrong> {
-        let frame = slice(alloc, &mut self.recorded, choice, &mut Nothing).map_err(Wrong::Refused)?;
+        let frame = match slice(alloc, &mut self.recorded, choice, &mut Nothing) {
+            Ok(frame) => frame,
+            Err(fault) => return self.refused(fault),
+        };
         self.follow(alloc, &frame, choice.tid)?;
         self.keep_output(alloc, &frame)?;
         Ok(self.frames.push(frame).map_err(AllocError::from)?)
+    }
+
+    /// Ends the timed wait of a thread, and follows the frame. A refusal changes nothing.
+    pub fn expire(&mut self, alloc: Global, tid: u32) -> Result<(), Wrong> {
+        let frame = match expire(&mut self.recorded, tid) {
+            Ok(frame) => frame,
+            Err(fault) => return self.refused(fault),
+        };
+        self.follow(alloc, &frame, tid)?;
+        Ok(self.frames.push(frame).map_err(AllocError::from)?)
+    }
+
+    /// Why no frame was made: then both guests are still in one state.
+    fn refused(&self, fault: SliceFault) -> Result<(), Wrong> {
+        self.check()?;
+        Err(Wrong::Refused(fault))
     }
 
     /// Follows the frame of a thread's slice.
@@ -149,6 +169,33 @@ impl Pair {
 
     pub fn output(&self) -> &[u8] {
         self.output.as_slice()
+    }
+
+    /// The last frame as a record, and how many instructions ran before it.
+    fn last(&self) -> Result<(Record, u64), Wrong> {
+        let frame = self.frames.last().ok_or(Wrong::AsksNothing)?;
+        let from = self.ran().saturating_sub(u64::from(frame.count));
+        let record = Record {
+            guest: 0,
+            index: self.frames.len().min(u32::MAX as usize) as u32,
+            item: Item::Frame(frame.clone()?),
+        };
+        Ok((record, from))
+    }
+
+    /// The line of the last frame, with its places.
+    pub fn places(&self, alloc: Global) -> Result<String, Wrong> {
+        let (record, from) = self.last()?;
+        let line = PlacesLine::new(&record, from, self.ran(), &self.recorded);
+        Ok(format!(in alloc; "{line}")?)
+    }
+
+    /// The last frame as an event, without what parts it from the one before.
+    pub fn event(&self, alloc: Global) -> Result<String, Wrong> {
+        let (record, from) = self.last()?;
+        let text = format!(in alloc; "{}", EventText::new(&record, from, &self.recorded))?;
+        let event = text.as_str().trim_start_matches(",\n");
+        Ok(String::from_str(alloc, event)?)
     }
 
     /// What the call at this place among those that put something out did.

@@ -6,6 +6,7 @@ use crate::pair::{Pair, end_text, frame_text};
 use crate::runs::{Outcome, answer};
 use crate::wrong::Wrong;
 use rrv_model::limits::{MAX_QUANTUM, MIN_QUANTUM};
+use rrv_model::machine::Version;
 use rrv_model::record::Choice;
 use serial_sched::{RoundRobin, SliceFault};
 use std::alloc::{AllocError, Global};
@@ -41,7 +42,10 @@ impl Session {
     pub fn answer<R: Files + AllocGlobal>(&mut self, rt: &R, line: &str) -> Result<String, Wrong> {
         let alloc = rt.alloc();
         if let Some(code) = line.strip_prefix("guest code ") {
-            return self.open(alloc, file_of_code(alloc, code)?, 0);
+            return self.open(alloc, Version::One, file_of_code(alloc, code)?, 0);
+        }
+        if let Some(code) = line.strip_prefix("guest two code ") {
+            return self.open(alloc, Version::Two, file_of_code(alloc, code)?, 0);
         }
         let words: Vec<&str> = line.split_whitespace().collect(alloc)?;
         match asked_of(&words).ok_or(Wrong::AsksNothing)? {
@@ -49,7 +53,7 @@ impl Session {
                 let Ok(elf) = fs::read(rt, path) else {
                     return Err(Wrong::NoFile);
                 };
-                self.open(alloc, elf, random)
+                self.open(alloc, Version::One, elf, random)
             }
             Asked::Lists(made, first, last) => self.record_lists(alloc, made, first, last),
             Asked::OfLists(question) => Ok(answer(alloc, &self.outcomes, question)?),
@@ -57,8 +61,14 @@ impl Session {
         }
     }
 
-    fn open(&mut self, alloc: Global, elf: Vec<u8>, random: u8) -> Result<String, Wrong> {
-        self.pair = Some(Pair::open(alloc, &elf, random)?);
+    fn open(
+        &mut self,
+        alloc: Global,
+        version: Version,
+        elf: Vec<u8>,
+        random: u8,
+    ) -> Result<String, Wrong> {
+        self.pair = Some(Pair::open(alloc, version, &elf, random)?);
         self.elf = elf;
         self.random = random;
         self.puts = 0;
@@ -93,12 +103,15 @@ impl Session {
         };
         match asked {
             Asked::Choose(choice) => choose(alloc, pair, choice),
+            Asked::Expire(tid) => expire(alloc, pair, tid),
             Asked::Turns(quantum) => turns(alloc, pair, quantum),
             Asked::Put => {
                 let text = pair.put(self.puts).unwrap_or("nothing");
                 self.puts = self.puts.saturating_add(1);
                 Ok(String::from_str(alloc, text)?)
             }
+            Asked::Places => pair.places(alloc),
+            Asked::Event => pair.event(alloc),
             Asked::End => Ok(end_text(alloc, pair.ended())?),
             Asked::Frames => {
                 let count = pair.frames().len();
@@ -125,12 +138,23 @@ fn file_of_code(alloc: Global, text: &str) -> Result<Vec<u8>, Wrong> {
     Ok(file_of(alloc, &code)?)
 }
 
-/// Records the slice of a choice, and tells its frame.
-fn choose(alloc: Global, pair: &mut Pair, choice: Choice) -> Result<String, Wrong> {
-    pair.slice(alloc, choice)?;
+/// Tells the last frame.
+fn told(alloc: Global, pair: &Pair) -> Result<String, Wrong> {
     pair.check()?;
     let frame = pair.frames().last().ok_or(Wrong::NoEnd)?;
     Ok(frame_text(alloc, frame)?)
+}
+
+/// Records the slice of a choice, and tells its frame.
+fn choose(alloc: Global, pair: &mut Pair, choice: Choice) -> Result<String, Wrong> {
+    pair.slice(alloc, choice)?;
+    told(alloc, pair)
+}
+
+/// Records the end of a thread's timed wait, and tells its frame.
+fn expire(alloc: Global, pair: &mut Pair, tid: u32) -> Result<String, Wrong> {
+    pair.expire(alloc, tid)?;
+    told(alloc, pair)
 }
 
 /// Records the guest's threads by turns.

@@ -8,3 +8,4 @@ mod slices;
 mod stores;
 mod texts;
 mod trial;
+mod waits;

@@ -1,7 +1,7 @@
 //! Records as text.
 
 use frames::{Passed, RecordFault, pass_record, read_record, write_record};
-use rrv_model::machine::Permissions;
+use rrv_model::machine::{FutexWait, Permissions, Version};
 use rrv_model::record::{
     CallRecord, CheckpointRest, Frame, Item, Opening, PagePart, Part, Record, ThreadPart,
 };
@@ -14,7 +14,11 @@ fn write_bytes(alloc: Global, text: &mut String, bytes: &[u8]) -> Result<(), All
 }
 
 fn write_opening(alloc: Global, text: &mut String, opening: &Opening) -> Result<(), AllocError> {
-    write!(text, " opening elf ")?;
+    write!(text, " opening")?;
+    if opening.version == Version::Two {
+        write!(text, " of version 2")?;
+    }
+    write!(text, " elf ")?;
     write_bytes(alloc, text, opening.elf.as_slice())?;
     write!(text, " name ")?;
     for byte in opening.name.as_slice() {
@@ -40,8 +44,11 @@ fn write_frame(alloc: Global, text: &mut String, frame: &Frame) -> Result<(), Al
     let Frame { tid, count, end } = frame;
     let name = end.kind().name();
     write!(text, " {name}")?;
-    if end.has_thread() {
+    if end.runs_thread() {
         write!(text, " tid {tid} count {count}")?;
+    }
+    if end.is_expiry() {
+        write!(text, " tid {tid}")?;
     }
     if let Some(call) = end.call() {
         write_call(alloc, text, call)?;
@@ -84,9 +91,22 @@ fn write_thread(text: &mut String, part: &ThreadPart) -> Result<(), AllocError> 
     let pc = part.thread.regs.pc;
     let last = part.thread.regs.registers[31];
     write!(text, " thread {tid} pc {pc:#x} x31 {last:#x}")?;
-    match part.thread.waits_at {
+    match part.thread.wait {
         None => Ok(()),
-        Some(address) => write!(text, " waits at {address:#x}"),
+        Some(wait) => write_wait(text, wait),
+    }
+}
+
+fn write_wait(text: &mut String, wait: FutexWait) -> Result<(), AllocError> {
+    let address = wait.address;
+    write!(text, " waits at {address:#x}")?;
+    match wait.timeout {
+        None => Ok(()),
+        Some(timeout) => {
+            let seconds = timeout.seconds;
+            let nanoseconds = timeout.nanoseconds;
+            write!(text, " for {seconds} s {nanoseconds} ns")
+        }
     }
 }
 

@@ -2,6 +2,7 @@
 
 use elf_load::parse;
 use guest_calls::Guest;
+use rrv_model::machine::Version;
 use std::alloc::{AllocError, Global};
 
 /// An ELF header and the header of one LOAD: the whole file, at 0x10000, to be read and run from its byte 84 on.
@@ -42,6 +43,22 @@ pub const HELLO: [u32; 11] = [
     0x0400_0893, // li a7, 64
     0x0000_0073, // ecall
     0x0000_0513, // li a0, 0
+    0x05D0_0893, // li a7, 93
+    0x0000_0073, // ecall
+];
+
+/// It waits for 5,000,000 nanoseconds at a word of its stack by its tenth instruction, and exits with the low byte of what it finds.
+pub const ONE_WAIT: [u32; 12] = [
+    0xFC01_0113, // addi sp, sp, -64
+    0x004C_52B7, // lui t0, 0x4C5
+    0xB402_8293, // addi t0, t0, -1216
+    0x0051_2423, // sw t0, 8(sp)
+    0x0201_0513, // addi a0, sp, 32
+    0x0000_0593, // li a1, 0
+    0x0000_0613, // li a2, 0
+    0x0001_0693, // mv a3, sp
+    0x0620_0893, // li a7, 98
+    0x0000_0073, // ecall
     0x05D0_0893, // li a7, 93
     0x0000_0073, // ecall
 ];
@@ -89,8 +106,14 @@ pub fn file_with_data(alloc: Global, words: &[u32]) -> Result<Vec<u8>, AllocErro
     Ok(with_sizes(elf, 68))
 }
 
-/// A guest of a file, with this byte as each of its random ones; None where the file is none that runs, or no memory is left.
-pub fn guest_of_file(alloc: Global, elf: &[u8], random: u8) -> Option<Guest> {
+/// A guest of a version and a file, with this byte as each of its random ones; None where the file is none that runs, or no memory is
+/// left.
+pub fn guest_of_version(alloc: Global, version: Version, elf: &[u8], random: u8) -> Option<Guest> {
     let image = parse(alloc, elf).ok()?;
-    Guest::open(alloc, &image, b"a", [random; 16]).ok()
+    Guest::open(alloc, version, &image, b"a", [random; 16]).ok()
+}
+
+/// One of version 1.
+pub fn guest_of_file(alloc: Global, elf: &[u8], random: u8) -> Option<Guest> {
+    guest_of_version(alloc, Version::One, elf, random)
 }

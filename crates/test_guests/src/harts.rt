@@ -2,7 +2,7 @@
 
 ghost use Rattle.rrv_model.specs.State.{AreRegs};
 
-use rrv_model::machine::{Regs, Thread};
+use rrv_model::machine::{FutexWait, Regs, Thread, Timeout};
 use rrv_model::record::ThreadPart;
 
 /// Puts a word into a register that isn't x0.
@@ -38,8 +38,8 @@ pub fn regs_with(pc: u32, arguments: [u32; 4]) -> Regs
     regs
 }
 
-/// A thread with its tid in x1, which stands at 0x10000 and runs or waits at an address.
-pub fn part_of(tid: u32, waits_at: Option<u32>) -> ThreadPart {
+/// A thread with its tid in x1, which stands at 0x10000 and waits so, if it waits.
+fn part_that_waits(tid: u32, wait: Option<FutexWait>) -> ThreadPart {
     let mut registers = [0; 32];
     registers[1] = tid;
     let regs = Regs {
@@ -48,8 +48,29 @@ pub fn part_of(tid: u32, waits_at: Option<u32>) -> ThreadPart {
     };
     let thread = Thread {
         regs,
-        waits_at,
+        wait,
         clear: 0,
     };
     ThreadPart { tid, thread }
+}
+
+/// A thread with its tid in x1, which stands at 0x10000 and runs or waits at an address.
+pub fn part_of(tid: u32, waits_at: Option<u32>) -> ThreadPart {
+    let Some(address) = waits_at else {
+        return part_that_waits(tid, None);
+    };
+    let wait = FutexWait {
+        address,
+        timeout: None,
+    };
+    part_that_waits(tid, Some(wait))
+}
+
+/// The same of one that waits at an address for a time.
+pub fn timed_part_of(tid: u32, address: u32, timeout: Timeout) -> ThreadPart {
+    let wait = FutexWait {
+        address,
+        timeout: Some(timeout),
+    };
+    part_that_waits(tid, Some(wait))
 }

@@ -3,18 +3,20 @@
 ghost use Rattle.std.specs.Prelude.{IsSome};
 ghost use Rattle.guest_calls.specs.Snapshots.{guest_snapshots};
 
-use crate::files::guest_of_file;
+use crate::files::guest_of_version;
 use checkpoint::make;
 use guest_calls::Guest;
 use guest_pages::Snapshot;
+use rrv_model::machine::Version;
 use rrv_model::record::{Item, Opening, Part};
 use rrv_model::sequence::Sequence;
 use std::alloc::Global;
 use std::mem;
 
-/// What a guest of a file starts from, whose name is `a`, and whose random bytes are all 0.
-pub fn opening_of(alloc: Global, elf: &[u8]) -> Option<Item> {
+/// What a guest of a version and a file starts from, whose name is `a`, and whose random bytes are all 0.
+pub fn opening_of(alloc: Global, version: Version, elf: &[u8]) -> Option<Item> {
     Some(Item::Opening(Opening {
+        version,
         elf: Sequence::from_vec(elf.to_vec(alloc).ok()?),
         name: Sequence::from_vec(b"a".to_vec(alloc).ok()?),
         random: [0; 16],
@@ -31,8 +33,8 @@ pub struct Recorded {
 
 impl Recorded {
     /// One of a file, as `opening_of` says, at its start.
-    pub fn start(alloc: Global, elf: &[u8]) -> Option<Recorded> {
-        let mut guest = guest_of_file(alloc, elf, 0)?;
+    pub fn start(alloc: Global, version: Version, elf: &[u8]) -> Option<Recorded> {
+        let mut guest = guest_of_version(alloc, version, elf, 0)?;
         let base = guest.snapshot().ok()?;
         Some(Recorded { guest, base })
     }

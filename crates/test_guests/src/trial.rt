@@ -1,11 +1,11 @@
 //! A guest under test, behind methods that promise nothing: the proof of a test that calls them reads no clause of the crates below.
 //! What a call of those crates requires is tested as it runs.
 
-use crate::files::{file_of, guest_of_file};
+use crate::files::{file_of, guest_of_version};
 use crate::outsides::Scripted;
 use guest_calls::{Guest, Run, SetRestFault};
 use guest_pages::PageView;
-use rrv_model::machine::{GuestEnd, Regs, Thread};
+use rrv_model::machine::{GuestEnd, Regs, Thread, Version};
 use rrv_model::record::{CallRecord, CheckpointRest, ThreadPart};
 use rrv_model::refusal::Memory;
 use rrv_model::sequence::Sequence;
@@ -48,6 +48,8 @@ pub enum Question {
     Clear(u32),
     /// The address at which a thread waits.
     WaitsAt(u32),
+    /// Whether a thread that waits has a timeout: 1 or 0.
+    Timed(u32),
     /// Whether a thread runs: 1 or 0.
     Runs(u32),
     /// The address that is reserved.
@@ -100,7 +102,7 @@ fn with_arguments(thread: Thread, number: u32, arguments: [u32; 5]) -> Thread {
     };
     Thread {
         regs,
-        waits_at: thread.waits_at,
+        wait: thread.wait,
         clear: thread.clear,
     }
 }
@@ -138,14 +140,24 @@ fn rest_of(
     })
 }
 
-/// Makes a guest of a file, whose random bytes are all 7, and an outside with this input; None where the file is none that
-/// runs, or no memory is left.
-pub fn open<'a>(alloc: Global, elf: &[u8], input: &'a [u8]) -> Option<Trial<'a>> {
+/// Makes a guest of a version and a file, whose random bytes are all 7, and an outside with this input; None where the file is none
+/// that runs, or no memory is left.
+pub fn open_version<'a>(
+    alloc: Global,
+    version: Version,
+    elf: &[u8],
+    input: &'a [u8],
+) -> Option<Trial<'a>> {
     Some(Trial {
-        guest: guest_of_file(alloc, elf, 7)?,
+        guest: guest_of_version(alloc, version, elf, 7)?,
         record: None,
         outside: Scripted::of(input),
     })
+}
+
+/// The same of version 1.
+pub fn open<'a>(alloc: Global, elf: &[u8], input: &'a [u8]) -> Option<Trial<'a>> {
+    open_version(alloc, Version::One, elf, input)
 }
 
 /// The same of these instructions, which start at 0x10054.
@@ -226,6 +238,11 @@ impl Trial<'_> {
     /// Steps a thread, and tells whether it could.
     pub fn step(&mut self, tid: u32) -> bool {
         self.guest.is_running(tid) && self.guest.step_thread(tid).is_ok()
+    }
+
+    /// Ends the timed wait of a thread, and tells whether it had one.
+    pub fn expire(&mut self, tid: u32) -> bool {
+        self.guest.expire(tid).is_ok()
     }
 
     /// Takes the call back behind which a thread stands, and tells whether it runs.
@@ -309,6 +326,11 @@ impl Trial<'_> {
         thread.regs.registers.get(number as usize).copied()
     }
 
+    fn timed(&self, tid: u32) -> Option<u32> {
+        let wait = self.guest.thread(tid)?.wait?;
+        Some(u32::from(wait.timeout.is_some()))
+    }
+
     fn find_in_memory(&self, question: Question) -> Option<u32> {
         let space = self.guest.space();
         match question {
@@ -335,7 +357,8 @@ impl Trial<'_> {
             Question::Register(tid, number) => self.register(tid, number),
             Question::Pc(tid) => Some(self.guest.thread(tid)?.regs.pc),
             Question::Clear(tid) => Some(self.guest.thread(tid)?.clear),
-            Question::WaitsAt(tid) => self.guest.thread(tid)?.waits_at,
+            Question::WaitsAt(tid) => Some(self.guest.thread(tid)?.wait?.address),
+            Question::Timed(tid) => self.timed(tid),
             Question::Runs(tid) => Some(u32::from(self.guest.is_running(tid))),
             Question::Reservation => self.guest.reservation(),
             Question::NextTid => Some(self.guest.threads().next_tid()),

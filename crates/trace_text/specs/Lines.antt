@@ -15,7 +15,8 @@ use Rattle.rrv_model.specs.declared.record.Opening.{Opening}
 use Rattle.rrv_model.specs.declared.record.Part.{Part}
 use Rattle.rrv_model.specs.declared.record.Record.{Record}
 use Rattle.rrv_model.specs.declared.record.CheckpointRest.{CheckpointRest}
-use Rattle.rrv_model.specs.Ends.{call_in, end_kind, fault_in, guest_end_name, has_thread, kind_name}
+use Rattle.rrv_model.specs.Ends.{call_in, end_kind, fault_in, guest_end_name, runs_thread, is_expiry, kind_name}
+use Rattle.rrv_model.specs.FrameStep.{timed_out}
 use Rattle.rrv_model.specs.RecordText.{fault_number}
 
 -- the number behind the word of an end, if it has one
@@ -66,10 +67,19 @@ abbrev pub fault_text : Option FaultKind → List ℕ
 fault_text None = []
 fault_text (Some kind) = codes " kind=" ++ decimal (fault_number kind)
 
--- the word of the end, the thread's run if there is a thread, and what its call or its fault tells, if it ends in one
+-- the thread of a wait whose time was over, and its result
+abbrev pub thread_and_result : ℕ → List ℕ
+thread_and_result tid = codes " tid=" ++ (decimal tid ++ (codes " result=" ++ word_text timed_out))
+
+abbrev pub expiry_text : Bool → ℕ → List ℕ
+expiry_text expiry tid = if expiry then thread_and_result tid else []
+
+-- the word of the end, the thread's run if a thread ran, the wait that ended if one did, and what its call or its fault tells,
+-- if it ends in one
 abbrev pub frame_line : End → ℕ → ℕ → List ℕ
 frame_line end tid count =
-    kind_name (end_kind end) ++ (run_text (has_thread end) tid count ++ (call_text (call_in end) ++ fault_text (fault_in end)))
+    kind_name (end_kind end) ++ (run_text (runs_thread end) tid count ++ (expiry_text (is_expiry end) tid
+    ++ (call_text (call_in end) ++ fault_text (fault_in end))))
 
 abbrev pub last_text : Option CheckpointRest → List ℕ
 last_text None = codes "no"

@@ -5,7 +5,9 @@ use Rattle.std.specs.FinMap.{entries}
 use Rattle.sha2.specs.Sha256.{sha256}
 use Rattle.rrv_model.specs.declared.machine.GuestEnd.{GuestEnd}
 use Rattle.rrv_model.specs.declared.machine.Regs.{Regs}
+use Rattle.rrv_model.specs.declared.machine.FutexWait.{FutexWait}
 use Rattle.rrv_model.specs.declared.machine.Thread.{Thread}
+use Rattle.rrv_model.specs.declared.machine.Timeout.{Timeout}
 use Rattle.rrv_model.specs.Memory.{Memory, page_count}
 use Rattle.rrv_model.specs.State.{State}
 use Rattle.trace_text.specs.Digest.{pages_bytes}
@@ -32,9 +34,13 @@ reservation_line reservation = codes "reservation " ++ (reservation_text reserva
 
 -- ---- threads
 
-abbrev pub wait_text : Option ℕ → List ℕ
+abbrev pub timed_text : Option Timeout → List ℕ
+timed_text None = []
+timed_text (Some t) = codes " timed"
+
+abbrev pub wait_text : Option FutexWait → List ℕ
 wait_text None = codes "running"
-wait_text (Some address) = codes "waiting " ++ word_text address
+wait_text (Some w) = codes "waiting " ++ (word_text w.address ++ timed_text w.timeout)
 
 -- the address of a thread's next instruction, and its clear address
 unfoldable pub addresses_text : Thread → List ℕ
@@ -42,7 +48,7 @@ addresses_text t = codes "pc " ++ (word_text t.regs.pc ++ (codes " clear " ++ wo
 
 unfoldable pub thread_line : ℕ → Thread → List ℕ
 thread_line tid t =
-    codes "thread " ++ (decimal tid ++ (codes " " ++ (wait_text t.waits_at
+    codes "thread " ++ (decimal tid ++ (codes " " ++ (wait_text t.wait
     ++ (codes " " ++ (addresses_text t ++ newline)))))
 
 -- behind a space

@@ -5,13 +5,13 @@ ghost use Rattle.std.specs.Fmt.{WritesOnOk};
 ghost use Rattle.guest_calls.specs.Guest.{state_of};
 ghost use Rattle.trace_text.specs.States.{addresses_text, break_line, byte_text, pages_line, register_text};
 ghost use Rattle.trace_text.specs.States.{registers_line, registers_lines, reservation_line, state_lines};
-ghost use Rattle.trace_text.specs.States.{thread_line, thread_lines, threads_lines, wait_text};
+ghost use Rattle.trace_text.specs.States.{thread_line, thread_lines, threads_lines, timed_text, wait_text};
 
 use crate::each_thread::{ThreadText, write_each};
 use crate::memory_digest::digest_of;
 use crate::text::{EndText, write_word};
 use guest_calls::Guest;
-use rrv_model::machine::{Regs, Reservation, Thread};
+use rrv_model::machine::{FutexWait, Regs, Reservation, Thread, Timeout};
 use std::fmt;
 
 /// The lines of a guest's state at a place of so many, each with its newline: the place, the end, the break, the
@@ -128,7 +128,7 @@ fn write_thread_line<W: fmt::Write>(
     ensures { WritesOnOk W.write_str_gives f.old result (thread_line tid thread.now) f.new }
 {
     write!(f, "thread {tid} ")?;
-    write_wait(f, thread.waits_at)?;
+    write_wait(f, thread.wait)?;
     f.write_str(" ")?;
     write_addresses(f, thread)?;
     f.write_str("\n")
@@ -145,16 +145,27 @@ fn write_addresses<W: fmt::Write>(f: &mut fmt::Formatter<W>, thread: &Thread) ->
     write_word(f, thread.clear)
 }
 
-/// Whether a thread runs, or where it waits.
-fn write_wait<W: fmt::Write>(f: &mut fmt::Formatter<W>, waits_at: Option<u32>) -> fmt::Result
-    ensures { WritesOnOk W.write_str_gives f.old result (wait_text waits_at) f.new }
+/// Whether a thread runs, or where it waits, and whether for a time.
+fn write_wait<W: fmt::Write>(f: &mut fmt::Formatter<W>, wait: Option<FutexWait>) -> fmt::Result
+    ensures { WritesOnOk W.write_str_gives f.old result (wait_text wait) f.new }
 {
-    match waits_at {
+    match wait {
         None => f.write_str("running"),
-        Some(address) => {
+        Some(wait) => {
             f.write_str("waiting ")?;
-            write_word(f, address)
+            write_word(f, wait.address)?;
+            write_timed(f, wait.timeout)
         }
+    }
+}
+
+/// That a wait has a timeout, if it has one.
+fn write_timed<W: fmt::Write>(f: &mut fmt::Formatter<W>, timeout: Option<Timeout>) -> fmt::Result
+    ensures { WritesOnOk W.write_str_gives f.old result (timed_text timeout) f.new }
+{
+    match timeout {
+        None => Ok(()),
+        Some(_) => f.write_str(" timed"),
     }
 }
 

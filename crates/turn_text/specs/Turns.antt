@@ -11,7 +11,7 @@ use Rattle.rrv_model.specs.RecordText.{fault_number}
 use Rattle.rrv_model.specs.State.{State, register, thread_at}
 use Rattle.rrv_model.specs.FrameStep.{FrameStep}
 use Rattle.rrv_model.specs.CallRows.{call_name}
-use Rattle.rrv_model.specs.Ends.{call_in, end_kind, fault_in, has_thread, kind_name}
+use Rattle.rrv_model.specs.Ends.{call_in, end_kind, fault_in, runs_thread, kind_name}
 use Rattle.trace_text.specs.Lines.{fault_name, word_text, written_len}
 
 -- ---- places
@@ -25,10 +25,10 @@ next_text (Some t) = codes " pc=" ++ word_text t.regs.pc
 abbrev pub from_and_to : (from to : ℕ) → List ℕ
 from_and_to from to = codes " from=" ++ (decimal from ++ (codes " to=" ++ decimal to))
 
--- and where the frame's thread goes on, if it has one
+-- and where the frame's thread goes on, if one ran
 abbrev pub places_text : End → (from to : ℕ) → Option Thread → List ℕ
 places_text end from to thread =
-    if has_thread end then from_and_to from to ++ next_text thread else from_and_to from to
+    if runs_thread end then from_and_to from to ++ next_text thread else from_and_to from to
 
 -- ---- names
 
@@ -94,17 +94,17 @@ run_event guest index end from tid count thread =
     codes "{\"name\":\"" ++ (event_name end thread
     ++ (run_members from count guest tid ++ run_arguments index end thread))
 
--- the event of a frame of no thread, which takes no time
-abbrev pub instant_event : (guest index : ℕ) → End → (from : ℕ) → List ℕ
-instant_event guest index end from =
+-- the event of a frame in which no thread ran, which takes no time
+abbrev pub instant_event : (guest index : ℕ) → End → (from tid : ℕ) → List ℕ
+instant_event guest index end from tid =
     codes "{\"name\":\"" ++ (kind_name (end_kind end) ++ (codes "\",\"ph\":\"i\",\"ts\":" ++ (decimal from
-    ++ (codes ",\"pid\":" ++ (decimal guest ++ (codes ",\"tid\":0,\"s\":\"p\",\"args\":{\"record\":"
-    ++ (decimal index ++ codes "}}")))))))
+    ++ (codes ",\"pid\":" ++ (decimal guest ++ (codes ",\"tid\":" ++ (decimal tid
+    ++ (codes ",\"s\":\"p\",\"args\":{\"record\":" ++ (decimal index ++ codes "}}")))))))))
 
 -- the event of a frame
 abbrev pub event_line : (guest index : ℕ) → End → (from tid count : ℕ) → Option Thread → List ℕ
 event_line guest index end from tid count thread =
-    if has_thread end then run_event guest index end from tid count thread else instant_event guest index end from
+    if runs_thread end then run_event guest index end from tid count thread else instant_event guest index end from tid
 
 -- ---- laws
 

@@ -36,28 +36,30 @@ pub(crate) fn write_event<W: fmt::Write>(
     ensures { WritesOnOk W.write_str_gives f.old result (event_line guest_number index frame.now.end from
         frame.now.tid frame.now.count (thread_at (state_of guest.now) frame.now.tid)) f.new }
 {
-    if !frame.end.has_thread() {
-        return write_instant(f, guest_number, index, &frame.end, from);
+    if !frame.end.runs_thread() {
+        return write_instant(f, guest_number, index, frame, from);
     }
     write_run(f, guest_number, index, frame, from, guest.thread(frame.tid))
 }
 
-/// The event of a frame of no thread.
+/// The event of a frame in which no thread ran.
 fn write_instant<W: fmt::Write>(
     f: &mut fmt::Formatter<W>,
     guest: u32,
     index: u32,
-    end: &End,
+    frame: &Frame,
     from: u64,
 ) -> fmt::Result
-    ensures { WritesOnOk W.write_str_gives f.old result (instant_event guest index end.now from) f.new }
+    ensures { WritesOnOk W.write_str_gives f.old result
+        (instant_event guest index frame.now.end from frame.now.tid) f.new }
 {
+    let tid = frame.tid;
     f.write_str("{\"name\":\"")?;
-    f.write_str(end.kind().name())?;
+    f.write_str(frame.end.kind().name())?;
     write!(
         f,
         "\",\"ph\":\"i\",\"ts\":{from},\"pid\":{guest},\
-        \"tid\":0,\"s\":\"p\",\"args\":{{\"record\":{index}}}}}"
+        \"tid\":{tid},\"s\":\"p\",\"args\":{{\"record\":{index}}}}}"
     )
 }
 

@@ -25,7 +25,7 @@ pub(crate) fn write_places<W: fmt::Write>(
         (thread_at (state_of guest.now) frame.now.tid)) f.new }
 {
     write!(f, " from={from} to={to}")?;
-    if !frame.end.has_thread() {
+    if !frame.end.runs_thread() {
         return Ok(());
     }
     write_next(f, guest.thread(frame.tid))

@@ -7,6 +7,7 @@ ghost use Rattle.rrv_model.specs.RecordText.{HasItemText};
 ghost use Rattle.rrv_model.specs.Recovered.{IsOpening};
 
 use rrv_model::limits::MAX_ELF;
+use rrv_model::machine::Version;
 use rrv_model::record::{End, Frame, Item, Opening};
 use rrv_model::sequence::Sequence;
 use std::alloc::Global;
@@ -22,6 +23,7 @@ fn opening_of(elf: Vec<u8>, name: Vec<u8>) -> Item
     ensures { IsOpening result × HasItemText result }
 {
     Item::Opening(Opening {
+        version: Version::One,
         elf: Sequence::from_vec(elf),
         name: Sequence::from_vec(name),
         random: [0; 16],

@@ -6,16 +6,17 @@ ghost use Rattle.guest_calls.specs.Snapshots.{guest_snapshots};
 use crate::tests::rows::{Row, play, same, trial_of};
 use guest_calls::{Guest, SetPageFault, SetRestFault};
 use guest_pages::{PageView, Snapshot};
-use rrv_model::machine::{GuestEnd, Permissions, Thread};
+use rrv_model::machine::{GuestEnd, Permissions, Thread, Timeout, Version};
 use rrv_model::record::CheckpointRest;
 use rrv_model::sequence::Sequence;
 use std::alloc::Global;
 use std::fmt::Display;
 use std::process::Abort;
 use std::test::Fail;
-use test_guests::harts::part_of;
+use test_guests::files::file_of;
+use test_guests::harts::{part_of, timed_part_of};
 use test_guests::permissions::{CODE, DATA};
-use test_guests::trial::{Question, Trial};
+use test_guests::trial::{Question, Trial, open_version};
 
 const MMAP: u32 = 222;
 
@@ -256,6 +257,50 @@ fn no_state_has_this_rest(rt: HostRuntime) -> Result<(), Fail> {
     for program_break in [0x1_1000, 0x7000_0000] {
         let taken = set_rest(rt.alloc(), &mut trial, program_break, [3, 7])?;
         same(&rt, &program_break, taken, Ok(()));
+    }
+    Ok(())
+}
+
+/// A rest with a thread that waits for a time and one that runs.
+fn rest_that_waits(alloc: Global, timeout: Timeout) -> Result<CheckpointRest, Fail> {
+    let threads = [timed_part_of(3, 8, timeout), part_of(7, None)];
+    Ok(CheckpointRest {
+        program_break: 0x1_1000,
+        next_tid: 8,
+        threads: Sequence::from_vec(threads.to_vec(alloc)?),
+        waiting: Sequence::from_vec([3].to_vec(alloc)?),
+    })
+}
+
+/// Puts a rest with this timeout into a guest of a version.
+fn set_timeout(
+    alloc: Global,
+    version: Version,
+    timeout: Timeout,
+) -> Result<Result<(), SetRestFault>, Fail> {
+    let elf = file_of(alloc, &[0; 8])?;
+    let mut trial = open_version(alloc, version, &elf, &[]).ok_or("no guest")?;
+    let rest = rest_that_waits(alloc, timeout)?;
+    Ok(trial.guest.set_rest(alloc, &rest))
+}
+
+#[test]
+fn a_state_of_version_2_has_this_timeout(rt: HostRuntime) -> Result<(), Fail> {
+    let none = Err(SetRestFault::NoState);
+    let cases = [
+        (Version::One, 0, 5, none),
+        (Version::Two, 0, 5, Ok(())),
+        (Version::Two, 0x7FFF_FFFF_FFFF_FFFF, 999_999_999, Ok(())),
+        (Version::Two, 0, 1_000_000_000, none),
+        (Version::Two, 0x8000_0000_0000_0000, 0, none),
+    ];
+    for (version, seconds, nanoseconds, want) in cases {
+        let timeout = Timeout {
+            seconds,
+            nanoseconds,
+        };
+        let taken = set_timeout(rt.alloc(), version, timeout)?;
+        same(&rt, &seconds, taken, want);
     }
     Ok(())
 }

@@ -5,7 +5,7 @@ use super::same;
 use recover::ReadFault;
 use replayer::{Verified, VerifyFault, verify};
 use reverse_step::{Cursor, SeekFault};
-use rrv_model::machine::{Regs, Thread};
+use rrv_model::machine::{Regs, Thread, Version};
 use rrv_model::record::{
     CheckpointRest, End, Frame, Item, Line, Opening, PagePart, Part, Record, ThreadPart,
 };
@@ -38,7 +38,7 @@ fn thread_at(at: u32) -> Thread {
     registers[11] = STORED;
     Thread {
         regs: Regs { pc, registers },
-        waits_at: None,
+        wait: None,
         clear: 0,
     }
 }
@@ -79,6 +79,7 @@ pub(super) fn opening(alloc: Global, program: &[u32], name: &[u8]) -> Result<Ite
     let elf = file_of(alloc, program)?;
     let name = Vec::from_slice(alloc, name)?;
     Ok(Item::Opening(Opening {
+        version: Version::One,
         elf: Sequence::from_vec(elf),
         name: Sequence::from_vec(name),
         random: [0; 16],

@@ -177,6 +177,11 @@ fn refusals_of_slices_and_frames(rt: HostRuntime) -> Result<(), Fail> {
             (SliceFault::BadQuantum, "the quantum is outside the limits"),
             (SliceFault::Ended, "the guest has ended"),
             (SliceFault::Memory, "out of memory"),
+            (
+                SliceFault::Waiting,
+                "all threads wait, and a wait has a timeout",
+            ),
+            (SliceFault::NotTimed, "the thread has no timed wait"),
         ],
     )?;
     show(

@@ -11,14 +11,15 @@ use commit_group::{FlusherSeat, Group, RecorderSeat, Turn};
 use guest_calls::Guest;
 use recorder::{MemSink, Parts, Recorder, RecorderFault};
 use rrv_model::limits::MAX_ELF;
+use rrv_model::machine::Version;
 use rrv_model::record::{Choice, Opening};
 use rrv_model::sequence::Sequence;
-use serial_sched::{FollowFault, steps};
+use serial_sched::{FollowFault, SliceFault, steps};
 use std::alloc::Global;
 use std::process::Abort;
 use std::sync::Wait;
 use std::test::Fail;
-use test_guests::files::{COUNT_UP, HELLO, file_of, guest_of_file};
+use test_guests::files::{COUNT_UP, HELLO, ONE_WAIT, file_of, guest_of_file};
 use test_guests::outsides::Nothing;
 use trace_disk::MemDisk;
 use trace_log::Log;
@@ -30,7 +31,7 @@ const CHOICE: Choice = Choice {
 };
 
 /// The seats of a new group of two guests, and the flusher's.
-fn two_seats(alloc: Global) -> Result<(RecorderSeat, RecorderSeat, FlusherSeat), Fail>
+pub(super) fn two_seats(alloc: Global) -> Result<(RecorderSeat, RecorderSeat, FlusherSeat), Fail>
     ensures first { IfOk result (λ r. (r.0.sent ≡ []) × (r.0.has_left ≡ false)) }
     ensures second { IfOk result (λ r. (r.1.sent ≡ []) × (r.1.has_left ≡ false)) }
     ensures flusher { IfOk result (λ r. (r.2 ≡ new_flusher_seat r.2.group) × (r.2.group.guests ≡ 2)) }
@@ -42,20 +43,21 @@ fn two_seats(alloc: Global) -> Result<(RecorderSeat, RecorderSeat, FlusherSeat),
     Ok((first, second, flusher))
 }
 
-fn opening_of(elf: Vec<u8>, name: Vec<u8>) -> Opening
+fn opening_of(version: Version, elf: Vec<u8>, name: Vec<u8>) -> Opening
     requires fits { length elf.items ≤ MAX_ELF }
     requires named { IsName name.items }
     ensures { HasOpeningText result }
 {
     Opening {
+        version,
         elf: Sequence::from_vec(elf),
         name: Sequence::from_vec(name),
         random: [0; 16],
     }
 }
 
-/// The opening of a guest named `a`.
-fn opening(alloc: Global, program: &[u32]) -> Result<Opening, Fail>
+/// The opening of a guest named `a`, of this version.
+fn opening(alloc: Global, version: Version, program: &[u32]) -> Result<Opening, Fail>
     ensures { IfOk result HasOpeningText }
 {
     let elf = file_of(alloc, program)?;
@@ -63,10 +65,27 @@ fn opening(alloc: Global, program: &[u32]) -> Result<Opening, Fail>
         return Err(Fail::new("a file too long"));
     }
     let name = Vec::from_slice(alloc, b"a")?;
-    Ok(opening_of(elf, name))
+    Ok(opening_of(version, elf, name))
 }
 
 /// A recorder of such a guest, with checkpoints this many instructions apart.
+pub(super) fn recorder_of_version(
+    alloc: Global,
+    seat: RecorderSeat,
+    version: Version,
+    program: &[u32],
+    every: u32,
+) -> Result<Recorder, Fail>
+    requires { (seat.sent ≡ []) × (seat.has_left ≡ false) }
+{
+    let opening = opening(alloc, version, program)?;
+    match Recorder::new(alloc, seat, opening, every) {
+        Ok(recorder) => Ok(recorder),
+        Err((_, fault)) => Err(fault)?,
+    }
+}
+
+/// One of version 1.
 fn recorder_of(
     alloc: Global,
     seat: RecorderSeat,
@@ -75,11 +94,7 @@ fn recorder_of(
 ) -> Result<Recorder, Fail>
     requires { (seat.sent ≡ []) × (seat.has_left ≡ false) }
 {
-    let opening = opening(alloc, program)?;
-    match Recorder::new(alloc, seat, opening, every) {
-        Ok(recorder) => Ok(recorder),
-        Err((_, fault)) => Err(fault)?,
-    }
+    recorder_of_version(alloc, seat, Version::One, program, every)
 }
 
 /// Makes this many frames, and sends each.
@@ -147,7 +162,7 @@ fn output_leaves_once_its_turn_is_over(rt: HostRuntime) -> Result<(), Fail> {
 type Outcome = (Parts, u64, u32);
 
 /// What a recorder has made and sent, and how many instructions have run.
-fn counts(recorder: &Recorder) -> (u32, u32, u64) {
+pub(super) fn counts(recorder: &Recorder) -> (u32, u32, u64) {
     (recorder.made(), recorder.sent(), recorder.guest().ran())
 }
 
@@ -205,6 +220,25 @@ fn steps_find_no_memory<R: Abort + AllocGlobal + Wait>(
         Ok(()) => same(rt, &"guests", recorder.guest().same(&twin), true),
         Err(fault) => same(rt, &"twin", fault, FollowFault::Memory),
     }
+    Ok(())
+}
+
+// Its only thread waits for a time: no step makes a frame, and the guest isn't stuck.
+#[test]
+fn a_step_is_refused_while_a_wait_is_timed(rt: HostRuntime) -> Result<(), Fail> {
+    let alloc = rt.alloc();
+    let (seat, _, _) = two_seats(alloc)?;
+    let mut recorder = recorder_of_version(alloc, seat, Version::Two, &ONE_WAIT, 0)?;
+    recorder.send(&rt)?;
+    recorder.step(alloc, CHOICE, &mut Nothing)?;
+    recorder.send(&rt)?;
+    for _ in 0..2 {
+        let found = recorder.step(alloc, CHOICE, &mut Nothing).err();
+        let waiting = RecorderFault::Refused(SliceFault::Waiting);
+        same(&rt, &"a step", found, Some(waiting));
+        same(&rt, &"counts", counts(&recorder), (2, 2, 10));
+    }
+    same(&rt, &"end", recorder.guest().ended(), None);
     Ok(())
 }
 

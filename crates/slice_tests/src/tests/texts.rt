@@ -26,6 +26,11 @@ fn says_why_it_refuses(rt: HostRuntime) -> Result<(), Fail> {
         (SliceFault::BadQuantum, "the quantum is outside the limits"),
         (SliceFault::Ended, "the guest has ended"),
         (SliceFault::Memory, "out of memory"),
+        (
+            SliceFault::Waiting,
+            "all threads wait, and a wait has a timeout",
+        ),
+        (SliceFault::NotTimed, "the thread has no timed wait"),
     ] {
         prints(&rt, rt.alloc(), &fault, text)?;
     }

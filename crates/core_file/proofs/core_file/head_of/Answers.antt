@@ -6,13 +6,13 @@ use Rattle.core_file.proofs.ThreadEntries.{count_told, few_parts, threads_told}
 use Rattle.core_file.proofs.core_file.head_of.Goals as goal
 
 pub overflow_cast-count : goal.overflow_cast-count
-overflow_cast-count c = omega (arith, c.len.ensures, few_parts c.in_ok-parts.parts.items _ _ c.in_ok-parts.ensures.rules)
+overflow_cast-count c = omega (arith, c.len.ensures, few_parts _ c.in_ok-parts.parts.items _ _ c.in_ok-parts.ensures.rules)
 
 pub invariant_of-counts : goal.invariant_of-counts
 invariant_of-counts c =
     record {
       few_headers = omega (arith, c.requires.few);
-      few_threads = omega (arith, c.len.ensures, few_parts c.in_ok-parts.parts.items _ _ c.in_ok-parts.ensures.rules);
+      few_threads = omega (arith, c.len.ensures, few_parts _ c.in_ok-parts.parts.items _ _ c.in_ok-parts.ensures.rules);
     }
 
 pub returns : goal.returns

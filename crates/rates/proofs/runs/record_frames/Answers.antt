@@ -10,6 +10,6 @@ loop-preserved c = (
   subst (λ (frames : List Frame). StateAtFrom (state_of c.args.guest.now) frames (total frames) (state_of c.slice.new.guest))
       (sym c.in-Ok-push.ensures.items)
       (at_total_append c.loop.frames.items (state_of c.args.guest.now) (state_of c.loop.guest) (state_of c.slice.new.guest) c.in-Ok.frame
-      c.loop.invariant.0 c.in-Ok.ensures.is_slice.frame),
+      c.loop.invariant.0 c.in-Ok.ensures.is_slice.is_frame.frame),
   ap length c.in-Ok-push.ensures.items ∙ length-append c.loop.frames.items (c.in-Ok.frame ∷ []) ∙ ap (λ n. n + 1) c.loop.invariant.1,
 )

@@ -9,11 +9,13 @@ use Rattle.serial_sched.proofs.following.follow_threadless.Goals as goal
 
 pub returns : goal.returns
 returns c = record {
-  follows = rests c.args.end.now (state_of c.args.guest.now) c.args.tid c.args.count (state_of c.close_slice.new.self) c.requires
+  follows = rests c.args.end.now (state_of c.args.guest.now) c.args.tid c.args.count (state_of c.close_slice.new.self) c.requires.none
+      c.requires.still
       (omega (arith, c.if-tid-ne0.false)) (omega (arith, c.if-count-ne0.false))
       (λ t runs. false≢true (c.if-has_running.ensures.1 (t, runs)))
+      (λ t timed. false≢true (c.if-has_timed.ensures.1 (t, timed)))
       (c.close_slice.ensures.state ∙ ap (λ (o : Option GuestEnd). closed_by o (state_of c.args.guest.now)) c.guest_end.ensures);
-  puts = without_call c.args.end.now _ c.requires;
+  puts = without_call c.args.end.now _ c.requires.none;
   keeps = kept c.args.end.now c.close_slice.ensures.put;
   ran = search rules;
   snapshots = search rules;

@@ -8,3 +8,6 @@ returns-in-Call c = rw c.in-Call.is c.follow_call.ensures
 
 pub returns-in-Fault : goal.returns-in-Fault
 returns-in-Fault c = rw c.in-Fault.is c.follow_fault.ensures
+
+pub returns-in-Expire : goal.returns-in-Expire
+returns-in-Expire c = rw c.in-Expire.is c.follow_expire.ensures

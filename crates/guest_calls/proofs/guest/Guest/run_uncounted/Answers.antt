@@ -1,4 +1,5 @@
 use Rattle.std.proofs.Common.{◌≡◌, Some, sym, ◌∙◌, ap, subst}
+use Rattle.rrv_model.specs.declared.machine.Version.TheVariants.{One}
 use Rattle.rrv_model.specs.State.{State, thread_at}
 use Rattle.rrv_model.specs.Step.{with_hart}
 use Rattle.guest_pages.specs.Space.{memory_of}
@@ -26,3 +27,6 @@ returns-clause-runs c =
     sym (c.set_regs.ensures base ∙ changed_there c.args.tid (λ u. record u { regs = h.regs }) base t there) in
     subst (λ (v : GuestValue). Runs c.args.limit c.args.tid (state_of v) c.run_hart-run.result new) c.self.view_is
     (subst (λ (s : State). Runs c.args.limit c.args.tid (state_of g) c.run_hart-run.result s) after runs)
+
+pub run_hart-run-requires : goal.run_hart-run-requires
+run_hart-run-requires c = (c.running_thread-thread.ensures.runs.fits One).regs

@@ -1,4 +1,5 @@
 use Rattle.std.proofs.Common.{ℕ, List, None, ◌∙◌, ap, rules}
+use Rattle.rrv_model.specs.declared.machine.Version.{Version}
 use Rattle.rrv_model.specs.declared.record.ThreadPart.{ThreadPart}
 use Rattle.rrv_model.specs.State.{State}
 use Rattle.guest_pages.specs.Space.{memory_of}
@@ -12,6 +13,7 @@ pub returns-in-Ok-clause-set : goal.returns-in-Ok-clause-set
 returns-in-Ok-clause-set c =
     let rest = c.args.rest.now in
     let s : State = record {
+      version = c.in-Ok.threads.version;
       memory = memory_of c.self.inside.space;
       threads = thread_map c.in-Ok.threads.threads;
       waiting = c.in-Ok.threads.waiting;
@@ -23,8 +25,10 @@ returns-in-Ok-clause-set c =
     } in
     record {
       state = c.in-Ok.ensures.made s
-          ∙ ap (λ (parts : List ThreadPart). with_parts parts c.as_slice-waiting.result.now rest.next_tid s) c.as_slice-threads.ensures
-          ∙ ap (λ (order : List ℕ). with_parts rest.threads order rest.next_tid s) c.as_slice-waiting.ensures
+          ∙ ap (λ (parts : List ThreadPart). with_parts c.version-version.result parts c.as_slice-waiting.result.now rest.next_tid s)
+          c.as_slice-threads.ensures
+          ∙ ap (λ (order : List ℕ). with_parts c.version-version.result rest.threads order rest.next_tid s) c.as_slice-waiting.ensures
+          ∙ ap (λ (v : Version). with_parts v rest.threads rest.waiting rest.next_tid s) c.version-version.ensures
           ∙ ap (λ (g : GuestValue). with_rest rest (state_of g)) c.self.view_is;
       refused = search rules;
       keeps = search rules;

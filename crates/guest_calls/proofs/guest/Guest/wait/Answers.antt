@@ -7,7 +7,7 @@ use Rattle.guest_calls.proofs.guest.Guest.wait.Goals as goal
 pub returns : goal.returns
 returns c = record {
   state = c.in-Ok.ensures.waits (state_of (the_view c.self.inside))
-      ∙ ap (λ (v : GuestValue). waits c.args.tid c.args.address (state_of v)) c.self.view_is;
+      ∙ ap (λ (v : GuestValue). waits c.args.tid c.args.wait (state_of v)) c.self.view_is;
   refused = search rules;
   keeps = search rules;
   put = search rules;

@@ -1,4 +1,5 @@
 use Rattle.std.proofs.Common.{◌≡◌, Some, sym, ◌∙◌, ap, subst}
+use Rattle.rrv_model.specs.declared.machine.Version.TheVariants.{One}
 use Rattle.rrv_model.specs.State.{State, thread_at}
 use Rattle.rrv_model.specs.Step.{with_hart}
 use Rattle.guest_pages.specs.Space.{memory_of}
@@ -46,3 +47,6 @@ returns-clause-watched c = λ e.
     sym (c.set_regs.ensures base ∙ changed_there c.args.tid (λ u. record u { regs = h.regs }) base t there) in
     subst (λ (v : GuestValue). Watched c.args.address c.args.limit c.args.tid (state_of v) run.result.changed new) c.self.view_is
     (subst (λ (s : State). Watched c.args.address c.args.limit c.args.tid (state_of g) run.result.changed s) after watched)
+
+pub run_watched-watched-requires : goal.run_watched-watched-requires
+run_watched-watched-requires c = (c.running_thread-thread.ensures.runs.fits One).regs

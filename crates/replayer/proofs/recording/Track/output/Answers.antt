@@ -34,7 +34,7 @@ loop-left-init g c =
     let guest = c.into_guest-guest.result in
     let there = start_opens o frames place.frames place.at (state_of place.guest) c.in_ok-start.ensures.begins.place
     c.in_ok-start.ensures.frames in
-    let opens = subst (λ (g' : GuestValue). Opens o.elf o.name o.random (state_of g')) (sym c.into_guest-guest.ensures) there in
+    let opens = subst (λ (g' : GuestValue). Opens o (state_of g')) (sym c.into_guest-guest.ensures) there in
     let ends = start_ends o frames c.args.self.now.marks (state_of guest) c.requires opens in
     record {
       put = λ tells. subst
