@@ -47,7 +47,7 @@ _rrv() {
         new | check | elf | copy | help) ;;
         list) options+=' --long --progress' ;;
         dump) options+=' --places --trace-events --progress' ;;
-        record) options+=' --quantum --every --input --seed --name --choices --then --limit --fail --progress' ;;
+        record) options+=' --quantum --every --input --seed --name --choices --then --limit --fail --upgrade --progress' ;;
         verify) options+=' --long --progress' ;;
         choices | core | ask) options+=' --progress' ;;
         replay) options+=' --at --memory --progress' ;;

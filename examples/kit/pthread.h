@@ -1,5 +1,5 @@
 /* POSIX threads for guests: what most programs use, by the names of IEEE Std 1003.1-2017. An error is answered as its errno.
-   There are no timeouts, signals or cancellation, since a guest has none. */
+   There are no timeouts, and no signals or cancellation: a guest has none. */
 
 #ifndef KIT_PTHREAD_H
 #define KIT_PTHREAD_H

@@ -161,7 +161,7 @@ int sched_yield(void)
     return call(YIELD, 0, 0, 0, 0);
 }
 
-/* There are no timeouts: who sleeps gives up its turn. */
+/* Who sleeps gives up its turn, in stores of either kind. */
 int nanosleep(const struct timespec *time, struct timespec *left)
 {
     (void)time, (void)left;

@@ -52,6 +52,7 @@ recorded =
     ∷ option_or (codes "then") (codes "turns")
     ∷ option (codes "limit")
     ∷ flag (codes "fail")
+    ∷ flag (codes "upgrade")
     ∷ flag (codes "progress")
     ∷ several 1 16 (codes "ELF")
     ∷ []

@@ -141,6 +141,7 @@ pub record NamesRecording (rows : List Row) (r : Recording) : Type 0 where
   pub then_is : HasThen rows r.then
   pub limit : HasNumberIf rows (codes "limit") r.limit
   pub fail : HasFlag rows (codes "fail") r.fail
+  pub upgrade : HasFlag rows (codes "upgrade") r.upgrade
   pub progress : HasFlag rows (codes "progress") r.progress
 
 -- the bytes whose changes are looked for: the four of a word if the flag is there, else one

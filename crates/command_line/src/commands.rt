@@ -91,6 +91,10 @@ const SUBCOMMANDS: &[Subcommand] = &[
                 "fail",
                 "end with status 3 if a guest ended otherwise than exited 0",
             ),
+            Argument::Flag(
+                "upgrade",
+                "mark the store first, so that its guests may wait with a timeout",
+            ),
             PROGRESS,
             Argument::Several("ELF", "static RISC-V programs (ELF32, RV32IMA)"),
         ],

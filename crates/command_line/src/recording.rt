@@ -137,6 +137,7 @@ pub(crate) fn recording<'a>(
         then,
         limit,
         fail: flag(values, "fail"),
+        upgrade: flag(values, "upgrade"),
         progress: flag(values, "progress"),
     })
 }

@@ -172,5 +172,7 @@ pub struct Recording<'a> {
     pub limit: Option<u64>,
     /// Whether the status is to tell that a guest ended otherwise than by an exit with 0.
     pub fail: bool,
+    /// Whether the store is to be marked first, so that its guests are of version 2.
+    pub upgrade: bool,
     pub progress: bool,
 }

@@ -1,17 +1,21 @@
 -- Why a guest is not copied, or not whole.
-use Rattle.std.specs.Prelude.{ℕ, ◌<◌}
+use Rattle.std.specs.Prelude.{◌≡◌, ◌<◌, false, List}
 use Rattle.rrv_model.specs.declared.limits.TheConstants.{MAX_NUMBER}
+use Rattle.rrv_model.specs.declared.record.Record.{Record}
+use Rattle.rrv_model.specs.Recovered.{AreOld}
 use Rattle.trace_log.specs.Kept.{LogValue}
 use Rattle.copying.specs.Copied.{IsFull}
 use Rattle.copying.specs.declared.fault.CopyFault.TheVariants as copy_faults
 use Rattle.stored_guests.specs.declared.refusal.Refusal.{Refusal}
 use Rattle.stored_guests.specs.declared.refusal.Refusal.TheVariants as refusals
 
--- there is no next number, the store is full, a device failed, there was no memory, or its line was not taken
-abbrev pub RefusesCopy : {D : Type 0} → (next : ℕ) → LogValue D → Refusal → Type 0
-RefusesCopy next log (refusals.Copy copy_faults.TooManyGuests) = MAX_NUMBER < next
-RefusesCopy next log (refusals.Copy copy_faults.StoreFull) = IsFull log
-RefusesCopy next log refusals.DeviceFailed = Unit {0}
-RefusesCopy next log refusals.Memory = Unit {0}
-RefusesCopy next log refusals.OutputFailed = Unit {0}
-RefusesCopy next log _ = ⊥
+-- There is no next number, the store is full, it lacks the Mark that some of the copies want, a device failed, there
+-- was no memory, or its line was not taken.
+abbrev pub RefusesCopy : {D : Type 0} → (copies : List Record) → (old new : LogValue D) → Refusal → Type 0
+RefusesCopy copies old new (refusals.Copy copy_faults.TooManyGuests) = MAX_NUMBER < old.next_guest
+RefusesCopy copies old new (refusals.Copy copy_faults.StoreFull) = IsFull new
+RefusesCopy copies old new (refusals.Copy copy_faults.NeedsMark) = (old.marked ≡ false) × (AreOld copies → ⊥)
+RefusesCopy copies old new refusals.DeviceFailed = Unit {0}
+RefusesCopy copies old new refusals.Memory = Unit {0}
+RefusesCopy copies old new refusals.OutputFailed = Unit {0}
+RefusesCopy copies old new _ = ⊥

@@ -39,10 +39,10 @@ fn copy_to<S: Disk, D: Disk, W: Write>(
         → KeepsRecords D.Disk log.old earlier
         → Copies D.Disk result log.old log.new earlier (copies_of log.old.next_guest guest lists.now) }
     ensures safe { (earlier : List Record) → KeepsRecords D.Disk log.old earlier → (read : List Record)
-        × AreCopies log.old.next_guest 0 read × Copies D.Disk result log.old log.new earlier read }
+        × AreCopies log.old.marked log.old.next_guest 0 read × Copies D.Disk result log.old log.new earlier read }
     ensures too_many { MAX_NUMBER < log.old.next_guest → OnOk result ⊥ × (log.new ≡ log.old) }
     ensures refused { StandOn S.honest S.state source.old lists.now
-        → IfErr result (RefusesCopy log.old.next_guest log.new) }
+        → IfErr result (RefusesCopy (copies_of log.old.next_guest guest lists.now) log.old log.new) }
     ensures quiet { IfErr result (λ e. e ≢ Refusal.OutputFailed → out.new ≡ out.old) }
     ensures printed { StandOn S.honest S.state source.old lists.now
         → OnOk result (Appends (W.contents out.old) (W.contents out.new)

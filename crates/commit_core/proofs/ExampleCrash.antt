@@ -45,7 +45,7 @@ module _ (guest : Ended) where
   invariant = invariant_of_run example_start [] (up_to_gate guest.written guest.ended) (invariant_at_start example_start [] starts)
       (gate_schedule guest)
 
-  gate_opened : DiskAt Opened world.disk [] all_three
+  gate_opened : DiskAt Opened world.disk [] (body_text all_three)
   gate_opened = invariant.disk
 
   may_leave : (gate : ℕ) → IsCrash world.disk.pending (torn_at_gate gate)

@@ -42,7 +42,7 @@ module _ (guest : Ended) where
   can_commit : CanWrite both_received 4
   can_commit =
       writes_short both_received 4 refl (omega arith) (omega arith) (omega arith) (omega (arith, both_len)) (omega arith)
-      (omega (arith, gate_len))
+      (omega (arith, gate_len)) (refl, (refl, (refl, (refl, tt))))
 
   pair_schedule : IsSchedule pair_start (pair_events guest.written)
   pair_schedule = (

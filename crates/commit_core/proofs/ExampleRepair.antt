@@ -38,7 +38,7 @@ one_len : length (body_text (exited ∷ [])) ≡ 29
 unfolding record_text payload call_text
 one_len = refl
 
-segment_len : (number : ℕ) (body : List ℕ) → number ≤ 1 → length body ≤ 1000 → length (segment number body ++ 0 ∷ []) ≡ 41 + length body
+pub segment_len : (number : ℕ) (body : List ℕ) → number ≤ 1 → length body ≤ 1000 → length (segment number body ++ 0 ∷ []) ≡ 41 + length body
 segment_len number body low short = let size =
     (segment_reads number body (0 ∷ []) (omega (arith, low)) (omega (arith, short))).size in omega (arith, size)
 
@@ -55,7 +55,7 @@ store_len =
 module _ (guest : Ended) where
   can_first : CanWrite (all_received guest) 2
   can_first = writes_short (all_received guest) 2 refl (omega arith) (omega arith) (omega arith) (omega (arith, two_len)) (omega arith)
-      (omega (arith, gate_len))
+      (omega (arith, gate_len)) (refl, (refl, tt))
 
   abbrev one_committed : World
   one_committed = run (all_received guest) (WriteBody 2 ∷ Sync1 ∷ OpenGate ∷ Sync2 ∷ Publish 0 ∷ Look 0 ∷ Release 0 ((1, 0x7F) ∷ []) ∷ [])
@@ -63,7 +63,7 @@ module _ (guest : Ended) where
   can_second : CanWrite one_committed 1
   can_second =
       writes_short one_committed 1 refl (omega arith) (omega arith) (omega arith) (omega (arith, one_len)) (omega arith)
-      (omega (arith, store_len))
+      (omega (arith, store_len)) (refl, tt)
 
   schedule : IsSchedule example_start (up_to_second_gate guest.written guest.ended)
   schedule = then_schedule guest
@@ -82,7 +82,7 @@ module _ (guest : Ended) where
   invariant = invariant_of_run example_start [] (up_to_second_gate guest.written guest.ended) (invariant_at_start example_start [] starts)
       schedule
 
-  gate_opened : DiskAt Opened world.disk first_body (exited ∷ [])
+  gate_opened : DiskAt Opened world.disk first_body (body_text (exited ∷ []))
   gate_opened = invariant.disk
 
   crash : IsCrash world.disk.pending torn_store
@@ -148,7 +148,7 @@ module _ (guest : Ended) where
       fresh_disk torn_store,
       stops,
       inr (torn_store, torn_again, refl),
-      (repaired_disk, repaired_disk, (store, repaired_is, again, tt, refl), inl refl, refl),
+      (repaired_disk, repaired_disk, (inl (store, repaired_is), again, tt, refl), inl refl, refl),
     ),
   )
 

@@ -15,13 +15,13 @@ use Rattle.commit_core.proofs.ExampleGuest.{guest_ends}
 use Rattle.commit_core.proofs.ExampleWorld.{starts, starts_on, nothing_recovered, gate_schedule}
 use Rattle.commit_core.proofs.ExampleCrash.{is_body, finds_all, may_leave_all}
 
-closed_text : (bodies : List (List ℕ)) → closed_store bodies ≡ (header ++ segments 0 bodies) ++ 0 ∷ []
+pub closed_text : (bodies : List (List ℕ)) → closed_store bodies ≡ (header ++ segments 0 bodies) ++ 0 ∷ []
 unfolding store_text
 closed_text bodies = refl
 
 -- a store with these bodies, whose gate is closed and has nothing behind it
-module _ (bodies : List (List ℕ)) (sizes : AllByRecursion IsBody bodies) (few : length bodies ≤ 1) where
-  abbrev closed_at_end : IsStore (closed_store bodies) bodies
+module _ (bodies : List (List ℕ)) (sizes : AllByRecursion IsBody bodies) (few : length bodies ≤ 2) where
+  abbrev pub closed_at_end : IsStore (closed_store bodies) bodies
   closed_at_end =
       record {
         gate = 0;
@@ -35,7 +35,7 @@ module _ (bodies : List (List ℕ)) (sizes : AllByRecursion IsBody bodies) (few 
   pub session_on : (number : ℕ) (old : List Record) (events : List Event) → IsStart (start_on bodies number) old →
       IsSchedule (start_on bodies number) events →
       IsSession (fresh_disk (closed_store bodies)) (Ran (start_on bodies number) old events) (run (start_on bodies number) events).disk
-  session_on number old events is schedule = (closed_at_end, refl, is, schedule, refl)
+  session_on number old events is schedule = (inl (closed_at_end, refl), is, schedule, refl)
 
 pub first_opens : CanOpen (closed_store [])
 first_opens = record { bodies = []; store = closed_at_end [] tt (omega arith); are = ([], nothing_recovered); next = inl refl }

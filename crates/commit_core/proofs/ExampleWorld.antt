@@ -1,5 +1,5 @@
 -- The example's start and its events.
-use Rattle.std.proofs.Common.{◌≡◌, ℕ, zero, suc, ◌+◌, ◌<◌, ◌≤◌, List, [], ◌∷◌, ◌++◌, length, refl, sym, ap, subst, arith, add-zero, Some}
+use Rattle.std.proofs.Common.{◌≡◌, inr, ℕ, zero, suc, ◌+◌, ◌<◌, ◌≤◌, List, [], ◌∷◌, ◌++◌, length, take, refl, sym, ap, subst, arith, add-zero, Some}
 use Rattle.std.specs.List.{AllByRecursion}
 use Rattle.rrv_model.specs.declared.machine.GuestEnd.TheVariants.{Exited}
 use Rattle.rrv_model.specs.declared.record.End.TheVariants as ends
@@ -10,7 +10,7 @@ use Rattle.rrv_model.specs.State.{State}
 use Rattle.rrv_model.specs.RecordText.{HasText, record_text, payload, opening_text, call_text}
 use Rattle.rrv_model.specs.Recording.{IsRecording, IsNumbered, EndsIn, frame_record, items_of}
 use Rattle.store_model.specs.StoreText.{IsBody}
-use Rattle.rrv_model.specs.Recovered.{body_text, next_guest, IsRecovered}
+use Rattle.rrv_model.specs.Recovered.{body_text, IsOld, next_guest, IsRecovered}
 use Rattle.commit_core.specs.Runs.{IsOutput}
 use Rattle.commit_core.specs.World.{World, Recorder, IsStart, IsReady, IsAtRest, made, opening_record, stored_bodies, store_text, closed_store}
 use Rattle.commit_core.specs.World.Stage.{Idle}
@@ -115,8 +115,9 @@ starts = starts_on [] 0 [] (omega arith) nothing_recovered refl tt (omega arith)
 
 -- a short body may be written behind a short store
 pub writes_short : (w : World) (count : ℕ) → w.flusher.stage ≡ Idle → 1 ≤ count → count ≤ 64 → count ≤ length w.flusher.waiting
-    → length (next_body w count) ≤ 1000 → length (stored_bodies w) ≤ 1 → gate_place w ≤ 1000 → CanWrite w count
-writes_short w count idle some few there short bodies low = record {
+    → length (next_body w count) ≤ 1000 → length (stored_bodies w) ≤ 1 → gate_place w ≤ 1000
+    → AllByRecursion (λ (r : Record). IsOld r.item) (take count w.flusher.waiting) → CanWrite w count
+writes_short w count idle some few there short bodies low old = record {
   idle = idle;
   some = some;
   few = few;
@@ -124,6 +125,7 @@ writes_short w count idle some few there short bodies low = record {
   body = omega (arith, short);
   number = omega (arith, bodies);
   store = omega (arith, low, short);
+  old = inr old;
 }
 
 module _ (guest : Ended) where
@@ -177,7 +179,7 @@ module _ (guest : Ended) where
   pub can_commit : CanWrite all_received 3
   can_commit =
       writes_short all_received 3 refl (omega arith) (omega arith) (omega arith) (omega (arith, body_len)) (omega arith)
-      (omega (arith, gate_len))
+      (omega (arith, gate_len)) (refl, (refl, (refl, tt)))
 
   pub received_schedule : IsSchedule example_start (up_to_received guest.written guest.ended)
   received_schedule = (

@@ -5,9 +5,9 @@ use Rattle.rrv_model.specs.declared.record.Record.{Record}
 use Rattle.rrv_model.specs.State.{State}
 use Rattle.rrv_model.specs.RecordText.{HasText}
 use Rattle.store_model.specs.StoreText.{IsBody}
-use Rattle.rrv_model.specs.Recovered.{of_guest, next_guest, IsRecovered, OpensAtZero}
+use Rattle.rrv_model.specs.Recovered.{body_text, MayFollow, of_guest, next_guest, IsRecovered, OpensAtZero}
 use Rattle.commit_core.specs.Runs.{IsOutput}
-use Rattle.commit_core.specs.World.{World, Recorder, Flusher, made, received, committed_count, stored_bodies, flag, left_word}
+use Rattle.commit_core.specs.World.{World, Recorder, Flusher, made, received, committed_count, stored_bodies, joined, flag, left_word}
 use Rattle.commit_core.specs.Facts.{IsRun}
 use Rattle.commit_core.proofs.Stages.{DiskAt}
 
@@ -47,12 +47,18 @@ pub record RecorderInvariant (first_guest guests : ℕ) (sent_by_all : List Reco
   pub left : LeftInvariant (left_word r) (words (guests + 1 + k)) (totals k)
   pub output : IsOutput r.out (take r.seen (made r))
 
--- the bodies of before, and those that are stored
-pub record StoreInvariant (before : List (List ℕ)) (first_guest : ℕ) (old : List Record) (bodies : List (List ℕ)) : Type 0 where
+-- what the flusher wrote, or is about to
+abbrev pub written : Flusher → List Record
+written f = joined f.finished ++ f.hand
+
+-- the bodies of before, and those that are stored; and the records that are written behind the former
+pub record StoreInvariant (before : List (List ℕ)) (first_guest : ℕ) (old : List Record) (bodies : List (List ℕ)) (records : List Record)
+    : Type 0 where
   pub recovered : IsRecovered before old
   pub next : first_guest ≡ next_guest old
   pub sizes : AllByRecursion IsBody bodies
   pub few : length bodies ≤ 4294967295
+  pub follow : MayFollow before records
 
 -- the words that the flusher writes
 pub record WordInvariant (guests : ℕ) (words told : ℕ → ℕ) (halted : Bool) : Type 0 where
@@ -64,10 +70,10 @@ abbrev pub ToldInvariant : ℕ → ℕ → (ℕ → ℕ) → Flusher → Type 0
 ToldInvariant first_guest guests told f = (k : ℕ) → k < guests → told k ≤ committed_count (first_guest + k) f
 
 pub record Invariant (w : World) (old : List Record) : Type 0 where
-  pub store : StoreInvariant w.bodies w.first_guest old (stored_bodies w)
+  pub store : StoreInvariant w.bodies w.first_guest old (stored_bodies w) (written w.flusher)
   pub words : WordInvariant w.guests w.words w.flusher.told w.flusher.halted
   pub told : ToldInvariant w.first_guest w.guests w.flusher.told w.flusher
   pub own : AllByRecursion (IsOwn w.first_guest w.guests) (total w)
   pub each : (k : ℕ) → k < w.guests →
       RecorderInvariant w.first_guest w.guests (total w) w.words w.flusher.halted w.flusher.totals k (w.recorders k)
-  pub disk : DiskAt w.flusher.stage w.disk (stored_bodies w) w.flusher.hand
+  pub disk : DiskAt w.flusher.stage w.disk (stored_bodies w) (body_text w.flusher.hand)

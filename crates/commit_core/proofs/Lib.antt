@@ -17,3 +17,4 @@ mod ExampleSessions
 mod ExampleFailures
 mod ExampleGroup
 mod ExampleRepair
+mod ExampleMark

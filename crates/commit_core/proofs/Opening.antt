@@ -6,13 +6,13 @@ use Rattle.std.proofs.lemmas.Bool.Decides.{eqb_tells}
 use Rattle.store_model.specs.CrashModel.{Pending, IsCrash, DiskState, all_synced}
 use Rattle.store_model.specs.DiskCalls.{IsTorn, FailsToWrite, FailsToCut, after_write, after_cut, after_sync, overwritten, pending_write, pending_cut}
 use Rattle.store_model.specs.StoreText.{header, segments, IsBody, IsStore, IsNextSegment}
-use Rattle.store_model.specs.StoreCalls.{after_disk_calls, IsWithin, tail_calls, gate_calls, open_calls}
+use Rattle.store_model.specs.StoreCalls.{after_disk_calls, IsWithin, tail_calls, gate_calls, open_calls, commit_calls}
 use Rattle.store_model.specs.StoreCalls.DiskCall.{Write, Sync}
 use Rattle.store_model.proofs.CrashLaws.{crash_synced, crash_torn, crash_cut}
 use Rattle.store_model.proofs.StoreLaws.{store_parts}
 use Rattle.commit_core.specs.World.{IsAtRest, store_text, closed_store}
 use Rattle.commit_core.specs.Sessions.{Gives, IsStoreOf}
-use Rattle.commit_core.proofs.Stages.{crash_failed, crash_failed_cut, closed_store_of, ajar_store_of, text_of_store}
+use Rattle.commit_core.proofs.Stages.{IsCommittable, crash_failed, crash_failed_cut, closed_store_of, ajar_store_of, text_of_store, outcome_store_of, outcome_within, commit_end}
 
 -- where the last gate stands
 place_is : (bodies : List (List ℕ)) → length (header ++ segments 0 bodies) ≡ length (store_text bodies)
@@ -204,6 +204,15 @@ module _ (fine : List (List ℕ) → Type 0) where
           subst (λ (l : List ℕ). Next fine ys h l) c
           (subst (λ (n : ℕ). Next fine ys n p) b (subst (λ (l : List (List ℕ)). Next fine l g p) a next))
 
+  -- each moment of a commit, where the bodies are as `fine` says, and with this one more
+  pub good_within_commit : (disk : DiskState) (bodies : List (List ℕ)) (body : List ℕ) → IsAtRest disk (closed_store bodies) →
+      AllByRecursion IsBody bodies → length bodies ≤ 4294967295 → IsCommittable bodies body → fine bodies → fine (bodies ++ body ∷ [])
+      → (end : DiskState) → IsWithin disk (commit_calls (length (header ++ segments 0 bodies)) (length bodies) body) end → Good end
+  good_within_commit disk bodies body rest sizes few can are more end within c gives =
+      outcome_store_of bodies body sizes few fine are (λ _. more) c
+      (outcome_within disk bodies body rest can end
+      (subst (λ (n : ℕ). IsWithin disk (commit_calls n (length bodies) body) end) (place_is bodies) within) c gives)
+
 -- ---- once its calls have answered
 
 tail_end : (bodies : List (List ℕ)) (behind : List ℕ) (disk : DiskState) → IsAtRest disk (store_text bodies ++ 0 ∷ behind)
@@ -238,3 +247,13 @@ open_end disk bodies store =
     subst (λ (n : ℕ). IsAtRest (after_disk_calls (after_sync disk) (gate_calls n store.gate ++ tail_calls n store.behind))
     (closed_store bodies)) (sym (place_is bodies))
     (gate_end bodies store.gate store.behind (after_sync disk) (record { read = text; synced = ap all_synced text }))
+
+-- ---- once the calls of a commit have answered
+
+pub committed : (disk : DiskState) (bodies : List (List ℕ)) (body : List ℕ) → IsAtRest disk (closed_store bodies) →
+    IsCommittable bodies body →
+    IsAtRest (after_disk_calls disk (commit_calls (length (header ++ segments 0 bodies)) (length bodies) body))
+    (closed_store (bodies ++ body ∷ []))
+committed disk bodies body rest can =
+    subst (λ (n : ℕ). IsAtRest (after_disk_calls disk (commit_calls n (length bodies) body)) (closed_store (bodies ++ body ∷ [])))
+    (sym (place_is bodies)) (commit_end disk bodies body rest can)

@@ -1,5 +1,5 @@
 -- What recovery gives.
-use Rattle.std.proofs.Common.{◌≡◌, ◌≢◌, ◌⊎◌, inl, inr, ⊎_elim, ℕ, suc, ◌+◌, ◌-◌, ◌<◌, ◌≤◌, List, [], ◌∷◌, ◌++◌, length, map, take, drop, refl, ap, arith, sym, subst, ◌∙◌, append_assoc, length-append, take-append-drop}
+use Rattle.std.proofs.Common.{◌≡◌, ◌≢◌, ◌⊎◌, inl, inr, ⊎_elim, ℕ, suc, ◌+◌, ◌-◌, ◌<◌, ◌≤◌, Bool, false, List, [], ◌∷◌, ◌++◌, length, map, take, drop, refl, ap, arith, sym, subst, true≢false, ◌∙◌, append_assoc, length-append, take-append-drop}
 use Rattle.std.specs.Prelude.{◌↔◌, Option, Some, slice_get, IsSomeAnd}
 use Rattle.std.specs.List.{AllByRecursion, Any}
 use Rattle.std.proofs.lemmas.List.{map-append, take-append-le}
@@ -10,18 +10,18 @@ use Rattle.rrv_model.specs.State.{State}
 use Rattle.rrv_model.specs.RecordText.{HasText}
 use Rattle.rrv_model.specs.Recording.{IsRecording, IsNumbered, EndsIn, items_of}
 use Rattle.store_model.specs.StoreText.{IsBody, IsSound}
-use Rattle.rrv_model.specs.Recovered.{body_text, of_guest, next_guest, IsRecovered, AreBodyTexts, OpensAtZero}
+use Rattle.rrv_model.specs.Recovered.{body_text, IsOld, MayFollow, marks, marked_behind, of_guest, next_guest, IsRecovered, AreBodyTexts, OpensAtZero}
 use Rattle.rrv_model.proofs.RunLaws.{one_end_state}
 use Rattle.commit_core.specs.Runs.{IsOutput, IsAt, total_of}
 use Rattle.commit_core.specs.World.{World, made, committed_count, stored_bodies, joined}
 use Rattle.commit_core.specs.Facts.{Replays, RecoversFrom, Recovers, IsRun}
 use Rattle.commit_core.specs.Sessions.{Gives, HasSent, AreSentIn, GrowsTo, IsStoreOf}
 use Rattle.outcomes.proofs.Lists.{AllByRecursion-append, AllByRecursion-front, AllByRecursion-back, AllByRecursion-weaker}
-use Rattle.rrv_model.proofs.RecoveredLaws.{of_guest-append, numbered_front}
+use Rattle.rrv_model.proofs.RecoveredLaws.{mark_is_told, of_guest-append, numbered_front}
 use Rattle.commit_core.proofs.Lists.{none_lower, none_higher, of_guest-front, of_guest-back, joined-append, joined-push}
 use Rattle.commit_core.proofs.Runs.{output_further, recording_front, there_is, below_total, at_total_is_end, items_of-append}
 use Rattle.commit_core.proofs.Invariant.{total, IsOwn, Invariant}
-use Rattle.commit_core.proofs.Stages.{Outcome, some_records, outcome_at, sound_outcome, closed_sound, outcome_store_of}
+use Rattle.commit_core.proofs.Stages.{Outcome, outcome_at, sound_outcome, closed_sound, outcome_store_of}
 
 -- ---- numbers of guests
 
@@ -39,21 +39,28 @@ less_or_more a b = grind arith
 
 -- ---- texts of batches
 
--- batches of records that have texts, none of them empty, are body texts
-batch_texts : (batches : List (List Record)) → AllByRecursion HasText (joined batches) → AllByRecursion IsBody (map body_text batches) →
-    AreBodyTexts (map body_text batches) batches
-batch_texts [] texts sizes = tt
-batch_texts (batch ∷ batches) texts sizes = (
-  record { some = some_records batch sizes.0.0; each = AllByRecursion-front HasText batch (joined batches) texts; spelled = refl },
-  batch_texts batches (AllByRecursion-back HasText batch (joined batches) texts) sizes.1,
+-- batches of records that have texts, none of them empty, are body texts behind the Mark, or before it where each is old
+batch_texts : (marked : Bool) (batches : List (List Record)) → AllByRecursion HasText (joined batches) →
+    AllByRecursion IsBody (map body_text batches) →
+    (marked ≡ false → AllByRecursion (λ (r : Record). IsOld r.item) (joined batches)) → AreBodyTexts marked (map body_text batches) batches
+batch_texts marked [] texts sizes follow = tt
+batch_texts marked ([] ∷ batches) texts sizes follow = absurd (omega (arith, sizes.0.0))
+batch_texts marked ((r ∷ batch) ∷ batches) texts sizes follow = (
+  (
+    record { some = omega arith; each = AllByRecursion-front HasText (r ∷ batch) (joined batches) texts; spelled = refl },
+    λ none. AllByRecursion-front (λ q. IsOld q.item) (r ∷ batch) (joined batches) (follow none),
+  ),
+  batch_texts marked batches (AllByRecursion-back HasText (r ∷ batch) (joined batches) texts) sizes.1
+      (λ none. AllByRecursion-back (λ q. IsOld q.item) (r ∷ batch) (joined batches) (follow none)),
 )
 
-texts_both : (bodies more : List (List ℕ)) (batches others : List (List Record)) → AreBodyTexts bodies batches → AreBodyTexts more others →
-    AreBodyTexts (bodies ++ more) (batches ++ others)
-texts_both [] more [] others a b = b
-texts_both [] more (batch ∷ batches) others a b = absurd a
-texts_both (body ∷ bodies) more [] others a b = absurd a
-texts_both (body ∷ bodies) more (batch ∷ batches) others a b = (a.0, texts_both bodies more batches others a.1 b)
+texts_both : (marked : Bool) (bodies more : List (List ℕ)) (batches others : List (List Record)) → AreBodyTexts marked bodies batches →
+    AreBodyTexts (marked_behind marked batches) more others → AreBodyTexts marked (bodies ++ more) (batches ++ others)
+texts_both marked [] more [] others a b = b
+texts_both marked [] more (batch ∷ batches) others a b = absurd a
+texts_both marked (body ∷ bodies) more [] others a b = absurd a
+texts_both marked (body ∷ bodies) more (batch ∷ batches) others a b =
+    (a.0, texts_both (marks marked batch) bodies more batches others a.1 b)
 
 -- ---- replaying a beginning of a run
 
@@ -112,7 +119,8 @@ module _ (w : World) (old : List Record) (invariant : Invariant w old) (batches 
     (front : joined batches ++ rest ≡ total w) (bodies : List (List ℕ)) (text : bodies ≡ w.bodies ++ map body_text batches)
     (sizes : AllByRecursion IsBody (map body_text batches))
     (enough : (g : ℕ) → g < w.guests →
-    committed_count (w.first_guest + g) w.flusher ≤ length (of_guest (w.first_guest + g) (joined batches))) where
+    committed_count (w.first_guest + g) w.flusher ≤ length (of_guest (w.first_guest + g) (joined batches)))
+    (follow : MayFollow w.bodies (joined batches)) where
   own : AllByRecursion (IsOwn w.first_guest w.guests) (joined batches)
   own = AllByRecursion-front (IsOwn w.first_guest w.guests) (joined batches) rest
       (subst (AllByRecursion (IsOwn w.first_guest w.guests)) (sym front) invariant.own)
@@ -191,13 +199,21 @@ module _ (w : World) (old : List Record) (invariant : Invariant w old) (batches 
       above : w.first_guest + w.guests ≤ h → IsNumbered h 0 (of_guest h (joined batches))
       above l = subst (IsNumbered h 0) (sym (none_over h l)) tt
 
+  -- where the Mark isn't there, each record may stand before it
+  old_before : marked_behind false invariant.store.recovered.batches ≡ false →
+      AllByRecursion (λ (r : Record). IsOld r.item) (joined batches)
+  old_before none = ⊎_elim
+      (λ there. absurd (true≢false (sym ((mark_is_told w.bodies old invariant.store.recovered).1 there) ∙ none)))
+      (λ each. each)
+      follow
+
   pub is_recovered : IsRecovered bodies (old ++ joined batches)
   is_recovered = record {
     batches = invariant.store.recovered.batches ++ batches;
-    texts = subst (λ (b : List (List ℕ)). AreBodyTexts b (invariant.store.recovered.batches ++ batches)) (sym text)
-        (texts_both w.bodies (map body_text batches) invariant.store.recovered.batches batches invariant.store.recovered.texts
-        (batch_texts batches (AllByRecursion-weaker (IsOwn w.first_guest w.guests) HasText (joined batches) (λ r o. o.has_text) own)
-        sizes));
+    texts = subst (λ (b : List (List ℕ)). AreBodyTexts false b (invariant.store.recovered.batches ++ batches)) (sym text)
+        (texts_both false w.bodies (map body_text batches) invariant.store.recovered.batches batches invariant.store.recovered.texts
+        (batch_texts (marked_behind false invariant.store.recovered.batches) batches
+        (AllByRecursion-weaker (IsOwn w.first_guest w.guests) HasText (joined batches) (λ r o. o.has_text) own) sizes old_before));
     joined = ap (λ (l : List Record). l ++ joined batches) invariant.store.recovered.joined
         ∙ sym (joined-append invariant.store.recovered.batches batches);
     in_order = record {
@@ -298,26 +314,35 @@ module _ (w : World) (old : List Record) (invariant : Invariant w old) where
     length-append (of_guest (w.first_guest + g) (joined w.flusher.finished)) (of_guest (w.first_guest + g) w.flusher.hand),
   )
 
+  follow_hand : MayFollow w.bodies (joined (w.flusher.finished ++ w.flusher.hand ∷ []))
+  follow_hand = subst (MayFollow w.bodies) (sym (joined-push w.flusher.finished w.flusher.hand)) invariant.store.follow
+
+  follow_finished : MayFollow w.bodies (joined w.flusher.finished)
+  follow_finished = ⊎_elim
+      (λ there. inl there)
+      (λ each. inr (AllByRecursion-front (λ r. IsOld r.item) (joined w.flusher.finished) w.flusher.hand each))
+      invariant.store.follow
+
   pub stored_recovered : IsRecovered (stored_bodies w) (old ++ joined w.flusher.finished)
   stored_recovered =
       is_recovered w old invariant w.flusher.finished ((w.flusher.hand ++ w.flusher.waiting) ++ w.queue) front_finished (stored_bodies w)
       refl
-      (sizes_behind w.bodies w.flusher.finished invariant.store.sizes) (λ g l. omega arith)
+      (sizes_behind w.bodies w.flusher.finished invariant.store.sizes) (λ g l. omega arith) follow_finished
 
   pub hand_recovered : IsBody (body_text w.flusher.hand) →
       IsRecovered (stored_bodies w ++ body_text w.flusher.hand ∷ []) (old ++ joined (w.flusher.finished ++ w.flusher.hand ∷ []))
   hand_recovered is = is_recovered w old invariant (w.flusher.finished ++ w.flusher.hand ∷ []) (w.flusher.waiting ++ w.queue) front_hand
-      (stored_bodies w ++ body_text w.flusher.hand ∷ []) (sym with_hand) (sizes_hand is) (λ g l. enough_hand g)
+      (stored_bodies w ++ body_text w.flusher.hand ∷ []) (sym with_hand) (sizes_hand is) (λ g l. enough_hand g) follow_hand
 
   pub left_finished : LeftBehind w old (stored_bodies w)
   left_finished =
       left_behind w old invariant w.flusher.finished ((w.flusher.hand ++ w.flusher.waiting) ++ w.queue) front_finished (stored_bodies w)
       refl
-      (sizes_behind w.bodies w.flusher.finished invariant.store.sizes) (λ g l. omega arith)
+      (sizes_behind w.bodies w.flusher.finished invariant.store.sizes) (λ g l. omega arith) follow_finished
 
   pub left_hand : IsBody (body_text w.flusher.hand) → LeftBehind w old (stored_bodies w ++ body_text w.flusher.hand ∷ [])
   left_hand is = left_behind w old invariant (w.flusher.finished ++ w.flusher.hand ∷ []) (w.flusher.waiting ++ w.queue) front_hand
-      (stored_bodies w ++ body_text w.flusher.hand ∷ []) (sym with_hand) (sizes_hand is) (λ g l. enough_hand g)
+      (stored_bodies w ++ body_text w.flusher.hand ∷ []) (sym with_hand) (sizes_hand is) (λ g l. enough_hand g) follow_hand
 
   recovers_finished : (content : List ℕ) → IsSound content (stored_bodies w) → Recovers w old content
   recovers_finished content sound = record { bodies = stored_bodies w; sound = sound; from = left_finished.from }
@@ -329,7 +354,8 @@ module _ (w : World) (old : List Record) (invariant : Invariant w old) where
 
   -- what a read gives or a crash leaves
   pub recovers : (content : List ℕ) → Gives w.disk content → Recovers w old content
-  recovers content gives = by_outcome (outcome_at w.flusher.stage w.disk (stored_bodies w) w.flusher.hand invariant.disk content gives)
+  recovers content gives =
+      by_outcome (outcome_at w.flusher.stage w.disk (stored_bodies w) (body_text w.flusher.hand) invariant.disk content gives)
     where
       by_outcome : Outcome (stored_bodies w) (body_text w.flusher.hand) content → Recovers w old content
       by_outcome (inl closed) =
@@ -343,4 +369,4 @@ module _ (w : World) (old : List Record) (invariant : Invariant w old) where
   store_left content gives =
       outcome_store_of (stored_bodies w) (body_text w.flusher.hand) invariant.store.sizes invariant.store.few (LeftBehind w old)
       left_finished (λ can. left_hand can.0)
-      content (outcome_at w.flusher.stage w.disk (stored_bodies w) w.flusher.hand invariant.disk content gives)
+      content (outcome_at w.flusher.stage w.disk (stored_bodies w) (body_text w.flusher.hand) invariant.disk content gives)

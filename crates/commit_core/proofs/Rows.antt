@@ -1,8 +1,9 @@
 -- Each event keeps what holds, a lemma a row.
 use Rattle.std.proofs.Common.{◌≡◌, ◌≢◌, ◌⊎◌, inl, inr, ⊎_elim, ℕ, zero, suc, ◌+◌, ◌<◌, ◌≤◌, min, Bool, true, false, if◌then◌else◌, ◌==◌, List, [], ◌∷◌, ◌++◌, length, map, take, drop, refl, ap, arith, sym, subst, ◌∙◌, append_assoc, length-append, take-append-drop, eqb-true}
-use Rattle.std.specs.Prelude.{Option, Some, slice_get, IsSomeAnd}
+use Rattle.std.specs.Prelude.{Option, Some, slice_get, IsSomeAnd, Contains}
 use Rattle.std.specs.List.{AllByRecursion}
 use Rattle.std.proofs.lemmas.List.{append-nil, map-append, length-take-le, take-append-le}
+use Rattle.std.proofs.lemmas.List.Elements.{Contains-append_cases}
 use Rattle.std.proofs.lemmas.Bool.{cases_eq}
 use Rattle.rrv_model.specs.declared.record.Record.{Record}
 use Rattle.rrv_model.specs.State.{State}
@@ -11,19 +12,19 @@ use Rattle.store_model.specs.DiskCalls.{FailsToWrite}
 use Rattle.rrv_model.specs.RecordText.{HasText}
 use Rattle.rrv_model.specs.Recording.{IsNumbered, EndsIn, items_of}
 use Rattle.store_model.specs.StoreText.{IsBody}
-use Rattle.rrv_model.specs.Recovered.{body_text, of_guest, OpensAtZero}
+use Rattle.rrv_model.specs.Recovered.{body_text, mark, IsOld, MayFollow, of_guest, OpensAtZero}
 use Rattle.commit_core.specs.Runs.{IsOutput}
 use Rattle.commit_core.specs.World.{World, Recorder, Stage, made, received, committed_count, stored_bodies, joined, flag, left_word}
 use Rattle.commit_core.specs.World.Stage.{Idle, Written, Synced, Opened, Broken}
 use Rattle.commit_core.specs.Events.{Event, after, May, CanSlice, CanPush, CanWrite, put, with_recorder, with_flusher, gate_place, next_body, behind_gate, left_place, sliced, pushed, gone, took, at_stage}
 use Rattle.commit_core.specs.Events.Event.{Slice, Push, Look, Release, LookHalt, Leave, Pop, WriteBody, WriteBodyFails, Sync1, Sync1Fails, OpenGate, OpenGateFails, Sync2, Sync2Fails, Publish, Halt, LookLeft}
 use Rattle.commit_core.specs.Facts.{HadStates}
-use Rattle.outcomes.proofs.Lists.{AllByRecursion-append, AllByRecursion-back, AllByRecursion-push}
-use Rattle.rrv_model.proofs.RecoveredLaws.{of_guest-append}
-use Rattle.commit_core.proofs.Lists.{of_guest_one, of_guest_other, joined-push, put_cases, put_each, put_other, put_same}
+use Rattle.outcomes.proofs.Lists.{AllByRecursion-append, AllByRecursion-front, AllByRecursion-back, AllByRecursion-push, AllByRecursion-weaker}
+use Rattle.rrv_model.proofs.RecoveredLaws.{mark_holds_none, of_guest-append}
+use Rattle.commit_core.proofs.Lists.{Contains-one, of_guest_one, of_guest_other, joined-push, put_cases, put_each, put_other, put_same}
 use Rattle.commit_core.proofs.Runs.{output_longer, recording_opens}
-use Rattle.commit_core.proofs.Invariant.{total, IsOwn, RecordingInvariant, SeenInvariant, RecorderInvariant, Invariant}
-use Rattle.commit_core.proofs.Stages.{IsCommittable, DiskAt, outcome_at, to_written, to_written_fails, to_synced, to_opened, to_opened_fails, to_idle, some_body}
+use Rattle.commit_core.proofs.Invariant.{total, written, IsOwn, RecordingInvariant, SeenInvariant, RecorderInvariant, Invariant}
+use Rattle.commit_core.proofs.Stages.{IsCommittable, DiskAt, outcome_at, to_written, to_written_fails, to_synced, to_opened, to_opened_fails, to_idle, some_body, some_records, no_records}
 
 -- ---- changes of one part
 
@@ -195,9 +196,50 @@ pop_keeps w old r rest h may =
 
 -- ---- it commits those that wait
 
+-- no body of the group's is the Mark
+no_mark : (batches : List (List Record)) → AllByRecursion HasText (joined batches) → AllByRecursion IsBody (map body_text batches) →
+    ¬ (Contains (map body_text batches) mark)
+no_mark [] texts sizes there = omega (arith, there.1)
+no_mark (batch ∷ batches) texts sizes there = elim (Contains-append_cases (body_text batch ∷ []) (map body_text batches) mark there) [
+  | inl here ↦ mark_holds_none (body_text batch) batch (Contains-one (body_text batch) mark here)
+      (record {
+        some = some_records batch sizes.0.0;
+        each = AllByRecursion-front HasText batch (joined batches) texts;
+        spelled = refl;
+      })
+  | inr later ↦ no_mark batches (AllByRecursion-back HasText batch (joined batches) texts) sizes.1 later
+]
+
+-- so where it is stored it was there before
+mark_before : (w : World) (old : List Record) → Invariant w old → Contains (stored_bodies w) mark → Contains w.bodies mark
+mark_before w old h there =
+    let f = w.flusher in
+    let P = IsOwn w.first_guest w.guests in
+    elim (Contains-append_cases w.bodies (map body_text f.finished) mark there) [
+      | inl before ↦ before
+      | inr ours ↦ absurd (no_mark f.finished
+          (AllByRecursion-weaker P HasText (joined f.finished) (λ r o. o.has_text)
+          (AllByRecursion-front P (joined f.finished) f.hand
+          (AllByRecursion-front P (written f) f.waiting (AllByRecursion-front P (received f) w.queue h.own))))
+          (AllByRecursion-back IsBody w.bodies (map body_text f.finished) h.store.sizes) ours)
+    ]
+
+-- what is taken in hand may follow the bodies of before
+follows : (w : World) (old : List Record) (count : ℕ) → Invariant w old → CanWrite w count →
+    MayFollow w.bodies (joined w.flusher.finished ++ take count w.flusher.waiting)
+follows w old count h may = elim h.store.follow [
+  | inl marked ↦ inl marked
+  | inr before ↦ elim may.old [
+    | inl marked ↦ inl (mark_before w old h marked)
+    | inr now ↦ inr (AllByRecursion-append (λ r. IsOld r.item) (joined w.flusher.finished) (take count w.flusher.waiting)
+        (AllByRecursion-front (λ r. IsOld r.item) (joined w.flusher.finished) w.flusher.hand before) now)
+  ]
+]
+
 into_hand_keeps : (w : World) (old : List Record) (count : ℕ) (stage : Stage) (disk : DiskState) → Invariant w old → w.flusher.hand ≡ []
-    → DiskAt stage disk (stored_bodies w) (take count w.flusher.waiting) → Invariant (with_flusher w (took count stage w.flusher) disk) old
-into_hand_keeps w old count stage disk h none at =
+    → CanWrite w count → DiskAt stage disk (stored_bodies w) (next_body w count) →
+    Invariant (with_flusher w (took count stage w.flusher) disk) old
+into_hand_keeps w old count stage disk h none may at =
     let f = w.flusher in
     let same : total (with_flusher w (took count stage f) disk) ≡ total w =
     ap (λ (l : List Record). l ++ w.queue)
@@ -206,7 +248,13 @@ into_hand_keeps w old count stage disk h none at =
     ∙ ap (λ (l : List Record). l ++ f.waiting) (sym (append-nil (joined f.finished)))
     ∙ ap (λ (l : List Record). (joined f.finished ++ l) ++ f.waiting) (sym none)) in
     record {
-      store = h.store;
+      store = record {
+        recovered = h.store.recovered;
+        next = h.store.next;
+        sizes = h.store.sizes;
+        few = h.store.few;
+        follow = follows w old count h may;
+      };
       words = h.words;
       told = h.told;
       own = subst (AllByRecursion (IsOwn w.first_guest w.guests)) (sym same) h.own;
@@ -215,8 +263,8 @@ into_hand_keeps w old count stage disk h none at =
     }
 
 disk_at : (w : World) (old : List Record) (stage : Stage) → Invariant w old → w.flusher.stage ≡ stage →
-    DiskAt stage w.disk (stored_bodies w) w.flusher.hand
-disk_at w old stage h is = subst (λ (s : Stage). DiskAt s w.disk (stored_bodies w) w.flusher.hand) is h.disk
+    DiskAt stage w.disk (stored_bodies w) (body_text w.flusher.hand)
+disk_at w old stage h is = subst (λ (s : Stage). DiskAt s w.disk (stored_bodies w) (body_text w.flusher.hand)) is h.disk
 
 committable : (w : World) (count : ℕ) → CanWrite w count → IsCommittable (stored_bodies w) (next_body w count)
 committable w count may = (
@@ -227,26 +275,27 @@ committable w count may = (
 write_keeps : (w : World) (old : List Record) (count : ℕ) → Invariant w old → CanWrite w count → Invariant (after w (WriteBody count)) old
 write_keeps w old count h may =
     let at = disk_at w old Idle h may.idle in
-    into_hand_keeps w old count Written _ h at.1
-    (to_written w.disk (stored_bodies w) w.flusher.hand (take count w.flusher.waiting) at (committable w count may))
+    into_hand_keeps w old count Written _ h (no_records w.flusher.hand at.1) may
+    (to_written w.disk (stored_bodies w) (body_text w.flusher.hand) (next_body w count) at (committable w count may))
 
 write_fails_keeps : (w : World) (old : List Record) (count : ℕ) (disk : DiskState) → Invariant w old → CanWrite w count
     → FailsToWrite (gate_place w + 1) (length (behind_gate w count)) w.disk disk → Invariant (after w (WriteBodyFails count disk)) old
 write_fails_keeps w old count disk h may failed =
     let at = disk_at w old Idle h may.idle in
-    into_hand_keeps w old count Broken disk h at.1
-    (to_written_fails w.disk disk (stored_bodies w) w.flusher.hand (take count w.flusher.waiting) at failed)
+    into_hand_keeps w old count Broken disk h (no_records w.flusher.hand at.1) may
+    (to_written_fails w.disk disk (stored_bodies w) (body_text w.flusher.hand) (next_body w count) at failed)
 
 -- a row that moves the disk and the stage alone
 stage_keeps : (w : World) (old : List Record) (stage : Stage) (disk : DiskState) → Invariant w old →
-    DiskAt stage disk (stored_bodies w) w.flusher.hand
+    DiskAt stage disk (stored_bodies w) (body_text w.flusher.hand)
     → Invariant (with_flusher w (at_stage stage w.flusher) disk) old
 stage_keeps w old stage disk h at =
     record { store = h.store; words = h.words; told = h.told; own = h.own; each = h.each; disk = at }
 
 -- after a sync that failed a crash leaves what it left before
 broken_keeps : (w : World) (old : List Record) → Invariant w old → Invariant (with_flusher w (at_stage Broken w.flusher) w.disk) old
-broken_keeps w old h = stage_keeps w old Broken w.disk h (outcome_at w.flusher.stage w.disk (stored_bodies w) w.flusher.hand h.disk)
+broken_keeps w old h =
+    stage_keeps w old Broken w.disk h (outcome_at w.flusher.stage w.disk (stored_bodies w) (body_text w.flusher.hand) h.disk)
 
 sync2_keeps : (w : World) (old : List Record) → Invariant w old → w.flusher.stage ≡ Opened → Invariant (after w Sync2) old
 sync2_keeps w old h may =
@@ -266,6 +315,7 @@ sync2_keeps w old h may =
         sizes = subst (AllByRecursion IsBody) (sym bodies)
             (AllByRecursion-push IsBody (stored_bodies w) (body_text f.hand) h.store.sizes at.2.0);
         few = omega (arith, ap length bodies, length-append (stored_bodies w) (body_text f.hand ∷ []), at.2.1);
+        follow = subst (MayFollow w.bodies) (sym (append-nil (joined (f.finished ++ f.hand ∷ [])) ∙ pushed_hand)) h.store.follow;
       };
       own = subst (AllByRecursion (IsOwn w.first_guest w.guests)) (sym same) h.own;
       told = λ k l. let more =
@@ -276,7 +326,7 @@ sync2_keeps w old h may =
             h.told k l,
             length-append (of_guest (w.first_guest + k) (joined f.finished)) (of_guest (w.first_guest + k) f.hand),
           );
-      disk = to_idle w.disk (stored_bodies w) (stored_bodies (after w Sync2)) f.hand at bodies;
+      disk = to_idle w.disk (stored_bodies w) (stored_bodies (after w Sync2)) (body_text f.hand) at bodies;
       each = same_total w old (total (after w Sync2)) h same;
     }
 
@@ -453,11 +503,14 @@ keeps w old (Leave g) h may = leave_keeps w old g h may
 keeps w old (Pop r rest) h may = pop_keeps w old r rest h may
 keeps w old (WriteBody count) h may = write_keeps w old count h may
 keeps w old (WriteBodyFails count disk) h may = write_fails_keeps w old count disk h may.0 may.1
-keeps w old Sync1 h may = stage_keeps w old Synced _ h (to_synced w.disk (stored_bodies w) w.flusher.hand (disk_at w old Written h may))
+keeps w old Sync1 h may =
+    stage_keeps w old Synced _ h (to_synced w.disk (stored_bodies w) (body_text w.flusher.hand) (disk_at w old Written h may))
 keeps w old Sync1Fails h may = broken_keeps w old h
-keeps w old OpenGate h may = stage_keeps w old Opened _ h (to_opened w.disk (stored_bodies w) w.flusher.hand (disk_at w old Synced h may))
+keeps w old OpenGate h may =
+    stage_keeps w old Opened _ h (to_opened w.disk (stored_bodies w) (body_text w.flusher.hand) (disk_at w old Synced h may))
 keeps w old (OpenGateFails disk) h may =
-    stage_keeps w old Broken disk h (to_opened_fails w.disk disk (stored_bodies w) w.flusher.hand (disk_at w old Synced h may.0) may.1)
+    stage_keeps w old Broken disk h
+    (to_opened_fails w.disk disk (stored_bodies w) (body_text w.flusher.hand) (disk_at w old Synced h may.0) may.1)
 keeps w old Sync2 h may = sync2_keeps w old h may
 keeps w old Sync2Fails h may = broken_keeps w old h
 keeps w old (Publish g) h may = publish_keeps w old g h may

@@ -6,13 +6,13 @@ use Rattle.std.proofs.lemmas.List.{append-nil}
 use Rattle.rrv_model.specs.declared.record.Record.{Record}
 use Rattle.rrv_model.specs.Recording.{EndsIn, items_of}
 use Rattle.store_model.specs.StoreText.{IsBody}
-use Rattle.rrv_model.specs.Recovered.{body_text}
+use Rattle.rrv_model.specs.Recovered.{body_text, MayFollow}
 use Rattle.commit_core.specs.World.{World, Recorder, Flusher, IsStart, IsReady, IsAtRest, received, stored_bodies, flag, closed_store, opening_record}
 use Rattle.commit_core.specs.Events.{Event, after, run, IsSchedule}
 use Rattle.commit_core.specs.Events.Event.{Slice, Push, Look, Release, LookHalt, Leave, Pop, WriteBody, WriteBodyFails, Sync1, Sync1Fails, OpenGate, OpenGateFails, Sync2, Sync2Fails, Publish, Halt, LookLeft}
 use Rattle.commit_core.specs.Facts.{Facts}
 use Rattle.commit_core.proofs.Runs.{nothing_put}
-use Rattle.commit_core.proofs.Invariant.{total, IsOwn, RecorderInvariant, Invariant}
+use Rattle.commit_core.proofs.Invariant.{total, written, IsOwn, RecorderInvariant, Invariant}
 use Rattle.commit_core.proofs.Stages.{DiskAt, outcome_at, sound_outcome}
 use Rattle.commit_core.proofs.Rows.{keeps}
 
@@ -53,6 +53,7 @@ invariant_at_start w old s =
         next = s.next;
         sizes = subst (AllByRecursion IsBody) (sym bodies) s.are_bodies;
         few = omega (arith, s.count, ap length bodies);
+        follow = subst (λ (f : Flusher). MayFollow w.bodies (written f)) (sym s.flusher) (inr tt);
       };
       words = record {
         counts = λ k l. s.words k ∙ sym (ap (λ (f : Flusher). f.told k) s.flusher);
@@ -65,7 +66,7 @@ invariant_at_start w old s =
           (sym none)
           (invariant_of_ready w.first_guest w.guests k w.words w.flusher.totals w.flusher.halted (w.recorders k) (s.ready k l) s.words
           (λ j. ap (λ (f : Flusher). f.totals j) s.flusher));
-      disk = subst (λ (f : Flusher). DiskAt f.stage w.disk (w.bodies ++ map body_text f.finished) f.hand) (sym s.flusher)
+      disk = subst (λ (f : Flusher). DiskAt f.stage w.disk (w.bodies ++ map body_text f.finished) (body_text f.hand)) (sym s.flusher)
           (subst (λ (b : List (List ℕ)). IsAtRest w.disk (closed_store b)) (sym (append-nil w.bodies)) s.disk, refl);
     }
 
@@ -87,7 +88,7 @@ facts w old h = record {
   };
   told = h.told;
   disk = λ c crash. sound_outcome (stored_bodies w) (body_text w.flusher.hand) h.store.sizes h.store.few c
-      (outcome_at w.flusher.stage w.disk (stored_bodies w) w.flusher.hand h.disk c (inr crash));
+      (outcome_at w.flusher.stage w.disk (stored_bodies w) (body_text w.flusher.hand) h.disk c (inr crash));
   output = λ g l. (h.each g l).output;
   recording = λ g l. (h.each g l).recording.run;
 }

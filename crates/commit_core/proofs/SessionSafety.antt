@@ -1,12 +1,12 @@
 -- Each session has what every schedule has.
-use Rattle.std.proofs.Common.{inl, inr, refl, List, [], ◌∷◌, ◌++◌, subst}
+use Rattle.std.proofs.Common.{inl, inr, refl, List, [], ◌∷◌, subst}
 use Rattle.std.specs.List.{AllByRecursion}
 use Rattle.rrv_model.specs.declared.record.Record.{Record}
 use Rattle.store_model.specs.CrashModel.{DiskState}
 use Rattle.commit_core.specs.World.{World, IsStart}
 use Rattle.commit_core.specs.Events.{Event, run, IsSchedule}
 use Rattle.commit_core.specs.Sessions.{Session, AreSessions}
-use Rattle.commit_core.specs.Sessions.Session.{StoppedOpening, OnlyOpened, Ran}
+use Rattle.commit_core.specs.Sessions.Session.{StoppedOpening, Marked, OnlyOpened, Ran}
 use Rattle.commit_core.specs.Headline.{IsSafe, IsSafeThroughout}
 use Rattle.commit_core.proofs.Events.{schedule_front}
 use Rattle.commit_core.proofs.Invariant.{Invariant}
@@ -28,8 +28,9 @@ pub each_is_safe : (disk : DiskState) (sessions : List Session) (end : DiskState
     AllByRecursion IsSafeThroughout sessions
 each_is_safe disk [] end are = tt
 each_is_safe disk (StoppedOpening ∷ sessions) end (stop, next, session, stopped, rest) = (tt, each_is_safe next sessions end rest)
+each_is_safe disk (Marked bodies old ∷ sessions) end (stop, next, session, stopped, rest) = (tt, each_is_safe next sessions end rest)
 each_is_safe disk (OnlyOpened bodies old ∷ sessions) end (stop, next, session, stopped, rest) = (tt, each_is_safe next sessions end rest)
 each_is_safe disk (Ran start old events ∷ sessions) end (stop, next, session, stopped, rest) = (
-  λ front behind is. safe_after start old front session.2 (schedule_front start front behind (subst (IsSchedule start) is session.3)),
+  λ front behind is. safe_after start old front session.1 (schedule_front start front behind (subst (IsSchedule start) is session.2)),
   each_is_safe next sessions end rest,
 )

@@ -1,27 +1,28 @@
 -- Over a list of sessions.
-use Rattle.std.proofs.Common.{◌≡◌, inl, inr, ⊎_elim, ℕ, ◌+◌, ◌-◌, ◌<◌, ◌≤◌, List, [], ◌∷◌, ◌++◌, length, take, drop, refl, ap, arith, sym, subst, ◌∙◌, append_assoc, take-append-drop}
+use Rattle.std.proofs.Common.{◌≡◌, inl, inr, ⊎_elim, ℕ, ◌+◌, ◌-◌, ◌<◌, ◌≤◌, Bool, true, false, List, [], ◌∷◌, ◌++◌, length, take, drop, refl, ap, arith, sym, subst, ◌∙◌, append_assoc, take-append-drop}
 use Rattle.std.specs.List.{AllByRecursion, Any}
 use Rattle.std.proofs.lemmas.List.{append-nil, take-append-le}
 use Rattle.rrv_model.specs.declared.record.Record.{Record}
 use Rattle.store_model.specs.CrashModel.{DiskState}
 use Rattle.rrv_model.specs.Output.{Chunk, spread}
 use Rattle.store_model.specs.StoreText.{IsStore}
-use Rattle.rrv_model.specs.Recovered.{of_guest, next_guest, IsRecovered}
+use Rattle.store_model.specs.StoreCalls.{after_disk_calls, IsWithin}
+use Rattle.rrv_model.specs.Recovered.{mark, marked_behind, of_guest, next_guest, AreInOrder, IsRecovered}
 use Rattle.outcomes.proofs.Lists.{AllByRecursion-append, AllByRecursion-back, AllByRecursion-weaker}
-use Rattle.rrv_model.proofs.RecoveredLaws.{one_recovery}
+use Rattle.rrv_model.proofs.RecoveredLaws.{one_recovery, recovered_push, mark_is_told}
 use Rattle.store_model.proofs.StoreLaws.{store_parts}
 use Rattle.commit_core.specs.Runs.{IsBeginning, IsOutput}
-use Rattle.commit_core.specs.World.{World, IsStart, made, closed_store}
+use Rattle.commit_core.specs.World.{World, IsStart, IsAtRest, made, closed_store}
 use Rattle.commit_core.specs.Events.{Event, run, IsSchedule}
-use Rattle.commit_core.specs.Sessions.{Session, IsSession, IsStopped, AreSessions, Report, HasSent, AreSentIn, GrowsTo, IsFoundLater, AreGrowing, Gives, IsStoreOf, HasRecords, CanOpen, fresh_disk, opened_disk}
-use Rattle.commit_core.specs.Sessions.Session.{StoppedOpening, OnlyOpened, Ran}
+use Rattle.commit_core.specs.Sessions.{Session, CanMark, IsBegun, IsSession, IsStopped, AreSessions, Report, HasSent, AreSentIn, GrowsTo, IsFoundLater, AreGrowing, Gives, IsStoreOf, HasRecords, CanOpen, fresh_disk, opened_disk, mark_calls}
+use Rattle.commit_core.specs.Sessions.Session.{StoppedOpening, Marked, OnlyOpened, Ran}
 use Rattle.commit_core.specs.Headline.{KeepsSession, AreKept}
 use Rattle.commit_core.proofs.Lists.{begins_nothing, Any-front, Any-back, none_lower, none_higher, of_guest-front, of_guest-back}
 use Rattle.commit_core.proofs.Runs.{nothing_put}
 use Rattle.commit_core.proofs.Schedules.{invariant_at_start, invariant_of_run, run_same}
-use Rattle.commit_core.proofs.Stages.{closed_store_of}
+use Rattle.commit_core.proofs.Stages.{IsCommittable, closed_store_of}
 use Rattle.commit_core.proofs.Recovery.{LeftBehind, all_below, less_or_more, store_left}
-use Rattle.commit_core.proofs.Opening.{Good, good_rest, good_open, open_end}
+use Rattle.commit_core.proofs.Opening.{Good, good_rest, good_open, good_within_commit, open_end, committed}
 
 -- ---- what stays as bodies grow
 
@@ -34,12 +35,31 @@ abbrev Stays : (List World → List (List ℕ) → Type 0) → Type 0
 Stays P = (since : List World) (w : World) (old : List Record) (bodies : List (List ℕ)) → LeftBehind w old bodies → P since w.bodies →
     P (since ++ w ∷ []) bodies
 
+-- and of those with the Mark behind them
+abbrev StaysMarked : (List World → List (List ℕ) → Type 0) → Type 0
+StaysMarked P = (since : List World) (bodies : List (List ℕ)) → CanMark bodies → P since bodies → P since (bodies ++ mark ∷ [])
+
+-- it adds no record
+pub marked_recovered : (bodies : List (List ℕ)) (records : List Record) → CanMark bodies → IsRecovered bodies records →
+    IsRecovered (bodies ++ mark ∷ []) records
+marked_recovered bodies records can is =
+    subst (IsRecovered (bodies ++ mark ∷ [])) (append-nil records)
+    (recovered_push bodies mark records [] is (none (marked_behind false is.batches) refl, refl)
+    (subst AreInOrder (sym (append-nil records)) is.in_order))
+  where
+    none : (b : Bool) → marked_behind false is.batches ≡ b → marked_behind false is.batches ≡ false
+    none false told = told
+    none true told = absurd (can.none ((mark_is_told bodies records is).0 told))
+
 next_guest-append : (xs ys : List Record) → next_guest xs ≤ next_guest (xs ++ ys)
 next_guest-append [] ys = omega arith
 next_guest-append (x ∷ xs) ys = omega (arith, next_guest-append xs ys)
 
 records_stay : Stays (λ since. HasRecords)
 records_stay since w old bodies behind has = (behind.from.records, behind.from.recovered)
+
+records_stay_marked : StaysMarked (λ since. HasRecords)
+records_stay_marked since bodies can has = (has.0, marked_recovered bodies has.0 can has.1)
 
 -- records of numbers below some number, and then records of that number or later ones
 sent_both : (since more : List World) (border : ℕ) (xs ys : List Record) → AllByRecursion (λ (r : Record). r.guest < border) xs →
@@ -99,6 +119,18 @@ module _ (first : List (List ℕ)) (known : List Record) (is : IsRecovered first
 
 growth_stays : (first : List (List ℕ)) (known : List Record) → IsRecovered first known → Stays (GrowsTo (report_of first known))
 growth_stays first known is since w old bodies behind grows = grows_on first known is since w old bodies behind grows
+
+growth_stays_marked : (report : Report) → StaysMarked (GrowsTo report)
+growth_stays_marked report since bodies can grows = record {
+  more = grows.more ++ mark ∷ [];
+  bodies_are = ap (λ (l : List (List ℕ)). l ++ mark ∷ []) grows.bodies_are ∙ append_assoc report.bodies grows.more (mark ∷ []);
+  before = grows.before;
+  gained = grows.gained;
+  reported = grows.reported;
+  recovered = marked_recovered bodies (grows.before ++ grows.gained) can grows.recovered;
+  later = grows.later;
+  sent = grows.sent;
+}
 
 -- bodies grow to themselves
 own_growth : (bodies : List (List ℕ)) (records : List Record) → IsRecovered bodies records → GrowsTo (report_of bodies records) [] bodies
@@ -209,6 +241,18 @@ module _ (w : World) (old : List Record) where
   session_stays : Stays (KeepsSession w old)
   session_stays since other known bodies behind keeps = kept_on since other known bodies behind keeps
 
+  session_stays_marked : StaysMarked (KeepsSession w old)
+  session_stays_marked since bodies can keeps = record {
+    left = keeps.left;
+    from = keeps.from;
+    grows = growth_stays_marked (report_of keeps.left keeps.from.records) since bodies can keeps.grows;
+    records = keeps.records;
+    recovered = marked_recovered bodies keeps.records can keeps.recovered;
+    same = keeps.same;
+    seen = keeps.seen;
+    output = keeps.output;
+  }
+
 -- ---- what can be opened
 
 weaker_store : (fine other : List (List ℕ) → Type 0) → ((bodies : List (List ℕ)) → fine bodies → other bodies) → (c : List ℕ) →
@@ -235,6 +279,10 @@ fine_at fine disk good c bodies gives store =
 
 -- ---- what a session leaves
 
+-- the Mark is within the limit of a body
+is_markable : (bodies : List (List ℕ)) → CanMark bodies → IsCommittable bodies mark
+is_markable bodies can = ((omega arith, omega arith), can.number)
+
 good_stopped : (fine : List (List ℕ) → Type 0) (disk next : DiskState) → Good fine disk → IsStopped disk next → Good fine next
 good_stopped fine disk next good (inl is) = subst (Good fine) (sym is) good
 good_stopped fine disk next good (inr (content, crash, is)) =
@@ -244,6 +292,18 @@ good_opened : (fine : List (List ℕ) → Type 0) (disk : DiskState) (bodies : L
     fine bodies → Good fine (opened_disk disk bodies store)
 good_opened fine disk bodies store is = good_rest fine (opened_disk disk bodies store) (closed_store bodies) (open_end disk bodies store)
     (closed_store_of fine (closed_store bodies) [] bodies store.each store.count is refl)
+
+-- what commits the Mark leaves the store at rest with it
+pub mark_end : (disk : DiskState) (bodies : List (List ℕ)) (store : IsStore disk.content bodies) → CanMark bodies →
+    IsAtRest (after_disk_calls (opened_disk disk bodies store) (mark_calls bodies)) (closed_store (bodies ++ mark ∷ []))
+mark_end disk bodies store can = committed (opened_disk disk bodies store) bodies mark (open_end disk bodies store) (is_markable bodies can)
+
+good_marked : (fine : List (List ℕ) → Type 0) (disk : DiskState) (bodies : List (List ℕ)) (store : IsStore disk.content bodies) →
+    CanMark bodies → fine bodies → fine (bodies ++ mark ∷ [])
+    → (end : DiskState) → IsWithin (opened_disk disk bodies store) (mark_calls bodies) end → Good fine end
+good_marked fine disk bodies store can are more end within =
+    good_within_commit fine (opened_disk disk bodies store) bodies mark (open_end disk bodies store) store.each store.count
+    (is_markable bodies can) are more end within
 
 module _ (start : World) (old : List Record) (events : List Event) (is : IsStart start old) (schedule : IsSchedule start events) where
   -- the bodies that the group left grew from those that were reported
@@ -263,6 +323,7 @@ module _ (start : World) (old : List Record) (events : List Event) (is : IsStart
 -- with the world to which this session came, if it ran
 abbrev and_ran : List World → Session → List World
 and_ran since StoppedOpening = since
+and_ran since (Marked bodies old) = since
 and_ran since (OnlyOpened bodies old) = since
 and_ran since (Ran start old events) = since ++ run start events ∷ []
 
@@ -270,19 +331,30 @@ abbrev and_all_ran : List World → List Session → List World
 and_all_ran since [] = since
 and_all_ran since (session ∷ sessions) = and_all_ran (and_ran since session) sessions
 
-module _ (P : List World → List (List ℕ) → Type 0) (stays : Stays P) where
+module _ (P : List World → List (List ℕ) → Type 0) (stays : Stays P) (stays_marked : StaysMarked P) where
+  -- what is so of the bodies on a disk is so of those with which a run begins
+  begun_at : (since : List World) (disk : DiskState) (bodies : List (List ℕ)) (begun : DiskState) → Good (P since) disk →
+      IsBegun disk bodies begun → P since bodies
+  begun_at since disk bodies begun good (inl (store, is)) = fine_at (P since) disk good disk.content bodies (inl refl) store
+  begun_at since disk bodies begun good (inr (before, store, can, bodies_are, is)) =
+      subst (P since) (sym bodies_are)
+      (stays_marked since before can (fine_at (P since) disk good disk.content before (inl refl) store))
+
   -- what stays as bodies grow stays over a session
   good_session : (since : List World) (disk : DiskState) (session : Session) (end : DiskState) → Good (P since) disk →
       IsSession disk session end → Good (P (and_ran since session)) end
   good_session since disk StoppedOpening end good (bodies, store, within) = good_open (P since) disk good bodies store end within
+  good_session since disk (Marked bodies old) end good (store, recovered, can, within) =
+      let are : P since bodies = fine_at (P since) disk good disk.content bodies (inl refl) store in
+      good_marked (P since) disk bodies store can are (stays_marked since bodies can are) end within
   good_session since disk (OnlyOpened bodies old) end good (store, recovered, is) =
       subst (Good (P since)) (sym is)
       (good_opened (P since) disk bodies store (fine_at (P since) disk good disk.content bodies (inl refl) store))
-  good_session since disk (Ran start old events) end good (store, opened, is, schedule, end_is) =
+  good_session since disk (Ran start old events) end good (begun, is, schedule, end_is) =
       subst (Good (P (since ++ run start events ∷ []))) (sym end_is)
       (good_run start old events is schedule (P (since ++ run start events ∷ []))
       (λ bodies behind. stays since (run start events) old bodies behind
-      (subst (P since) (sym (run_same start events).0) (fine_at (P since) disk good disk.content start.bodies (inl refl) store))))
+      (subst (P since) (sym (run_same start events).0) (begun_at since disk start.bodies start.disk good begun))))
 
   -- and once it was stopped
   good_next : (since : List World) (disk : DiskState) (session : Session) (stop next : DiskState) → Good (P since) disk →
@@ -296,12 +368,16 @@ module _ (P : List World → List (List ℕ) → Type 0) (stays : Stays P) where
   found_later since disk [] end good is = fine_at (P since) end (subst (Good (P since)) (sym is) good)
   found_later since disk (StoppedOpening ∷ sessions) end good (stop, next, one, stopped, rest) =
       found_later since next sessions end (good_next since disk StoppedOpening stop next good one stopped) rest
+  found_later since disk (Marked bodies old ∷ sessions) end good (stop, next, one, stopped, rest) = (
+    fine_at (P since) disk good disk.content bodies (inl refl) one.0,
+    found_later since next sessions end (good_next since disk (Marked bodies old) stop next good one stopped) rest,
+  )
   found_later since disk (OnlyOpened bodies old ∷ sessions) end good (stop, next, one, stopped, rest) = (
     fine_at (P since) disk good disk.content bodies (inl refl) one.0,
     found_later since next sessions end (good_next since disk (OnlyOpened bodies old) stop next good one stopped) rest,
   )
   found_later since disk (Ran start old events ∷ sessions) end good (stop, next, one, stopped, rest) = (
-    fine_at (P since) disk good disk.content start.bodies (inl refl) one.0,
+    begun_at since disk start.bodies start.disk good one.0,
     found_later (since ++ run start events ∷ []) next sessions end (good_next since disk (Ran start old events) stop next good one stopped)
         rest,
   )
@@ -317,35 +393,49 @@ module _ (P : List World → List (List ℕ) → Type 0) (stays : Stays P) where
 pub each_grows : (disk : DiskState) (sessions : List Session) (end : DiskState) → AreSessions disk sessions end → AreGrowing sessions end
 each_grows disk [] end is = tt
 each_grows disk (StoppedOpening ∷ sessions) end (stop, next, one, stopped, rest) = each_grows next sessions end rest
+each_grows disk (Marked bodies old ∷ sessions) end (stop, next, one, stopped, rest) =
+    let grows = GrowsTo (report_of bodies old) in
+    let own : grows [] bodies = own_growth bodies old one.1 in
+    let good : Good (grows []) stop =
+    good_marked (grows []) disk bodies one.0 one.2 own (growth_stays_marked (report_of bodies old) [] bodies one.2 own) stop one.3 in (
+      found_later grows (growth_stays bodies old one.1) (growth_stays_marked (report_of bodies old)) [] next sessions end
+          (good_stopped (grows []) stop next good stopped) rest,
+      each_grows next sessions end rest,
+    )
 each_grows disk (OnlyOpened bodies old ∷ sessions) end (stop, next, one, stopped, rest) =
     let grows = GrowsTo (report_of bodies old) in
     let good : Good (grows []) stop =
     subst (Good (grows [])) (sym one.2) (good_opened (grows []) disk bodies one.0 (own_growth bodies old one.1)) in (
-      found_later grows (growth_stays bodies old one.1) [] next sessions end (good_stopped (grows []) stop next good stopped) rest,
+      found_later grows (growth_stays bodies old one.1) (growth_stays_marked (report_of bodies old)) [] next sessions end
+          (good_stopped (grows []) stop next good stopped) rest,
       each_grows next sessions end rest,
     )
 each_grows disk (Ran start old events ∷ sessions) end (stop, next, one, stopped, rest) =
     let grows = GrowsTo (record { bodies = start.bodies; first_guest = start.first_guest }) in
     let since : List World = run start events ∷ [] in
     let good : Good (grows since) stop =
-    subst (Good (grows since)) (sym one.4)
-    (good_run start old events one.2 one.3 (grows since) (from_start start old events one.2 one.3)) in
+    subst (Good (grows since)) (sym one.3)
+    (good_run start old events one.1 one.2 (grows since) (from_start start old events one.1 one.2)) in
     let stays : Stays grows =
-    subst (λ (n : ℕ). Stays (GrowsTo (record { bodies = start.bodies; first_guest = n }))) (sym one.2.next)
-    (growth_stays start.bodies old one.2.recovered) in (
-      found_later grows stays since next sessions end (good_stopped (grows since) stop next good stopped) rest,
+    subst (λ (n : ℕ). Stays (GrowsTo (record { bodies = start.bodies; first_guest = n }))) (sym one.1.next)
+    (growth_stays start.bodies old one.1.recovered) in (
+      found_later grows stays
+          (growth_stays_marked (record { bodies = start.bodies; first_guest = start.first_guest })) since next sessions end
+          (good_stopped (grows since) stop next good stopped) rest,
       each_grows next sessions end rest,
     )
 
 pub each_is_kept : (disk : DiskState) (sessions : List Session) (end : DiskState) → AreSessions disk sessions end → AreKept sessions end
 each_is_kept disk [] end is = tt
 each_is_kept disk (StoppedOpening ∷ sessions) end (stop, next, one, stopped, rest) = each_is_kept next sessions end rest
+each_is_kept disk (Marked bodies old ∷ sessions) end (stop, next, one, stopped, rest) = each_is_kept next sessions end rest
 each_is_kept disk (OnlyOpened bodies old ∷ sessions) end (stop, next, one, stopped, rest) = each_is_kept next sessions end rest
 each_is_kept disk (Ran start old events ∷ sessions) end (stop, next, one, stopped, rest) =
     let keeps = KeepsSession (run start events) old in
     let good : Good (keeps []) stop =
-    subst (Good (keeps [])) (sym one.4) (good_run start old events one.2 one.3 (keeps []) (own_session (run start events) old)) in (
-      found_later keeps (session_stays (run start events) old) [] next sessions end (good_stopped (keeps []) stop next good stopped) rest,
+    subst (Good (keeps [])) (sym one.3) (good_run start old events one.1 one.2 (keeps []) (own_session (run start events) old)) in (
+      found_later keeps (session_stays (run start events) old) (session_stays_marked (run start events) old) [] next sessions end
+          (good_stopped (keeps []) stop next good stopped) rest,
       each_is_kept next sessions end rest,
     )
 
@@ -353,4 +443,5 @@ pub opens_again : (content : List ℕ) (sessions : List Session) (end : DiskStat
     AreSessions (fresh_disk content) sessions end
     → (c : List ℕ) → Gives end c → CanOpen c
 opens_again content sessions end can are =
-    good_end (λ since. HasRecords) records_stay [] (fresh_disk content) sessions end (good_fresh HasRecords content can) are
+    good_end (λ since. HasRecords) records_stay records_stay_marked [] (fresh_disk content) sessions end (good_fresh HasRecords content can)
+    are

@@ -9,6 +9,7 @@ use Rattle.store_model.specs.DiskCalls.{IsTorn, FailsToWrite, FailsToCut, after_
 use Rattle.store_model.specs.StoreText.{header, segment, segments, IsBody, IsStore, IsNextSegment, IsSound}
 use Rattle.rrv_model.specs.RecordText.{record_text}
 use Rattle.rrv_model.specs.Recovered.{body_text}
+use Rattle.store_model.specs.StoreCalls.{DiskCall, after_disk_calls, commit_calls, IsWithin}
 use Rattle.store_model.proofs.StoreLaws.{segments_push}
 use Rattle.store_model.proofs.CrashLaws.{crash_synced, crash_torn, torn_same}
 use Rattle.commit_core.specs.World.{Stage, IsAtRest, store_text, closed_store}
@@ -213,118 +214,170 @@ crash_failed_cut size old new failed c crash = at_end failed.passes.later failed
 -- ---- the stages
 
 -- the disk at each stage, with these bodies and this one in hand
-abbrev pub DiskAt : Stage → DiskState → List (List ℕ) → List Record → Type 0
-DiskAt Idle disk bodies hand = IsAtRest disk (closed_store bodies) × (hand ≡ [])
-DiskAt Written disk bodies hand =
-    (disk.content ≡ staged bodies (body_text hand))
+abbrev pub DiskAt : Stage → DiskState → List (List ℕ) → List ℕ → Type 0
+DiskAt Idle disk bodies body = IsAtRest disk (closed_store bodies) × (body ≡ [])
+DiskAt Written disk bodies body =
+    (disk.content ≡ staged bodies body)
     × (disk.pending
-    ≡ pending_write (all_synced (closed_store bodies)) (length (store_text bodies) + 1) (length (tail bodies (body_text hand))))
-    × IsCommittable bodies (body_text hand)
-DiskAt Synced disk bodies hand = IsAtRest disk (staged bodies (body_text hand)) × IsCommittable bodies (body_text hand)
-DiskAt Opened disk bodies hand =
-    (disk.content ≡ closed_store (bodies ++ body_text hand ∷ []))
-    × (disk.pending ≡ pending_write (all_synced (staged bodies (body_text hand))) (length (store_text bodies)) 1)
-    × IsCommittable bodies (body_text hand)
-DiskAt Broken disk bodies hand = (c : List ℕ) → Gives disk c → Outcome bodies (body_text hand) c
+    ≡ pending_write (all_synced (closed_store bodies)) (length (store_text bodies) + 1) (length (tail bodies body)))
+    × IsCommittable bodies body
+DiskAt Synced disk bodies body = IsAtRest disk (staged bodies body) × IsCommittable bodies body
+DiskAt Opened disk bodies body =
+    (disk.content ≡ closed_store (bodies ++ body ∷ []))
+    × (disk.pending ≡ pending_write (all_synced (staged bodies body)) (length (store_text bodies)) 1)
+    × IsCommittable bodies body
+DiskAt Broken disk bodies body = (c : List ℕ) → Gives disk c → Outcome bodies body c
 
 gives_rest : (disk : DiskState) (bytes c : List ℕ) → IsAtRest disk bytes → Gives disk c → c ≡ bytes
 gives_rest disk bytes c rest (inl is) = is ∙ rest.read
 gives_rest disk bytes c rest (inr crash) = crash_synced bytes c (subst (λ (p : Pending). IsCrash p c) rest.synced crash)
 
-pub outcome_at : (stage : Stage) (disk : DiskState) (bodies : List (List ℕ)) (hand : List Record) → DiskAt stage disk bodies hand
-    → (c : List ℕ) → Gives disk c → Outcome bodies (body_text hand) c
-outcome_at Idle disk bodies hand at c gives = inl ([], gives_rest disk (closed_store bodies) c at.0 gives)
-outcome_at Written disk bodies hand at c (inl is) = inl (tail bodies (body_text hand), is ∙ at.0)
-outcome_at Written disk bodies hand at c (inr crash) =
-    let b = body_text hand in
-    inl (torn_closed bodies b (length (tail bodies b)) c
-    (crash_torn (closed_store bodies) (length (store_text bodies) + 1) (length (tail bodies b)) (omega (arith, length_closed bodies b)) c
+pub outcome_at : (stage : Stage) (disk : DiskState) (bodies : List (List ℕ)) (body : List ℕ) → DiskAt stage disk bodies body
+    → (c : List ℕ) → Gives disk c → Outcome bodies body c
+outcome_at Idle disk bodies body at c gives = inl ([], gives_rest disk (closed_store bodies) c at.0 gives)
+outcome_at Written disk bodies body at c (inl is) = inl (tail bodies body, is ∙ at.0)
+outcome_at Written disk bodies body at c (inr crash) =
+    inl (torn_closed bodies body (length (tail bodies body)) c
+    (crash_torn (closed_store bodies) (length (store_text bodies) + 1) (length (tail bodies body))
+    (omega (arith, length_closed bodies body)) c
     (subst (λ (p : Pending). IsCrash p c) at.1 crash)))
-outcome_at Synced disk bodies hand at c gives =
-    inl (tail bodies (body_text hand), gives_rest disk (staged bodies (body_text hand)) c at.0 gives)
-outcome_at Opened disk bodies hand at c (inl is) =
-    inr (at.2, (0xA5, is ∙ at.0 ∙ sym (with_body bodies (body_text hand))))
-outcome_at Opened disk bodies hand at c (inr crash) =
-    let b = body_text hand in
+outcome_at Synced disk bodies body at c gives =
+    inl (tail bodies body, gives_rest disk (staged bodies body) c at.0 gives)
+outcome_at Opened disk bodies body at c (inl is) =
+    inr (at.2, (0xA5, is ∙ at.0 ∙ sym (with_body bodies body)))
+outcome_at Opened disk bodies body at c (inr crash) =
     inr (
       at.2,
-      torn_ajar bodies b c
-          (crash_torn (staged bodies b) (length (store_text bodies)) 1 (omega (arith, length_staged bodies b)) c
+      torn_ajar bodies body c
+          (crash_torn (staged bodies body) (length (store_text bodies)) 1 (omega (arith, length_staged bodies body)) c
           (subst (λ (p : Pending). IsCrash p c) at.1 crash)),
     )
-outcome_at Broken disk bodies hand at c gives = at c gives
+outcome_at Broken disk bodies body at c gives = at c gives
 
 -- ---- one stage after another
 
-pub to_written : (disk : DiskState) (bodies : List (List ℕ)) (old hand : List Record) → DiskAt Idle disk bodies old →
-    IsCommittable bodies (body_text hand)
-    → DiskAt Written (after_write disk (length (store_text bodies) + 1) (tail bodies (body_text hand))) bodies hand
-to_written disk bodies old hand at can =
+pub to_written : (disk : DiskState) (bodies : List (List ℕ)) (old body : List ℕ) → DiskAt Idle disk bodies old →
+    IsCommittable bodies body
+    → DiskAt Written (after_write disk (length (store_text bodies) + 1) (tail bodies body)) bodies body
+to_written disk bodies old body at can =
     let place = length (store_text bodies) + 1 in
-    let bytes = tail bodies (body_text hand) in (
-      ap (λ (l : List ℕ). overwritten l place bytes) at.0.read ∙ write_gives bodies (body_text hand),
+    let bytes = tail bodies body in (
+      ap (λ (l : List ℕ). overwritten l place bytes) at.0.read ∙ write_gives bodies body,
       ap (λ (p : Pending). pending_write p place (length bytes)) at.0.synced,
       can,
     )
 
-pub to_written_fails : (disk new : DiskState) (bodies : List (List ℕ)) (old hand : List Record) → DiskAt Idle disk bodies old
-    → FailsToWrite (length (store_text bodies) + 1) (length (tail bodies (body_text hand))) disk new → DiskAt Broken new bodies hand
-to_written_fails disk new bodies old hand at failed c gives =
-    let b = body_text hand in
+pub to_written_fails : (disk new : DiskState) (bodies : List (List ℕ)) (old body : List ℕ) → DiskAt Idle disk bodies old
+    → FailsToWrite (length (store_text bodies) + 1) (length (tail bodies body)) disk new → DiskAt Broken new bodies body
+to_written_fails disk new bodies old body at failed c gives =
     let place = length (store_text bodies) + 1 in
-    let count = length (tail bodies b) in
+    let count = length (tail bodies body) in
     let torn : IsTorn place count (closed_store bodies) c = is_torn gives in
-    inl (torn_closed bodies b count c torn)
+    inl (torn_closed bodies body count c torn)
   where
-    is_torn : Gives new c → IsTorn (length (store_text bodies) + 1) (length (tail bodies (body_text hand))) (closed_store bodies) c
-    is_torn (inl is) = subst (λ (l : List ℕ). IsTorn (length (store_text bodies) + 1) (length (tail bodies (body_text hand))) l c) at.0.read
-        (subst (λ (l : List ℕ). IsTorn (length (store_text bodies) + 1) (length (tail bodies (body_text hand))) disk.content l) (sym is)
+    is_torn : Gives new c → IsTorn (length (store_text bodies) + 1) (length (tail bodies body)) (closed_store bodies) c
+    is_torn (inl is) = subst (λ (l : List ℕ). IsTorn (length (store_text bodies) + 1) (length (tail bodies body)) l c) at.0.read
+        (subst (λ (l : List ℕ). IsTorn (length (store_text bodies) + 1) (length (tail bodies body)) disk.content l) (sym is)
         failed.content)
     is_torn (inr crash) = ⊎_elim
         (λ before. subst
-        (λ (l : List ℕ). IsTorn (length (store_text bodies) + 1) (length (tail bodies (body_text hand))) (closed_store bodies) l)
+        (λ (l : List ℕ). IsTorn (length (store_text bodies) + 1) (length (tail bodies body)) (closed_store bodies) l)
         (sym (crash_synced (closed_store bodies) c (subst (λ (p : Pending). IsCrash p c) at.0.synced before)))
-        (torn_same (length (store_text bodies) + 1) (length (tail bodies (body_text hand))) (closed_store bodies)))
-        (λ within. crash_torn (closed_store bodies) (length (store_text bodies) + 1) (length (tail bodies (body_text hand)))
-        (omega (arith, length_closed bodies (body_text hand))) c
-        (subst (λ (p : Pending). IsCrash (pending_write p (length (store_text bodies) + 1) (length (tail bodies (body_text hand)))) c)
+        (torn_same (length (store_text bodies) + 1) (length (tail bodies body)) (closed_store bodies)))
+        (λ within. crash_torn (closed_store bodies) (length (store_text bodies) + 1) (length (tail bodies body))
+        (omega (arith, length_closed bodies body)) c
+        (subst (λ (p : Pending). IsCrash (pending_write p (length (store_text bodies) + 1) (length (tail bodies body))) c)
         at.0.synced within))
-        (crash_failed (length (store_text bodies) + 1) (length (tail bodies (body_text hand))) disk new failed c crash)
+        (crash_failed (length (store_text bodies) + 1) (length (tail bodies body)) disk new failed c crash)
 
-pub to_synced : (disk : DiskState) (bodies : List (List ℕ)) (hand : List Record) → DiskAt Written disk bodies hand →
-    DiskAt Synced (after_sync disk) bodies hand
-to_synced disk bodies hand at = (record { read = at.0; synced = ap all_synced at.0 }, at.2)
+pub to_synced : (disk : DiskState) (bodies : List (List ℕ)) (body : List ℕ) → DiskAt Written disk bodies body →
+    DiskAt Synced (after_sync disk) bodies body
+to_synced disk bodies body at = (record { read = at.0; synced = ap all_synced at.0 }, at.2)
 
-pub to_opened : (disk : DiskState) (bodies : List (List ℕ)) (hand : List Record) → DiskAt Synced disk bodies hand
-    → DiskAt Opened (after_write disk (length (store_text bodies)) (0xA5 ∷ [])) bodies hand
-to_opened disk bodies hand at = (
-  ap (λ (l : List ℕ). overwritten l (length (store_text bodies)) (0xA5 ∷ [])) at.0.read ∙ open_gives bodies (body_text hand),
+pub to_opened : (disk : DiskState) (bodies : List (List ℕ)) (body : List ℕ) → DiskAt Synced disk bodies body
+    → DiskAt Opened (after_write disk (length (store_text bodies)) (0xA5 ∷ [])) bodies body
+to_opened disk bodies body at = (
+  ap (λ (l : List ℕ). overwritten l (length (store_text bodies)) (0xA5 ∷ [])) at.0.read ∙ open_gives bodies body,
   ap (λ (p : Pending). pending_write p (length (store_text bodies)) 1) at.0.synced,
   at.1,
 )
 
-pub to_opened_fails : (disk new : DiskState) (bodies : List (List ℕ)) (hand : List Record) → DiskAt Synced disk bodies hand
-    → FailsToWrite (length (store_text bodies)) 1 disk new → DiskAt Broken new bodies hand
-to_opened_fails disk new bodies hand at failed c gives = inr (at.1, torn_ajar bodies (body_text hand) c (is_torn gives))
+pub to_opened_fails : (disk new : DiskState) (bodies : List (List ℕ)) (body : List ℕ) → DiskAt Synced disk bodies body
+    → FailsToWrite (length (store_text bodies)) 1 disk new → DiskAt Broken new bodies body
+to_opened_fails disk new bodies body at failed c gives = inr (at.1, torn_ajar bodies body c (is_torn gives))
   where
-    is_torn : Gives new c → IsTorn (length (store_text bodies)) 1 (staged bodies (body_text hand)) c
+    is_torn : Gives new c → IsTorn (length (store_text bodies)) 1 (staged bodies body) c
     is_torn (inl is) = subst (λ (l : List ℕ). IsTorn (length (store_text bodies)) 1 l c) at.0.read
         (subst (λ (l : List ℕ). IsTorn (length (store_text bodies)) 1 disk.content l) (sym is) failed.content)
     is_torn (inr crash) = ⊎_elim
-        (λ before. subst (λ (l : List ℕ). IsTorn (length (store_text bodies)) 1 (staged bodies (body_text hand)) l)
-        (sym (crash_synced (staged bodies (body_text hand)) c (subst (λ (p : Pending). IsCrash p c) at.0.synced before)))
-        (torn_same (length (store_text bodies)) 1 (staged bodies (body_text hand))))
-        (λ within. crash_torn (staged bodies (body_text hand)) (length (store_text bodies)) 1
-        (omega (arith, length_staged bodies (body_text hand))) c
+        (λ before. subst (λ (l : List ℕ). IsTorn (length (store_text bodies)) 1 (staged bodies body) l)
+        (sym (crash_synced (staged bodies body) c (subst (λ (p : Pending). IsCrash p c) at.0.synced before)))
+        (torn_same (length (store_text bodies)) 1 (staged bodies body)))
+        (λ within. crash_torn (staged bodies body) (length (store_text bodies)) 1
+        (omega (arith, length_staged bodies body)) c
         (subst (λ (p : Pending). IsCrash (pending_write p (length (store_text bodies)) 1) c) at.0.synced within))
         (crash_failed (length (store_text bodies)) 1 disk new failed c crash)
 
-pub to_idle : (disk : DiskState) (bodies next : List (List ℕ)) (hand : List Record) → DiskAt Opened disk bodies hand →
-    next ≡ bodies ++ body_text hand ∷ []
+pub to_idle : (disk : DiskState) (bodies next : List (List ℕ)) (body : List ℕ) → DiskAt Opened disk bodies body →
+    next ≡ bodies ++ body ∷ []
     → DiskAt Idle (after_sync disk) next []
-to_idle disk bodies next hand at is =
+to_idle disk bodies next body at is =
     let content : disk.content ≡ closed_store next = at.0 ∙ ap closed_store (sym is) in
     (record { read = content; synced = ap all_synced content }, refl)
+
+-- ---- a whole commit
+
+module _ (disk : DiskState) (bodies : List (List ℕ)) (body : List ℕ) (rest : IsAtRest disk (closed_store bodies))
+    (can : IsCommittable bodies body) where
+  abbrev commit : List DiskCall
+  commit = commit_calls (length (store_text bodies)) (length bodies) body
+
+  abbrev behind_write : DiskState
+  behind_write = after_write disk (length (store_text bodies) + 1) (tail bodies body)
+
+  abbrev behind_gate : DiskState
+  behind_gate = after_write (after_sync behind_write) (length (store_text bodies)) (0xA5 ∷ [])
+
+  is_written : DiskAt Written behind_write bodies body
+  is_written = to_written disk bodies [] body (rest, refl) can
+
+  is_synced : DiskAt Synced (after_sync behind_write) bodies body
+  is_synced = to_synced behind_write bodies body is_written
+
+  is_opened : DiskAt Opened behind_gate bodies body
+  is_opened = to_opened (after_sync behind_write) bodies body is_synced
+
+  -- once its calls have answered
+  pub commit_end : IsAtRest (after_disk_calls disk commit) (closed_store (bodies ++ body ∷ []))
+  commit_end = (to_idle behind_gate bodies (bodies ++ body ∷ []) body is_opened refl).0
+
+  at_moment : (stage : Stage) (moment : DiskState) → DiskAt stage moment bodies body → (end : DiskState) → end ≡ moment
+      → DiskAt Broken end bodies body
+  at_moment stage moment at end is c gives = outcome_at stage moment bodies body at c (subst (λ (d : DiskState). Gives d c) is gives)
+
+  outcome_end : (end : DiskState) → end ≡ after_sync behind_gate → DiskAt Broken end bodies body
+  outcome_end end is c gives =
+      inr (
+        can,
+        (
+          0xA5,
+          gives_rest (after_sync behind_gate) (closed_store (bodies ++ body ∷ [])) c commit_end
+              (subst (λ (d : DiskState). Gives d c) is gives) ∙ sym (with_body bodies body),
+        ),
+      )
+
+  -- each moment of them
+  pub outcome_within : (end : DiskState) → IsWithin disk commit end → DiskAt Broken end bodies body
+  outcome_within end (inl is) =
+      λ c gives. inl ([], gives_rest disk (closed_store bodies) c rest (subst (λ (d : DiskState). Gives d c) is gives))
+  outcome_within end (inr (inl failed)) = to_written_fails disk end bodies [] body (rest, refl) failed
+  outcome_within end (inr (inr (inl is))) = at_moment Written behind_write is_written end is
+  outcome_within end (inr (inr (inr (inl is)))) = at_moment Written behind_write is_written end is
+  outcome_within end (inr (inr (inr (inr (inl is))))) = at_moment Synced (after_sync behind_write) is_synced end is
+  outcome_within end (inr (inr (inr (inr (inr (inl failed)))))) = to_opened_fails (after_sync behind_write) end bodies body is_synced failed
+  outcome_within end (inr (inr (inr (inr (inr (inr (inl is))))))) = at_moment Opened behind_gate is_opened end is
+  outcome_within end (inr (inr (inr (inr (inr (inr (inr (inl is)))))))) = at_moment Opened behind_gate is_opened end is
+  outcome_within end (inr (inr (inr (inr (inr (inr (inr (inr is)))))))) = outcome_end end is
 
 -- ---- sizes of bodies
 
@@ -336,3 +389,8 @@ some_body (r ∷ rs) l = omega arith
 pub some_records : (rs : List Record) → 1 ≤ length (body_text rs) → 1 ≤ length rs
 some_records [] l = absurd (omega arith)
 some_records (r ∷ rs) l = omega arith
+
+-- no bytes are the text of no records
+pub no_records : (rs : List Record) → body_text rs ≡ [] → rs ≡ []
+no_records [] is = refl
+no_records (r ∷ rs) is = absurd (omega (arith, ap length is, some_body (r ∷ rs) (omega arith)))

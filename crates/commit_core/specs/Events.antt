@@ -11,7 +11,7 @@ use Rattle.rrv_model.specs.State.{State}
 use Rattle.rrv_model.specs.RecordText.{HasText}
 use Rattle.rrv_model.specs.Recording.{IsRecording, IsNumbered, EndsIn, items_of}
 use Rattle.store_model.specs.StoreText.{segment}
-use Rattle.rrv_model.specs.Recovered.{body_text}
+use Rattle.rrv_model.specs.Recovered.{body_text, MayFollow}
 use Rattle.commit_core.specs.Runs.{IsOutput}
 use Rattle.commit_core.specs.World.{World, Recorder, Flusher, Stage, made, committed_count, stored_bodies, store_text}
 use Rattle.commit_core.specs.World.Stage.{Idle, Written, Synced, Opened, Broken}
@@ -162,6 +162,8 @@ pub record CanWrite (w : World) (count : ℕ) : Type 0 where
   pub body : length (next_body w count) ≤ MAX_BODY
   pub number : length (stored_bodies w) < MAX_SEGMENTS
   pub store : gate_place w + length (next_body w count) + 42 ≤ MAX_STORE
+  -- it stands behind the Mark, or each of its records may stand before it
+  pub old : MayFollow (stored_bodies w) (take count w.flusher.waiting)
 
 abbrev pub May : World → Event → Type 0
 May w (Slice g r s) = CanSlice w g r s

@@ -8,7 +8,7 @@ use Rattle.commit_core.specs.World.{World, made}
 use Rattle.commit_core.specs.Events.{Event, run}
 use Rattle.commit_core.specs.Facts.{Facts, RecoversFrom, Recovers}
 use Rattle.commit_core.specs.Sessions.{Session, GrowsTo, IsFoundLater}
-use Rattle.commit_core.specs.Sessions.Session.{StoppedOpening, OnlyOpened, Ran}
+use Rattle.commit_core.specs.Sessions.Session.{StoppedOpening, Marked, OnlyOpened, Ran}
 
 -- ---- at each moment
 
@@ -21,6 +21,7 @@ pub record IsSafe (w : World) (old : List Record) : Type 0 where
 -- a session that ran is safe after each beginning of its events
 abbrev pub IsSafeThroughout : Session → Type 0
 IsSafeThroughout StoppedOpening = Unit {0}
+IsSafeThroughout (Marked bodies old) = Unit {0}
 IsSafeThroughout (OnlyOpened bodies old) = Unit {0}
 IsSafeThroughout (Ran start old events) =
     (front rest : List Event) → events ≡ front ++ rest → IsSafe (run start front) old
@@ -46,6 +47,7 @@ pub record KeepsSession (w : World) (old : List Record) (since : List World) (bo
 abbrev pub AreKept : List Session → DiskState → Type 0
 AreKept [] end = Unit {0}
 AreKept (StoppedOpening ∷ sessions) end = AreKept sessions end
+AreKept (Marked bodies old ∷ sessions) end = AreKept sessions end
 AreKept (OnlyOpened bodies old ∷ sessions) end = AreKept sessions end
 AreKept (Ran start old events ∷ sessions) end =
     IsFoundLater (KeepsSession (run start events) old) [] sessions end × AreKept sessions end

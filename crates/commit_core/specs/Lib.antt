@@ -9,3 +9,4 @@ pub mod Example
 pub mod ExampleFailures
 pub mod ExampleGroup
 pub mod ExampleRepair
+pub mod ExampleMark

@@ -1,21 +1,23 @@
 -- Sessions: each opens the store, records or records nothing, and is stopped anywhere.
-use Rattle.std.specs.Prelude.{◌≡◌, ◌≢◌, ◌⊎◌, ℕ, ◌+◌, ◌<◌, ◌≤◌, List, [], ◌∷◌, ◌++◌, length}
+use Rattle.std.specs.Prelude.{◌≡◌, ◌≢◌, ◌⊎◌, ℕ, ◌+◌, ◌<◌, ◌≤◌, List, [], ◌∷◌, ◌++◌, length, Contains}
 use Rattle.std.specs.List.{AllByRecursion, Any}
 use Rattle.rrv_model.specs.declared.record.Record.{Record}
+use Rattle.store_model.specs.declared.limits.TheConstants.{MAX_SEGMENTS, MAX_STORE}
 use Rattle.store_model.specs.CrashModel.{DiskState, IsCrash, all_synced}
-use Rattle.store_model.specs.StoreText.{IsStore, IsNextSegment}
-use Rattle.store_model.specs.StoreCalls.{after_disk_calls, open_calls, IsWithin}
-use Rattle.rrv_model.specs.Recovered.{of_guest, next_guest, IsRecovered}
+use Rattle.store_model.specs.StoreText.{store_text, IsStore, IsNextSegment}
+use Rattle.store_model.specs.StoreCalls.{DiskCall, after_disk_calls, open_calls, commit_calls, IsWithin}
+use Rattle.rrv_model.specs.Recovered.{mark, of_guest, next_guest, IsRecovered}
 use Rattle.commit_core.specs.Runs.{IsBeginning}
 use Rattle.commit_core.specs.World.{World, IsStart}
 use Rattle.commit_core.specs.Events.{Event, run, IsSchedule}
 
 -- ---- sessions
 
--- one that is stopped within `open`; one whose `open` answered and that recorded nothing; and one that then ran a list
--- of events
+-- one that is stopped within `open`; one whose `open` answered, that committed the Mark or was stopped in that, and
+-- recorded nothing; one whose `open` answered and that did nothing more; and one that then ran a list of events
 pub data Session : Type 0 where
   StoppedOpening : Session
+  Marked : (bodies : List (List ℕ)) (old : List Record) → Session
   OnlyOpened : (bodies : List (List ℕ)) (old : List Record) → Session
   Ran : (start : World) (old : List Record) (events : List Event) → Session
 
@@ -23,15 +25,36 @@ pub data Session : Type 0 where
 abbrev pub opened_disk : (disk : DiskState) (bodies : List (List ℕ)) → IsStore disk.content bodies → DiskState
 opened_disk disk bodies store = after_disk_calls disk (open_calls disk.content bodies store)
 
+-- the Mark may be committed behind these bodies
+pub record CanMark (bodies : List (List ℕ)) : Type 0 where
+  pub none : ¬ (Contains bodies mark)
+  pub number : length bodies < MAX_SEGMENTS
+  pub store : length (store_text bodies) + length mark + 42 ≤ MAX_STORE
+
+-- the calls that commit it
+abbrev pub mark_calls : List (List ℕ) → List DiskCall
+mark_calls bodies = commit_calls (length (store_text bodies)) (length bodies) mark
+
+-- the bodies and the disk with which a run begins: as `open` left them, or with the Mark committed behind these
+abbrev pub IsBegun : DiskState → List (List ℕ) → DiskState → Type 0
+IsBegun disk bodies begun =
+    ((store : IsStore disk.content bodies) × (begun ≡ opened_disk disk bodies store))
+    ⊎ ((before : List (List ℕ)) × (store : IsStore disk.content before) × CanMark before
+    × (bodies ≡ before ++ mark ∷ [])
+    × (begun ≡ after_disk_calls (opened_disk disk before store) (mark_calls before)))
+
 -- a session that finds the one disk and leaves the other
 abbrev pub IsSession : DiskState → Session → DiskState → Type 0
 IsSession disk StoppedOpening end =
     (bodies : List (List ℕ)) × (store : IsStore disk.content bodies)
     × IsWithin disk (open_calls disk.content bodies store) end
+IsSession disk (Marked bodies old) end =
+    (store : IsStore disk.content bodies) × IsRecovered bodies old × CanMark bodies
+    × IsWithin (opened_disk disk bodies store) (mark_calls bodies) end
 IsSession disk (OnlyOpened bodies old) end =
     (store : IsStore disk.content bodies) × IsRecovered bodies old × (end ≡ opened_disk disk bodies store)
 IsSession disk (Ran start old events) end =
-    (store : IsStore disk.content start.bodies) × (start.disk ≡ opened_disk disk start.bodies store)
+    IsBegun disk start.bodies start.disk
     × IsStart start old × IsSchedule start events × (end ≡ (run start events).disk)
 
 -- a disk that holds these bytes and has done nothing yet
@@ -65,6 +88,7 @@ abbrev pub IsFoundLater : (List World → List (List ℕ) → Type 0) → List W
 IsFoundLater P since [] end =
     (content : List ℕ) (bodies : List (List ℕ)) → Gives end content → IsStore content bodies → P since bodies
 IsFoundLater P since (StoppedOpening ∷ later) end = IsFoundLater P since later end
+IsFoundLater P since (Marked bodies old ∷ later) end = P since bodies × IsFoundLater P since later end
 IsFoundLater P since (OnlyOpened bodies old ∷ later) end = P since bodies × IsFoundLater P since later end
 IsFoundLater P since (Ran start old events ∷ later) end =
     P since start.bodies × IsFoundLater P (since ++ run start events ∷ []) later end
@@ -97,6 +121,9 @@ pub record GrowsTo (report : Report) (since : List World) (bodies : List (List �
 abbrev pub AreGrowing : List Session → DiskState → Type 0
 AreGrowing [] end = Unit {0}
 AreGrowing (StoppedOpening ∷ sessions) end = AreGrowing sessions end
+AreGrowing (Marked bodies old ∷ sessions) end =
+    IsFoundLater (GrowsTo (record { bodies = bodies; first_guest = next_guest old })) [] sessions end
+    × AreGrowing sessions end
 AreGrowing (OnlyOpened bodies old ∷ sessions) end =
     IsFoundLater (GrowsTo (record { bodies = bodies; first_guest = next_guest old })) [] sessions end
     × AreGrowing sessions end

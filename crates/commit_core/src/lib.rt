@@ -12,8 +12,8 @@
 //!   every record of which an output byte has left, whatever openings were stopped in between. Each crash leaves what can be
 //!   opened, and so does what a read gives.
 //! - `failure_is_last`: after a call of the disk that failed none follows.
-//! - `byte_leaves`, `crash_in_gate`, `calls_fail`, `two_guests`, `sessions_follow`, `repair_follows`: the premises of these can
-//!   be met.
+//! - `byte_leaves`, `crash_in_gate`, `calls_fail`, `two_guests`, `sessions_follow`, `repair_follows`, `mark_is_committed`: the
+//!   premises of these can be met.
 //!
 //! # The world, in reading order
 //!
@@ -22,9 +22,9 @@
 //! `byte_leaves` (a start, and events after which a byte has left), `crash_in_gate` (the same run stopped within the write of
 //! the gate, where any byte may stand), `calls_fail` (each of the four calls of its commit can fail, a write leaving any bytes
 //! in its range), `two_guests` (one body has records of two guests, and of each a byte has left), `sessions_follow` (a second
-//! session that finds all records) and `repair_follows` (one that closes a torn gate, cuts off what stands after it, and finds
-//! the records before it). In `crates/rrv_model/specs`, and for the files from CrashModel to StoreCalls in
-//! `crates/store_model/specs`:
+//! session that finds all records), `repair_follows` (one that closes a torn gate, cuts off what stands after it, and finds
+//! the records before it) and `mark_is_committed` (one that commits the Mark, and a record of a guest of version 2 behind it).
+//! In `crates/rrv_model/specs`, and for the files from CrashModel to StoreCalls in `crates/store_model/specs`:
 //!
 //! | File | What it says |
 //! |---|---|
@@ -48,13 +48,14 @@
 //! | World | what each recorder, the queue, the words, the flusher and the disk hold, and how it begins |
 //! | Events | what may happen, one event at a time, when, and what it does: each effect is a function of its holder's part |
 //! | Facts | the six facts that hold after every event, and what recovery gives of any content that a crash leaves |
-//! | Sessions | sessions one after another: each opens the store, runs events or none, and is stopped anywhere, within its opening too; how what one `open` reported grows |
+//! | Sessions | sessions one after another: each opens the store, commits the Mark or doesn't, runs events or none, and is stopped anywhere, within its opening too; how what one `open` reported grows |
 //! | Headline | what each session that ran has at each of its moments, and what later sessions find of it |
 //! | FailedCalls | which events are calls of the disk, which of them fail, and what it is that none follows |
 //! | Example | a guest of seven instructions that writes a byte and exits, and the events after which its byte has left |
 //! | ExampleFailures | the events up to each of the four calls of its commit, which fails |
 //! | ExampleGroup | two such guests, and the events after which a byte of each has left |
 //! | ExampleRepair | a session stopped in the write of its second gate, which is torn; one stopped within its opening; and one that begins with the repair |
+//! | ExampleMark | a session stopped within the Mark's commit; one that commits it, and then the opening of a guest of version 2; and one that finds both |
 //!
 //! A crash is no event. The model needs no call in progress. From its start a write may have changed any byte of its range;
 //! until it returns, a sync has synced nothing. So a crash inside a write is one after it, a crash inside a sync one before it,
@@ -91,6 +92,7 @@ ghost use Rattle.commit_core.specs.FailedCalls.{IsFailedCall, IsLastCall};
 ghost use Rattle.commit_core.specs.Example.{GateMayTear, example_start, two_sessions, up_to_gate, up_to_release};
 ghost use Rattle.commit_core.specs.ExampleFailures.{EachCallFails};
 ghost use Rattle.commit_core.specs.ExampleGroup.{BothLeave, pair_events, pair_start};
+ghost use Rattle.commit_core.specs.ExampleMark.{mark_sessions};
 ghost use Rattle.commit_core.specs.ExampleRepair.{IsRepaired};
 
 /// Whatever the recorders and the flusher do, in any order, the six facts hold; and wherever the machine stops, recovery gives
@@ -104,13 +106,13 @@ pub fn safe_always()
         → Recovers (run start events) old content }
 {}
 
-/// Over any list of sessions, each of which opens the store, records or records nothing, and is stopped anywhere, also within `open`,
-/// with the machine or alone. What one `open` reported is a beginning of what each later one reports, and of what the disk holds at the
-/// end. What follows belongs to guests of later numbers, and sessions since then sent it: a body that was there and was not reported
-/// does not come back. Of each session that ran, from what its `open` reported, what `safe_always` says is true at each of its moments.
-/// And each later report, and the disk at the end, has every record of it of which an output byte has left, and under each number up to
-/// the greatest of which a record was left just what was left. What every crash leaves, and what a read gives, can be opened again. Once
-/// `open` has made its calls the store is at rest with its bodies.
+/// Over any list of sessions, each of which opens the store, may commit the Mark, records or records nothing, and is stopped anywhere,
+/// also within `open`, with the machine or alone. What one `open` reported is a beginning of what each later one reports, and of what the
+/// disk holds at the end. What follows belongs to guests of later numbers, and sessions since then sent it: a body that was there and was
+/// not reported does not come back. Of each session that ran, from what its `open` reported, what `safe_always` says is true at each of
+/// its moments. And each later report, and the disk at the end, has every record of it of which an output byte has left, and under each
+/// number up to the greatest of which a record was left just what was left. What every crash leaves, and what a read gives, can be opened
+/// again. Once `open` has made its calls the store is at rest with its bodies.
 pub fn sessions_always()
     ensures grows { (content : List ℕ) (sessions : List Session) (end : DiskState) → CanOpen content
         → AreSessions (fresh_disk content) sessions end → AreGrowing sessions end }
@@ -168,6 +170,12 @@ pub fn two_guests()
     ensures start { IsStart pair_start [] }
     ensures leave { (written : State) × IsSchedule pair_start (pair_events written)
         × BothLeave (run pair_start (pair_events written)) }
+{}
+
+/// The Mark can be committed: one session is stopped within its commit; the next one commits it, and then the opening of a guest of
+/// version 2; the last one finds both.
+pub fn mark_is_committed()
+    ensures { (end : DiskState) × AreSessions (fresh_disk (closed_store [])) mark_sessions end }
 {}
 
 /// A session can begin with a repair: one committed two records, put its byte out, and was stopped in the write of the next gate, which

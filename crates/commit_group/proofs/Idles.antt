@@ -74,6 +74,7 @@ looked_stands state old new log log' w totals turn h same =
           (with_totals w totals) refl refl s s.told same s.halted;
       hand = h.hand;
       keeps = h.keeps;
+      marked = h.marked;
     })
 
 module _ {D : Type 0} (state : D → DiskState) (old new : FlusherValue) (log log' : LogValue D) (w : World)

@@ -1,16 +1,17 @@
 -- A turn is a list of the world's events.
-use Rattle.std.proofs.Common.{◌≡◌, ℕ, zero, suc, ◌+◌, ◌<◌, ◌≤◌, List, [], ◌∷◌, ◌++◌, length, take, drop, map, refl, sym, ap, ◌∙◌, subst, arith, append_assoc, inl, inr}
+use Rattle.std.proofs.Common.{◌≡◌, ◌⊎◌, ⊎_elim, true, ℕ, zero, suc, ◌+◌, ◌<◌, ◌≤◌, List, [], ◌∷◌, ◌++◌, length, take, drop, map, refl, sym, ap, ◌∙◌, subst, arith, append_assoc, inl, inr}
 use Rattle.std.specs.Prelude.{slice_index}
 use Rattle.std.proofs.lemmas.List.{append-nil, map_push, take-append-drop}
+use Rattle.std.proofs.lemmas.List.Elements.{Contains-append_left}
 use mathlib.Core.Logic.{dite}
 use native.Mathlib.Decide.{ℕ_discrete}
 use Rattle.rrv_model.specs.declared.limits.TheConstants.{BATCH_ITEMS}
 use Rattle.rrv_model.specs.declared.record.Record.{Record}
 use Rattle.store_model.specs.CrashModel.{DiskState}
-use Rattle.rrv_model.specs.Recovered.{body_text, of_guest}
+use Rattle.rrv_model.specs.Recovered.{body_text, mark, of_guest, AreOld}
 use Rattle.store_model.specs.StoreCalls.{after_disk_calls, commit_calls, DiskCall, IsStopped}
 use Rattle.trace_disk.specs.Devices.{Device}
-use Rattle.trace_log.specs.Kept.{Keeps, LogValue, IsWithinLimits}
+use Rattle.trace_log.specs.Kept.{HoldsMark, Keeps, LogValue, IsWithinLimits}
 use Rattle.commit_core.specs.World.{World, Flusher, joined, stored_bodies, committed_count, store_text}
 use Rattle.commit_core.specs.World.Stage.{Idle, Broken}
 use Rattle.commit_core.specs.Events.{Event, IsSchedule, run, after, May, gate_place, CanWrite}
@@ -182,9 +183,10 @@ module _ {D : Type 0} (state : D → DiskState) (first : ℕ) (old : FlusherValu
   received_place = before.keeps.gate
 
   received_can : (count : ℕ) → IsBatch (old.waiting ++ more) count → IsWithinLimits log (next_body (old.waiting ++ more) count) →
-      length (old.waiting ++ more) ≤ BATCH_ITEMS → CanWrite (received w more rest) count
+      length (old.waiting ++ more) ≤ BATCH_ITEMS → (log.marked ≡ true) ⊎ AreOld (take count (old.waiting ++ more)) →
+      CanWrite (received w more rest) count
   unfolding received with_waiting
-  received_can count batch within few =
+  received_can count batch within few follow =
       let u = received w more rest in
       let text : next_body (old.waiting ++ more) count ≡ body_text (take count u.flusher.waiting) =
       ap (λ (l : List Record). body_text (take count l)) (sym received_waiting) in
@@ -204,6 +206,8 @@ module _ {D : Type 0} (state : D → DiskState) (first : ℕ) (old : FlusherValu
         body = omega arith;
         number = omega arith;
         store = omega arith;
+        old = ⊎_elim (λ told. inl (before.marked told))
+            (λ all. inr (subst (λ (l : List Record). AreOld (take count l)) (sym received_waiting) all)) follow;
       }
 
   received_disk : (received w more rest).disk ≡ state log.disk
@@ -239,7 +243,7 @@ module _ {D : Type 0} (device : Device D) (old new : FlusherValue) (log log' : L
   can : CanWrite u k
   unfolding u
   can = received_can device.state (base new.first_guest) old log w turn.more rest before k turn.flushed.commits.batch
-      turn.flushed.commits.committed.within_limits turn.few
+      turn.flushed.commits.committed.within_limits turn.few turn.flushed.commits.old
 
   reaches_u : Reaches w u
   unfolding u
@@ -334,6 +338,11 @@ module _ {D : Type 0} (device : Device D) (old new : FlusherValue) (log log' : L
       turn.flushed.commits.committed.kept (stored_bodies w) is_honest before.keeps in
       record { settled = h.settled; gate = h.gate; segments = h.segments }
 
+  x_marked : HoldsMark log' (stored_bodies w ++ next_body (old.waiting ++ turn.more) k ∷ [])
+  x_marked told =
+      let same : log'.marked ≡ log.marked = ap (λ (l : LogValue D). l.marked) turn.flushed.commits.committed.log in
+      Contains-append_left (stored_bodies w) (next_body (old.waiting ++ turn.more) k ∷ []) mark (before.marked (sym same ∙ told))
+
   -- and then all counts are published
   told_all : (y : World) → HasPublished w.guests x y → ComesTo (StandsFor device.state (base new.first_guest) new log') w rest
   told_all y h =
@@ -369,6 +378,7 @@ module _ {D : Type 0} (device : Device D) (old new : FlusherValue) (log log' : L
           };
           hand = hand;
           keeps = subst (Keeps device.state log') (sym (ap stored_bodies h.same ∙ x_stored)) x_keeps;
+          marked = subst (HoldsMark log') (sym (ap stored_bodies h.same ∙ x_stored)) x_marked;
         };
         queue = ap (λ (v : World). v.queue) h.same ∙ same_x.left;
         recorders = ap (λ (v : World). v.recorders) h.same ∙ same_x.recorders;
@@ -403,7 +413,7 @@ module _ {D : Type 0} (device : Device D) (old new : FlusherValue) (log log' : L
       let v = received w turn.more rest in
       let stands = before.stands in
       let can = received_can device.state (base new.first_guest) old log w turn.more rest before count turn.refused.batch
-      turn.refused.stopped.within_limits turn.few in
+      turn.refused.stopped.within_limits turn.few turn.refused.old in
       let calls = received_calls device.state (base new.first_guest) old log w turn.more rest before count in
       let disk : v.disk ≡ device.state log.disk = received_disk device.state (base new.first_guest) old log w turn.more rest before in
       let stopped : IsStopped v.disk (commit_calls (gate_place v) (length (stored_bodies v)) (body_text (take count v.flusher.waiting)))

@@ -1,15 +1,16 @@
 -- What the flusher's seat and its log are in the world of a recording.
-use Rattle.std.specs.Prelude.{◌≡◌, ℕ, ◌+◌, ◌<◌, ◌≤◌, true, List, [], ◌∷◌, ◌++◌, map, slice_index}
+use Rattle.std.specs.Prelude.{◌≡◌, ℕ, ◌+◌, ◌<◌, ◌≤◌, true, List, [], ◌∷◌, ◌++◌, map, slice_index, Contains}
 use Rattle.std.specs.List.{range_with_len}
 use Rattle.rrv_model.specs.declared.record.Record.{Record}
+use Rattle.rrv_model.specs.Recovered.{mark}
 use Rattle.store_model.specs.CrashModel.{DiskState}
 use Rattle.trace_disk.specs.Devices.{Device}
-use Rattle.trace_log.specs.Kept.{Keeps, LogValue}
+use Rattle.trace_log.specs.Kept.{HoldsMark, Keeps, LogValue}
 use Rattle.commit_core.specs.World.{World, Stage, joined, committed_count, stored_bodies}
 use Rattle.commit_core.specs.World.Stage.{Idle, Broken}
 use Rattle.commit_core.specs.Events.{Event, CanWrite, IsSchedule, left_place, run}
 use Rattle.commit_core.specs.Events.Event.{Pop, Halt, LookLeft}
-use Rattle.commit_group.specs.declared.fault.FlushFault.TheVariants.{DeviceFailed, Halted, TooLong, Memory}
+use Rattle.commit_group.specs.declared.fault.FlushFault.TheVariants.{DeviceFailed, Halted, TooLong, NeedsMark, Memory}
 use Rattle.commit_group.specs.Numbers.{base}
 use Rattle.commit_group.specs.Seats.{FlusherValue}
 use Rattle.commit_group.specs.Turns.{AllCommitted, RefusesTurn, TurnCommits, TurnFindsNone, TurnRefused}
@@ -28,12 +29,13 @@ pub record StandsAt {D : Type 0} (state : D → DiskState) (stage : Stage) (firs
   pub stage_is : w.flusher.stage ≡ stage
   pub disk : w.disk ≡ state log.disk
 
--- between two turns: nothing is in hand, and the log keeps the world's bodies
+-- Between two turns: nothing is in hand, and the log keeps the world's bodies. If it is told to hold the Mark, they do.
 pub record StandsFor {D : Type 0} (state : D → DiskState) (first : ℕ)
     (f : FlusherValue) (log : LogValue D) (w : World) : Type 0 where
   pub stands : StandsAt state Idle first f log w
   pub hand : w.flusher.hand ≡ []
   pub keeps : Keeps state log (stored_bodies w)
+  pub marked : HoldsMark log (stored_bodies w)
 
 -- by events of a schedule
 pub record Reaches (w w' : World) : Type 0 where
@@ -102,6 +104,16 @@ LimitsAreEvents {D = D} device =
     → StandsFor device.state (base new.first_guest) old log w → w.queue ≡ turn.more ++ rest
     → ComesBy (pops turn.more rest ++ Halt ∷ [])
     (λ end. StandsFor device.state (base new.first_guest) new log' end × (CanWrite end turn.refused.count → ⊥)) w rest
+
+-- One whose batch needs the Mark received, and halted; no more may that batch be written in a world without the Mark.
+abbrev pub UnmarkedTurnsAreEvents : {D : Type 0} → Device D → Type 0
+UnmarkedTurnsAreEvents {D = D} device =
+    (old new : FlusherValue) (log log' : LogValue D) (w : World) (rest : List Record)
+    → (turn : TurnRefused device old new log log' NeedsMark)
+    → StandsFor device.state (base new.first_guest) old log w → w.queue ≡ turn.more ++ rest
+    → ComesBy (pops turn.more rest ++ Halt ∷ [])
+    (λ end. StandsFor device.state (base new.first_guest) new log' end
+    × ((Contains (stored_bodies end) mark → ⊥) → CanWrite end turn.refused.count → ⊥)) w rest
 
 -- One of a group that was halted earlier did nothing: the flusher of the world has halted, and all stands as it stood.
 abbrev pub HaltedTurnsAreNoEvents : {D : Type 0} → Device D → Type 0

@@ -4,6 +4,9 @@
 //! The words of a group of n guests: 0 to n - 1 are the durable counts, n the halt word, and from n + 1 on stands one more than
 //! a guest sent once it has left, else 0.
 //!
+//! The Mark is a body that says that guests of version 2 may stand behind it: their records are committed only to a log that
+//! holds it. A group doesn't commit the Mark.
+//!
 //! Tests: group_tests.
 //!
 //! # Contracts
@@ -21,20 +24,22 @@
 //! - `turn`: receives records, of which at most 64 then wait, commits the first of them to the log, as many as fit into a body
 //!   of 8,388,608 bytes, and publishes each guest's count. What it returns says what changed in the seat and in the log:
 //!   - `Committed(n)`: the log has gained one body, the text of the first n records that waited, and n is as great as the body
-//!     allows. What is recovered from the log grows by just these n. The log's next guest is raised past theirs. All counts
-//!     that are published are those of committed records.
+//!     allows. The log holds the Mark, or each of these may stand before it. What is recovered from the log grows by just
+//!     these n. The log's next guest is raised past theirs. All counts that are published are those of committed records.
 //!   - `Idle`, `Done`: no record waits, and the log is as before. Leave words were loaded from guest 0 on. The last that was
 //!     loaded is the first that isn't one more than what is committed of its guest; if there is none, all were loaded. `Done`
 //!     comes only if all have left and all that they sent is committed, and `Idle` only if the leave words that were loaded
 //!     don't say so.
 //!   - `DeviceFailed`: one of the commit's calls failed, none was made after it, and the group is halted. `TooLong`: nothing
-//!     was written, since the store would pass a limit, and the group is halted. `Memory`: nothing was written. In all three
-//!     what was received waits.
+//!     was written, since the store would pass a limit, and the group is halted. `NeedsMark`: nothing was written, since
+//!     a record of the batch may stand behind the Mark alone and the log holds none, and the group is halted. `Memory`:
+//!     nothing was written. In all four what was received waits.
 //!   - `Halted`: the group was halted earlier, and nothing changed.
 //!   - A crash at any moment of a turn leaves the bodies that the log had, or these and the next.
 //! - `publish`, `look_left`, `halt`: the flusher's words. A published count is that of the records that the flusher counted as
 //!   committed.
-//! - `waits_in_order`: a law. With the first ones of what waits in one body more, they are recovered after what is committed.
+//! - `waits_in_order`: a law. With the first ones of what waits in one body more, they are recovered after what is
+//!   committed, where the Mark is one of the bodies before, or each of them may stand before it.
 //! - `end`: what each recorder sent and saw, and how many of its records were committed; seen is at most committed, and
 //!   committed at most sent. What is committed is the first of what was sent, also with what waits after it.
 //! - `turns_are_events`, by the answer of a turn. Let seat and log stand for the flusher of a world of `commit_core`, before a turn
@@ -43,6 +48,8 @@
 //!   - The same of a turn that a failed call of the disk stopped. The flusher is then at its broken stage and has halted.
 //!   - One that returns `Memory` is just the receiving of its records. The seat and the log stand for the flusher after it.
 //!   - One that returns `TooLong` receives its records and halts. The refused batch may not be written in that world either.
+//!   - So does one that returns `NeedsMark`. The refused batch may not be written in that world if its bodies don't have the
+//!     Mark.
 //!   - One that returns `Halted` is no event. The world's flusher has halted, and all stands as before.
 //!   - One that returns `Idle` or `Done` looks at leave words, one guest after another, and the totals of the seat are then the
 //!     world's. After `Done` all guests were looked at, and each word is one more than what is committed. After `Idle` that isn't

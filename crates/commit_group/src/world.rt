@@ -1,7 +1,7 @@
 //! What the calls of a group are in the world of a recording.
 
 ghost use Rattle.commit_group.specs.Steps.{FlusherCallsAreEvents, RecorderCallsAreEvents};
-ghost use Rattle.commit_group.specs.Worlds.{FailuresAreEvents, HaltedTurnsAreNoEvents, IdleTurnsAreEvents, LastTurnsAreEvents, LimitsAreEvents, ShortagesAreEvents, TurnsAreEvents};
+ghost use Rattle.commit_group.specs.Worlds.{FailuresAreEvents, HaltedTurnsAreNoEvents, IdleTurnsAreEvents, LastTurnsAreEvents, LimitsAreEvents, ShortagesAreEvents, TurnsAreEvents, UnmarkedTurnsAreEvents};
 
 use trace_disk::Disk;
 
@@ -11,9 +11,11 @@ pub fn turns_are_events<D: Disk>()
     ensures commits { TurnsAreEvents D.Disk }
     ensures fails { FailuresAreEvents D.Disk }
 
-    // One that found no memory only received. One whose records would have passed a limit of the store received, and halted.
+    // One that found no memory only received. One whose records would have passed a limit of the store received, and
+    // halted, and so did one whose records need the Mark.
     ensures shortage { ShortagesAreEvents D.Disk }
     ensures limit { LimitsAreEvents D.Disk }
+    ensures unmarked { UnmarkedTurnsAreEvents D.Disk }
 
     // One of a group that was halted earlier did nothing.
     ensures halted { HaltedTurnsAreNoEvents D.Disk }

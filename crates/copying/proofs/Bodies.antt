@@ -1,5 +1,5 @@
 -- Bodies of copies, record by record.
-use Rattle.std.proofs.Common.{◌≡◌, ℕ, ◌+◌, ◌<◌, ◌≤◌, List, [], ◌∷◌, ◌++◌, length, take, drop, refl, sym, ◌∙◌, ap, subst, arith, length-append}
+use Rattle.std.proofs.Common.{◌≡◌, ℕ, ◌+◌, ◌<◌, ◌≤◌, Bool, false, List, [], ◌∷◌, ◌++◌, length, take, drop, refl, sym, ◌∙◌, ap, subst, arith, length-append}
 use Rattle.std.proofs.lemmas.List.{append-nil}
 use mathlib.Core.Logic.{dite}
 use native.Mathlib.Decide.{dec_le}
@@ -8,7 +8,7 @@ use Rattle.store_model.specs.declared.limits.TheConstants.{MAX_BODY}
 use Rattle.rrv_model.specs.declared.limits.TheConstants.{BATCH_ITEMS}
 use Rattle.rrv_model.specs.declared.record.Record.{Record}
 use Rattle.rrv_model.specs.RecordText.{record_text, HasText}
-use Rattle.rrv_model.specs.Recovered.{body_text, of_guest}
+use Rattle.rrv_model.specs.Recovered.{body_text, of_guest, IsOld}
 use Rattle.rrv_model.proofs.RecoveredLaws.{some_text, text_append}
 use Rattle.rrv_model.proofs.TextSizes.{text_fits}
 use Rattle.recover.specs.declared.spot.Spot.{Spot}
@@ -19,13 +19,13 @@ use Rattle.copying.specs.Reading.{IsNextBody, IsReadAs}
 use Rattle.copying.proofs.Numbered.{copies_append, copies_none, copies_one, take_next}
 
 -- The text of so many records, as `IsNextBody` has it. There may be none.
-pub record HasRead {S : Type 0} (device : Device S) (source : S) (spots : List Spot) (guest from number : ℕ)
+pub record HasRead {S : Type 0} (device : Device S) (source : S) (spots : List Spot) (guest from number : ℕ) (marked : Bool)
     (body : List ℕ) (count : ℕ) : Type 0 where
   pub batch : List Record
   pub count_is : length batch ≡ count
   pub body_is : body ≡ body_text batch
   pub fits : length body ≤ MAX_BODY
-  pub are : AreCopies number from batch
+  pub are : AreCopies marked number from batch
   pub read : StandOn device.honest device.state source spots → batch ≡ take count (drop from (copies_of number guest spots))
 
 -- none of the records that were read, and yet there is no room for the next: that can't be
@@ -64,39 +64,40 @@ module _ {S : Type 0} (device : Device S) where
 
   -- ---- a body
 
-  pub read_none : (source : S) (spots : List Spot) (guest from number : ℕ) (body : List ℕ) → body ≡ [] →
-      HasRead device source spots guest from number body 0
-  read_none source spots guest from number body is = record {
+  pub read_none : (source : S) (spots : List Spot) (guest from number : ℕ) (marked : Bool) (body : List ℕ) → body ≡ [] →
+      HasRead device source spots guest from number marked body 0
+  read_none source spots guest from number marked body is = record {
     batch = [];
     count_is = refl;
     body_is = is;
     fits = (let e : length body ≡ 0 = ap length is in omega arith);
-    are = copies_none number from;
+    are = copies_none marked number from;
     read = λ on. refl;
   }
 
   -- the next record is added
-  pub read_more : (source now : S) (spots : List Spot) (guest from number : ℕ) (old new : List ℕ) (count : ℕ) (r : Record)
-      → HasRead device source spots guest from number old count → IsOnlyRead device source now
-      → IsReadAs device now spots guest (from + count) number r → new ≡ old ++ record_text r → length new ≤ MAX_BODY
-      → HasRead device source spots guest from number new (count + 1)
-  read_more source now spots guest from number old new count r h only is longer fits = record {
+  pub read_more : (source now : S) (spots : List Spot) (guest from number : ℕ) (marked : Bool) (first new : List ℕ) (count : ℕ) (r : Record)
+      → HasRead device source spots guest from number marked first count → IsOnlyRead device source now
+      → IsReadAs device now spots guest (from + count) number r → (marked ≡ false → IsOld r.item) → new ≡ first ++ record_text r →
+      length new ≤ MAX_BODY
+      → HasRead device source spots guest from number marked new (count + 1)
+  read_more source now spots guest from number marked first new count r h only is old longer fits = record {
     batch = h.batch ++ r ∷ [];
     count_is = (let e = h.count_is in omega (arith, length-append h.batch (r ∷ [])));
     body_is = longer ∙ ap (λ (l : List ℕ). l ++ record_text r) h.body_is
         ∙ sym (text_append h.batch (r ∷ []) ∙ ap (λ (l : List ℕ). body_text h.batch ++ l) (append-nil (record_text r)));
     fits = fits;
     are = copies_append number from (from + count) h.batch (r ∷ []) h.are (ap (λ (n : ℕ). from + n) (sym h.count_is))
-        (copies_one number (from + count) r is.guest_is is.index_is is.opens is.text);
+        (copies_one marked number (from + count) r is.guest_is is.index_is is.opens is.text old);
     read = λ on. ap (λ (l : List Record). l ++ r ∷ []) (h.read on)
         ∙ sym (take_next (copies_of number guest spots) from count r (is.read (still_on source now spots only on)));
   }
 
   -- that is all, of some
-  pub next_body : (source : S) (spots : List Spot) (guest from number : ℕ) (body : List ℕ) (count : ℕ) →
-      HasRead device source spots guest from number body count → 1 ≤ count → count ≤ BATCH_ITEMS
-      → from + count ≤ length (of_guest guest (records_of spots)) → IsNextBody device source spots guest from number body count
-  next_body source spots guest from number body count h some few within = record {
+  pub next_body : (source : S) (spots : List Spot) (guest from number : ℕ) (marked : Bool) (body : List ℕ) (count : ℕ) →
+      HasRead device source spots guest from number marked body count → 1 ≤ count → count ≤ BATCH_ITEMS
+      → from + count ≤ length (of_guest guest (records_of spots)) → IsNextBody device source spots guest from number marked body count
+  next_body source spots guest from number marked body count h some few within = record {
     batch = h.batch;
     some = some;
     few = few;
@@ -109,13 +110,13 @@ module _ {S : Type 0} (device : Device S) where
   }
 
   -- the next record doesn't fit: there is one before it
-  pub some_before : (source : S) (spots : List Spot) (guest from number : ℕ) (body : List ℕ) (count : ℕ) (r : Record) →
-      HasRead device source spots guest from number body count → HasText r → MAX_BODY < length (body ++ record_text r) → 1 ≤ count
-  some_before source spots guest from number body count r h has past = dite (dec_le 1 count) (λ some. some)
+  pub some_before : (source : S) (spots : List Spot) (guest from number : ℕ) (marked : Bool) (body : List ℕ) (count : ℕ) (r : Record) →
+      HasRead device source spots guest from number marked body count → HasText r → MAX_BODY < length (body ++ record_text r) → 1 ≤ count
+  some_before source spots guest from number marked body count r h has past = dite (dec_le 1 count) (λ some. some)
       (λ no. absurd (no_first h.batch body r (let e = h.count_is in omega arith) h.body_is has past))
 
   -- and the body isn't empty
-  pub some_of_body : (source : S) (spots : List Spot) (guest from number : ℕ) (body : List ℕ) (count : ℕ) →
-      IsNextBody device source spots guest from number body count → 1 ≤ length body
-  some_of_body source spots guest from number body count b =
+  pub some_of_body : (source : S) (spots : List Spot) (guest from number : ℕ) (marked : Bool) (body : List ℕ) (count : ℕ) →
+      IsNextBody device source spots guest from number marked body count → 1 ≤ length body
+  some_of_body source spots guest from number marked body count b =
       some_text_of b.batch body (let p = b.some in let q = b.count_is in omega arith) b.body_is

@@ -1,5 +1,5 @@
 -- How a copy gets on, and how it ends.
-use Rattle.std.proofs.Common.{◌≡◌, ℕ, ◌+◌, ◌≤◌, List, [], ◌++◌, length, take, drop, Result, Ok, Err, true, false, refl, sym, ◌∙◌, ap, subst, arith, length-append, take-add}
+use Rattle.std.proofs.Common.{◌≡◌, ℕ, ◌+◌, ◌≤◌, Bool, List, [], ◌++◌, length, take, drop, Result, Ok, Err, true, false, refl, sym, ◌∙◌, ap, subst, arith, length-append, take-add}
 use Rattle.std.specs.Prelude.{◌↔◌}
 use Rattle.std.proofs.lemmas.List.{append-nil, length-map, take-append-drop, take_all}
 use Rattle.store_model.specs.declared.limits.TheConstants.{MAX_BODY}
@@ -29,7 +29,8 @@ pub record Grows {D : Type 0} (device : Device D) (log log' : LogValue D) (earli
 pub record HasCopiedUpTo {S D : Type 0} (source_device : Device S) (device : Device D) (spots : List Spot) (guest number : ℕ)
     (source : S) (log log' : LogValue D) (next : ℕ) : Type 0 where
   pub read : List Record
-  pub are : AreCopies number 0 read
+  pub are : AreCopies log.marked number 0 read
+  pub marked : log'.marked ≡ log.marked
   pub many : length read ≡ next
   pub first : StandOn source_device.honest source_device.state source spots → read ≡ take next (copies_of number guest spots)
   pub grows : (earlier : List Record) → next_guest earlier ≤ number → KeepsRecords device log earlier
@@ -47,6 +48,7 @@ kept_unless_broken {D = D} log log' body faults.DeviceFailed refused whole =
     true_is_not_false : true ≡ false → ⊥
     true_is_not_false e = cc
 kept_unless_broken {D = D} log log' body faults.StoreFull refused whole = refused.0
+kept_unless_broken {D = D} log log' body faults.NeedsMark refused whole = absurd refused
 kept_unless_broken {D = D} log log' body faults.TooManyGuests refused whole = absurd refused
 kept_unless_broken {D = D} log log' body faults.Memory refused whole = refused.0
 
@@ -65,7 +67,8 @@ module _ {S D : Type 0} (source_device : Device S) (device : Device D) (spots : 
   pub copied_none : HasCopiedUpTo source_device device spots guest number source log log 0
   copied_none = record {
     read = [];
-    are = copies_none number 0;
+    are = copies_none log.marked number 0;
+    marked = refl;
     many = refl;
     first = λ on. refl;
     grows = λ earlier below k. let all : KeepsRecords device log (earlier ++ []) =
@@ -78,9 +81,13 @@ module _ {S D : Type 0} (source_device : Device S) (device : Device D) (spots : 
   -- those that were read, and one body of them more
   module _ (mid log' : LogValue D) (now : S) (body : List ℕ) (next count : ℕ)
       (h : HasCopiedUpTo source_device device spots guest number source log mid next) (only : IsOnlyRead source_device source now)
-      (b : IsNextBody source_device now spots guest next number body count) where
-    more_are : AreCopies number 0 (h.read ++ b.batch)
+      (b : IsNextBody source_device now spots guest next number log.marked body count) where
+    more_are : AreCopies log.marked number 0 (h.read ++ b.batch)
     more_are = copies_append number 0 next h.read b.batch h.are (let e = h.many in omega arith) b.are
+
+    -- for the log that they are committed to, too
+    more_are_here : AreCopies mid.marked number 0 (h.read ++ b.batch)
+    more_are_here = subst (λ (m : Bool). AreCopies m number 0 (h.read ++ b.batch)) (sym h.marked) more_are
 
     more_many : length (h.read ++ b.batch) ≡ next + count
     more_many = let p = h.many in let q = b.count_is in omega (arith, length-append h.read b.batch)
@@ -102,7 +109,7 @@ module _ {S D : Type 0} (source_device : Device S) (device : Device D) (spots : 
     more_moments_of T result commits earlier below k =
         let g = h.grows earlier below k in
         moments_both device log mid log' earlier h.read (h.read ++ b.batch) (begins_with h.read b.batch) g.any_moment
-        (more_moments device mid log' body earlier h.read b.batch number below more_are b.body_is some_more g.keeps commits.any_moment)
+        (more_moments device mid log' body earlier h.read b.batch number below more_are_here b.body_is some_more g.keeps commits.any_moment)
 
     -- it is committed
     pub copied_more : (T : Type 0) (x : T) → CommitsBody device (Ok x) mid log' body → (device.honest log'.disk ↔ device.honest mid.disk)
@@ -111,10 +118,11 @@ module _ {S D : Type 0} (source_device : Device S) (device : Device D) (spots : 
     copied_more T x commits honest room = record {
       read = h.read ++ b.batch;
       are = more_are;
+      marked = ap (λ (l : LogValue D). l.marked) commits.committed.log ∙ h.marked;
       many = more_many;
       first = more_first;
       grows = λ earlier below k. let g = h.grows earlier below k in record {
-        keeps = keeps_more device mid log' body earlier h.read b.batch number below more_are b.body_is some_more room commits.committed
+        keeps = keeps_more device mid log' body earlier h.read b.batch number below more_are_here b.body_is some_more room commits.committed
             honest g.keeps;
         any_moment = more_moments_of T (Ok x) commits earlier below k;
       };

@@ -1,6 +1,8 @@
 -- How a log gets copies, body by body, and what a crash leaves of it meanwhile.
-use Rattle.std.proofs.Common.{◌≡◌, inl, inr, ℕ, ◌+◌, ◌≤◌, List, [], ◌∷◌, ◌++◌, length, refl, sym, ◌∙◌, ap, subst, arith, append_assoc}
-use Rattle.std.specs.Prelude.{◌↔◌}
+use Rattle.std.proofs.Common.{◌≡◌, inl, inr, ℕ, ◌+◌, ◌≤◌, Bool, true, false, List, [], ◌∷◌, ◌++◌, length, refl, sym, ◌∙◌, ap, subst, arith, append_assoc}
+use Rattle.std.specs.Prelude.{◌↔◌, Contains}
+use Rattle.std.specs.List.{AllByRecursion}
+use Rattle.std.proofs.lemmas.List.Elements.{Contains-append_left}
 use Rattle.std.proofs.lemmas.List.{append-nil}
 use Rattle.outcomes.proofs.Lists.{AllByRecursion-back}
 use Rattle.store_model.specs.CrashModel.{DiskState, Leaves, LeavesOnly}
@@ -8,8 +10,8 @@ use Rattle.store_model.specs.Settled.{IsBeforeOrAfter, IsClosed, IsSettled}
 use Rattle.store_model.proofs.CrashLaws.{crash_synced, leaves_both, leaves_weaker, started}
 use Rattle.rrv_model.specs.declared.record.Record.{Record}
 use Rattle.rrv_model.specs.RecordText.{HasText}
-use Rattle.rrv_model.specs.Recovered.{body_text, next_guest, AreInOrder, IsBodyText, IsRecovered}
-use Rattle.rrv_model.proofs.RecoveredLaws.{in_order_front, recovered_push}
+use Rattle.rrv_model.specs.Recovered.{body_text, mark, next_guest, AreInOrder, IsBodyText, IsOld, IsRecovered, MayFollow}
+use Rattle.rrv_model.proofs.RecoveredLaws.{in_order_front, recovered_more}
 use Rattle.trace_disk.specs.Devices.{Device}
 use Rattle.trace_log.specs.Committed.{HasCommitted}
 use Rattle.trace_log.specs.Kept.{Keeps, LogValue}
@@ -35,18 +37,27 @@ begins_longer first middle all p q = record {
 
 -- ---- what is recovered
 
+-- records may follow where the Mark is there, or all are old
+may_follow : (marked : Bool) (bodies : List (List ℕ)) (batch : List Record) → (marked ≡ true → Contains bodies mark) →
+    (marked ≡ false → AllByRecursion (λ r. IsOld r.item) batch) → MayFollow bodies batch
+may_follow true bodies batch there old = inl (there refl)
+may_follow false bodies batch there old = inr (old refl)
+
 -- with the text of more copies
-pub recovers_more : (bodies : List (List ℕ)) (body : List ℕ) (earlier read batch : List Record) (number : ℕ) →
-    next_guest earlier ≤ number → AreCopies number 0 (read ++ batch) → body ≡ body_text batch → 1 ≤ length batch
-    → IsRecovered bodies (earlier ++ read) → IsRecovered (bodies ++ body ∷ []) (earlier ++ (read ++ batch))
-recovers_more bodies body earlier read batch number below are spelled some old =
+pub recovers_more : (marked : Bool) (bodies : List (List ℕ)) (body : List ℕ) (earlier read batch : List Record) (number : ℕ) →
+    next_guest earlier ≤ number → AreCopies marked number 0 (read ++ batch) → body ≡ body_text batch → 1 ≤ length batch
+    → (marked ≡ true → Contains bodies mark) → IsRecovered bodies (earlier ++ read)
+    → IsRecovered (bodies ++ body ∷ []) (earlier ++ (read ++ batch))
+recovers_more marked bodies body earlier read batch number below are spelled some there old =
     let assoc : (earlier ++ read) ++ batch ≡ earlier ++ (read ++ batch) = append_assoc earlier read batch in
     let order : AreInOrder (earlier ++ (read ++ batch)) =
     copies_in_order earlier (read ++ batch) number below (in_order_front earlier read old.in_order) are in
     let is_text : IsBodyText body batch =
     record { some = some; each = AllByRecursion-back HasText read batch are.texts; spelled = spelled } in
     subst (λ (l : List Record). IsRecovered (bodies ++ body ∷ []) l) assoc
-    (recovered_push bodies body (earlier ++ read) batch old is_text (subst AreInOrder (sym assoc) order))
+    (recovered_more bodies body (earlier ++ read) batch old is_text
+    (may_follow marked bodies batch there (λ unmarked. AllByRecursion-back (λ (r : Record). IsOld r.item) read batch (are.old unmarked)))
+    (subst AreInOrder (sym assoc) order))
 
 -- ---- what a crash leaves
 
@@ -125,7 +136,7 @@ module _ {D : Type 0} (device : Device D) where
 
   -- and while one body more is committed
   pub more_moments : (log log' : LogValue D) (body : List ℕ) (earlier read batch : List Record) (number : ℕ) →
-      next_guest earlier ≤ number → AreCopies number 0 (read ++ batch) → body ≡ body_text batch → 1 ≤ length batch
+      next_guest earlier ≤ number → AreCopies log.marked number 0 (read ++ batch) → body ≡ body_text batch → 1 ≤ length batch
       → KeepsRecords device log (earlier ++ read)
       → ((bodies : List (List ℕ)) → device.honest log.disk → Keeps device.state log bodies
       → LeavesOnly (device.state log.disk) (device.state log'.disk) (IsBeforeOrAfter bodies body))
@@ -134,7 +145,7 @@ module _ {D : Type 0} (device : Device D) where
       leaves_weaker (device.state log.disk) (device.state log'.disk) (IsBeforeOrAfter k.bodies body)
       (HoldsBeginning earlier (read ++ batch))
       (λ bytes either. holds_more k.bodies body earlier read batch bytes k.recovered
-      (recovers_more k.bodies body earlier read batch number below are spelled some k.recovered) either)
+      (recovers_more log.marked k.bodies body earlier read batch number below are spelled some k.marked k.recovered) either)
       (moments k.bodies k.is_honest k.keeps)
 
   -- one after the other
@@ -151,7 +162,7 @@ module _ {D : Type 0} (device : Device D) where
 
   -- one body more is committed
   pub keeps_more : (log log' : LogValue D) (body : List ℕ) (earlier read batch : List Record) (number : ℕ) →
-      next_guest earlier ≤ number → AreCopies number 0 (read ++ batch) → body ≡ body_text batch → 1 ≤ length batch
+      next_guest earlier ≤ number → AreCopies log.marked number 0 (read ++ batch) → body ≡ body_text batch → 1 ≤ length batch
       → number + 1 ≤ log.next_guest → HasCommitted device log log' body → (device.honest log'.disk ↔ device.honest log.disk)
       → KeepsRecords device log (earlier ++ read) → KeepsRecords device log' (earlier ++ (read ++ batch))
   keeps_more log log' body earlier read batch number below are spelled some room committed honest k =
@@ -161,7 +172,9 @@ module _ {D : Type 0} (device : Device D) where
         bodies = k.bodies ++ body ∷ [];
         is_honest = honest.1 k.is_honest;
         keeps = committed.kept k.bodies k.is_honest k.keeps;
-        recovered = recovers_more k.bodies body earlier read batch number below are spelled some k.recovered;
+        marked = λ told. Contains-append_left k.bodies (body ∷ []) mark
+            (k.marked (sym (ap (λ (l : LogValue D). l.marked) committed.log) ∙ told));
+        recovered = recovers_more log.marked k.bodies body earlier read batch number below are spelled some k.marked k.recovered;
         above = omega (arith, low, room, next);
       }
 
@@ -173,6 +186,7 @@ module _ {D : Type 0} (device : Device D) where
         bodies = k.bodies;
         is_honest = k.is_honest;
         keeps = record { settled = k.keeps.settled; gate = k.keeps.gate; segments = k.keeps.segments };
+        marked = k.marked;
         recovered = k.recovered;
         above = (let e = k.above in omega arith);
       })

@@ -11,7 +11,7 @@ use Rattle.rrv_model.specs.declared.record.Item.{Item}
 use Rattle.rrv_model.specs.declared.record.Record.{Record}
 use Rattle.rrv_model.specs.RecordText.{HasText}
 use Rattle.rrv_model.specs.Recording.{items_of, IsNumbered, IsRecording, Starts}
-use Rattle.rrv_model.specs.Recovered.{next_guest, of_guest, AreInOrder, OpensAtZero}
+use Rattle.rrv_model.specs.Recovered.{IsOld, next_guest, of_guest, AreInOrder, OpensAtZero}
 use Rattle.rrv_model.proofs.RecoveredLaws.{of_guest-append}
 use Rattle.copying.specs.Copied.{numbered, renumbered, AreCopies}
 
@@ -76,14 +76,15 @@ low_none (r ∷ rs) number le = elim (eqb_tells r.guest number) [
 ]
 
 -- after records of lower numbers, those of the number are the copies
-pub copied_are : (earlier copied : List Record) (number : ℕ) → next_guest earlier ≤ number → AreCopies number 0 copied →
+pub copied_are : {marked : Bool} (earlier copied : List Record) (number : ℕ) → next_guest earlier ≤ number →
+    AreCopies marked number 0 copied →
     of_guest number (earlier ++ copied) ≡ copied
 copied_are earlier copied number below are =
     of_guest-append number earlier copied ∙ ap (λ (l : List Record). l ++ of_guest number copied) (low_none earlier number below)
     ∙ own_all number 0 copied are.numbered
 
 -- and other guests have what they had
-pub others_are : (earlier copied : List Record) (number guest : ℕ) → guest ≢ number → AreCopies number 0 copied →
+pub others_are : {marked : Bool} (earlier copied : List Record) (number guest : ℕ) → guest ≢ number → AreCopies marked number 0 copied →
     of_guest guest (earlier ++ copied) ≡ of_guest guest earlier
 others_are earlier copied number guest other are =
     of_guest-append guest earlier copied
@@ -101,7 +102,8 @@ next_of_own number from [] h = omega arith
 next_of_own number from (r ∷ rs) h = let e = h.0 in let rest = next_of_own number (from + 1) rs h.2 in omega arith
 
 -- copies are below the number after theirs
-pub copies_low : (earlier copied : List Record) (number : ℕ) → next_guest earlier ≤ number → AreCopies number 0 copied →
+pub copies_low : {marked : Bool} (earlier copied : List Record) (number : ℕ) → next_guest earlier ≤ number →
+    AreCopies marked number 0 copied →
     next_guest (earlier ++ copied) ≤ number + 1
 copies_low earlier copied number below are =
     let own = next_of_own number 0 copied are.numbered in
@@ -118,24 +120,28 @@ numbered_append number from middle (x ∷ xs) ys h is k =
     (h.0, h.1, numbered_append number (from + 1) middle xs ys h.2 (omega (arith, is)) k)
 
 -- so many copies, and those after them
-pub copies_append : (number from middle : ℕ) (xs ys : List Record) → AreCopies number from xs → middle ≡ from + length xs →
-    AreCopies number middle ys → AreCopies number from (xs ++ ys)
+pub copies_append : {marked : Bool} (number from middle : ℕ) (xs ys : List Record) → AreCopies marked number from xs →
+    middle ≡ from + length xs →
+    AreCopies marked number middle ys → AreCopies marked number from (xs ++ ys)
 copies_append number from middle xs ys first is rest = record {
   numbered = numbered_append number from middle xs ys first.numbered is rest.numbered;
   opened = AllByRecursion-append OpensAtZero xs ys first.opened rest.opened;
   texts = AllByRecursion-append HasText xs ys first.texts rest.texts;
+  old = λ unmarked. AllByRecursion-append (λ (r : Record). IsOld r.item) xs ys (first.old unmarked) (rest.old unmarked);
 }
 
-pub copies_none : (number from : ℕ) → AreCopies number from []
-copies_none number from = record { numbered = tt; opened = tt; texts = tt }
+pub copies_none : (marked : Bool) (number from : ℕ) → AreCopies marked number from []
+copies_none marked number from = record { numbered = tt; opened = tt; texts = tt; old = λ _. tt }
 
-pub copies_one : (number from : ℕ) (r : Record) → r.guest ≡ number → r.index ≡ from → OpensAtZero r → HasText r →
-    AreCopies number from (r ∷ [])
-copies_one number from r guest index opens text = record { numbered = (guest, index, tt); opened = (opens, tt); texts = (text, tt) }
+pub copies_one : (marked : Bool) (number from : ℕ) (r : Record) → r.guest ≡ number → r.index ≡ from → OpensAtZero r → HasText r →
+    (marked ≡ false → IsOld r.item) →
+    AreCopies marked number from (r ∷ [])
+copies_one marked number from r guest index opens text old =
+    record { numbered = (guest, index, tt); opened = (opens, tt); texts = (text, tt); old = λ unmarked. (old unmarked, tt) }
 
 -- records in order, and then copies under a number above theirs
-pub copies_in_order : (earlier copied : List Record) (number : ℕ) → next_guest earlier ≤ number → AreInOrder earlier →
-    AreCopies number 0 copied → AreInOrder (earlier ++ copied)
+pub copies_in_order : {marked : Bool} (earlier copied : List Record) (number : ℕ) → next_guest earlier ≤ number → AreInOrder earlier →
+    AreCopies marked number 0 copied → AreInOrder (earlier ++ copied)
 copies_in_order earlier copied number below order are = record {
   numbered = λ guest. elim (eqb_tells guest number) [
     | inl same ↦ subst (λ (n : ℕ). IsNumbered n 0 (of_guest n (earlier ++ copied))) (sym same.1)

@@ -1,5 +1,5 @@
 -- What is copied of a guest, and what a copy does to the log that gets it.
-use Rattle.std.specs.Prelude.{◌≡◌, ◌⊎◌, ◌≤◌, ℕ, List, [], ◌∷◌, ◌++◌, length, map, Result, OnErr, OnOk, IfErr, true, false}
+use Rattle.std.specs.Prelude.{◌≡◌, ◌⊎◌, ◌≤◌, ℕ, Bool, List, [], ◌∷◌, ◌++◌, length, map, Result, OnErr, OnOk, IfErr, true, false}
 use Rattle.std.specs.List.{AllByRecursion}
 use Rattle.store_model.specs.declared.limits.TheConstants.{MAX_BODY}
 use Rattle.rrv_model.specs.declared.record.Record.{Record}
@@ -7,12 +7,12 @@ use Rattle.store_model.specs.CrashModel.{LeavesOnly}
 use Rattle.store_model.specs.Settled.{IsBefore, IsBeforeOrAfter, IsClosed}
 use Rattle.rrv_model.specs.RecordText.{HasText}
 use Rattle.rrv_model.specs.Recording.{IsNumbered}
-use Rattle.rrv_model.specs.Recovered.{next_guest, of_guest, IsRecovered, OpensAtZero}
+use Rattle.rrv_model.specs.Recovered.{next_guest, of_guest, AreOld, IsRecovered, OpensAtZero}
 use Rattle.recover.specs.declared.spot.Spot.{Spot}
 use Rattle.recover.specs.Spots.{records_of, StandOn}
 use Rattle.trace_disk.specs.Devices.{Device}
 use Rattle.trace_log.specs.Committed.{HasCommitted}
-use Rattle.trace_log.specs.Kept.{IsPastLimit, Keeps, LogValue}
+use Rattle.trace_log.specs.Kept.{HoldsMark, IsPastLimit, Keeps, LogValue}
 use Rattle.copying.specs.declared.fault.CopyFault.{CopyFault}
 use Rattle.copying.specs.declared.fault.CopyFault.TheVariants as faults
 
@@ -27,11 +27,13 @@ renumbered number records = map (numbered number) records
 abbrev pub copies_of : ℕ → ℕ → List Spot → List Record
 copies_of number guest spots = renumbered number (of_guest guest (records_of spots))
 
--- records of this number, by their indexes from this one on, with an opening at 0 alone; each has a text
-pub record AreCopies (number from : ℕ) (records : List Record) : Type 0 where
+-- records of this number, by their indexes from this one on, with an opening at 0 alone; each has a text; for a store that holds the Mark
+-- or doesn't
+pub record AreCopies (marked : Bool) (number from : ℕ) (records : List Record) : Type 0 where
   pub numbered : IsNumbered number from records
   pub opened : AllByRecursion OpensAtZero records
   pub texts : AllByRecursion HasText records
+  pub old : marked ≡ false → AreOld records
 
 -- the list begins with these records
 pub record IsBeginning (first all : List Record) : Type 0 where
@@ -40,11 +42,13 @@ pub record IsBeginning (first all : List Record) : Type 0 where
 
 -- ---- the log
 
--- The log keeps bodies from which these records are recovered, and its next number is above all of theirs.
+-- The log keeps bodies from which these records are recovered, the Mark among them if it says so, and its next number is above
+-- all of theirs.
 pub record KeepsRecords {D : Type 0} (device : Device D) (log : LogValue D) (records : List Record) : Type 0 where
   pub bodies : List (List ℕ)
   pub is_honest : device.honest log.disk
   pub keeps : Keeps device.state log bodies
+  pub marked : HoldsMark log bodies
   pub recovered : IsRecovered bodies records
   pub above : next_guest records ≤ log.next_guest
 
@@ -85,7 +89,7 @@ pub record Copies {D T E : Type 0} (device : Device D) (result : Result T E) (lo
 pub record HasCopied {S D T : Type 0} (source_device : Device S) (device : Device D) (result : Result T CopyFault)
     (spots : List Spot) (guest number : ℕ) (source : S) (log log' : LogValue D) : Type 0 where
   pub read : List Record
-  pub are : AreCopies number 0 read
+  pub are : AreCopies log.marked number 0 read
   pub first : StandOn source_device.honest source_device.state source spots
       → IsBeginning read (copies_of number guest spots)
   pub all : StandOn source_device.honest source_device.state source spots

@@ -3,6 +3,7 @@
 use crate::limits::QUANTUM;
 use crate::words::number_and_file;
 use recorder::MemSink;
+use rrv_model::machine::Version;
 use serial_sched::RoundRobin;
 use session::{Job, OpenGate, SessionReport, record_all};
 use std::alloc::Global;
@@ -35,6 +36,7 @@ fn jobs_of(
     let mut jobs = Vec::new(alloc);
     for _ in 0..guests {
         let job = Job {
+            version: Version::One,
             elf: Vec::from_slice(alloc, elf).ok()?,
             name: Vec::from_slice(alloc, b"g").ok()?,
             random: [0; 16],

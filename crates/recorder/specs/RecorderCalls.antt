@@ -66,6 +66,10 @@ RefusesSlice s choice slice_faults.Waiting = IsAsleep s
 RefusesSlice s choice slice_faults.NotTimed = ⊥
 RefusesSlice s choice slice_faults.Memory = ThreadMayTakeMemory s choice.tid × NextMayGrow s choice.tid
 
+-- no slice of this choice would be refused but for memory
+abbrev pub MaySlice : State → Choice → Type 0
+MaySlice s choice = (fault : SliceFault) → fault ≢ slice_faults.Memory → ¬ RefusesSlice s choice fault
+
 -- a frame's output: what its call kept, else nothing
 abbrev pub PutIs : End → Option Put → Put → Type 0
 PutIs end kept put =
@@ -145,6 +149,7 @@ pub record MakesFrame {O : Type 0} (gives : Gives O) (old : GuestRecorder) (choi
   pub middle : O
   pub asks : AsksNow gives old.deadlines asked before between
   pub step : IsStep gives old.guest choice frame new.guest (timed.due old.deadlines asked) between middle
+  pub may : timed.due old.deadlines asked ≡ None → MaySlice (state_of old.guest) choice
   pub notes : Notes gives frame.tid (state_of new.guest) old.deadlines (unwrap_or asked old.clock) new.deadlines new.clock
       middle after
   pub made_is : made new ≡ made old ++ frame_record old.seat.guest (length (made old)) frame ∷ []
@@ -194,37 +199,35 @@ pub record HasPlace (r : GuestRecorder) : Type 0 where
   pub all_sent : r.backlog ≡ []
   pub few : length r.seat.sent < MAX_NUMBER + 1
 
--- the clock was asked where some wait is timed, and no thread has come due
-pub record NoneIsDue {O : Type 0} (gives : Gives O) (r : GuestRecorder) (before after : O) : Type 0 where
+-- nobody was asked, and the clock's last answer stays
+abbrev pub AsksNobody : {O : Type 0} → GuestRecorder → (clock : ℕ) → O → O → Type 0
+AsksNobody r clock before after = (after ≡ before) × (clock ≡ r.clock)
+
+-- the clock was asked where some wait is timed, and its answer noted; no thread has come due
+pub record NoneIsDue {O : Type 0} (gives : Gives O) (r : GuestRecorder) (clock : ℕ) (before after : O) : Type 0 where
   pub asked : Option ℕ
   pub asks : AsksNow gives r.deadlines asked before after
   pub none : timed.due r.deadlines asked ≡ None
+  pub clock_is : clock ≡ unwrap_or asked r.clock
 
 -- so it is where a slice is refused; of a guest that has ended the clock isn't asked
-abbrev pub AsksRefusedSlice : {O : Type 0} → Gives O → GuestRecorder → O → O → SliceFault → Type 0
-AsksRefusedSlice gives r before after slice_faults.Ended = after ≡ before
-AsksRefusedSlice gives r before after _ = NoneIsDue gives r before after
+abbrev pub AsksRefusedSlice : {O : Type 0} → Gives O → GuestRecorder → (clock : ℕ) → O → O → SliceFault → Type 0
+AsksRefusedSlice gives r clock before after slice_faults.Ended = AsksNobody r clock before after
+AsksRefusedSlice gives r clock before after _ = NoneIsDue gives r clock before after
 
--- what a refused step asked of the clock: nothing where there was no place for its frame
-abbrev pub AsksRefused : {O : Type 0} → Gives O → GuestRecorder → O → O → RecorderFault → Type 0
-AsksRefused gives r before after faults.Full = after ≡ before
-AsksRefused gives r before after faults.TooManyRecords = after ≡ before
-AsksRefused gives r before after (faults.Refused fault) = AsksRefusedSlice gives r before after fault
-AsksRefused gives r before after _ = Unit {0}
+-- What a refused step asked of the clock, and its last answer then: nothing where there was no place for its frame.
+abbrev pub AsksRefused : {O : Type 0} → Gives O → GuestRecorder → Choice → (clock : ℕ) → O → O → RecorderFault → Type 0
+AsksRefused gives r choice clock before after faults.Full = AsksNobody r clock before after
+AsksRefused gives r choice clock before after faults.TooManyRecords = AsksNobody r clock before after
+AsksRefused gives r choice clock before after (faults.Refused fault) = AsksRefusedSlice gives r clock before after fault
+AsksRefused gives r choice clock before after faults.Memory = AsksNobody r clock before after
+    ⊎ (NoneIsDue gives r clock before after × RefusesSlice (state_of r.guest) choice slice_faults.Memory)
+AsksRefused gives r choice clock before after _ = Unit {0}
 
--- no slice of this choice would be refused but for memory
-abbrev pub MaySlice : State → Choice → Type 0
-MaySlice s choice = (fault : SliceFault) → fault ≢ slice_faults.Memory → ¬ RefusesSlice s choice fault
-
--- There was a place for a frame, in a guest that hasn't ended, and the slice of this choice isn't refused where no thread is
--- due.
-pub record MayStep {O : Type 0} (gives : Gives O) (r : GuestRecorder) (choice : Choice) (before : O) : Type 0 where
+-- there was a place for a frame, in a guest that hasn't ended
+pub record MayStep (r : GuestRecorder) : Type 0 where
   pub place : HasPlace r
   pub runs : (state_of r.guest).ended ≡ None
-  pub asked : Option ℕ
-  pub between : O
-  pub asks : AsksNow gives r.deadlines asked before between
-  pub slice : timed.due r.deadlines asked ≡ None → MaySlice (state_of r.guest) choice
 
 -- why no frame was made
 abbrev pub RefusesStep : GuestRecorder → Choice → RecorderFault → Type 0

@@ -191,6 +191,10 @@ fn keep_timed(deadlines: &mut Vec<(u32, u128)>, guest: &Guest)
 pub(crate) fn timeout_of(guest: &Guest, tid: u32) -> Option<Timeout>
     ensures { result ≡ timeout_of (thread_at (state_of guest.now) tid) }
 {
+    // A thread that runs isn't copied for this.
+    if guest.is_running(tid) {
+        return None;
+    }
     match guest.thread(tid) {
         Some(thread) => match thread.wait {
             Some(wait) => wait.timeout,

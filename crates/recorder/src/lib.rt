@@ -23,9 +23,9 @@
 //!   the lines that do. That `LeftOut` comes only for want of memory or of indexes is in no contract; a test sees the parts.
 //!   `Full` comes only if a record waits to be sent, `TooManyRecords` only at 4,294,967,295 of them, and what `slice` refuses
 //!   only if it does. After each of them what was made, the output that waits, the guest's state and the deadlines are as
-//!   before, and so is the environment, but for the clock's answer if a slice was refused: then no thread is due. `Memory`
-//!   leaves all as before too. That it comes before the clock is asked, or only from a slice while no thread is due, is in no
-//!   contract.
+//!   before, and so is the environment, but for the clock's answer if a slice was refused: then no thread is due, and the
+//!   clock's last answer is that. `Memory` leaves all as before too. It comes before the clock is asked, or from a slice while
+//!   no thread is due.
 //! - `send`: sends what waits, in order, until the queue is reported to be full (see `try_submit`). It looks for a halt, also
 //!   if nothing waits: `Halted` comes only if one was seen, and Ok only if none was.
 //! - `release`: what the sink took is, after what had left before, a beginning of the output of the records that are seen to be

@@ -34,7 +34,7 @@ behind_earlier guest earlier committed above =
 module _ {S D : Type 0} (choosers : Choosers Limit) (sinks : Sinks S) (device : Device D) (terms : Terms) where
   opening_is : (place number : ℕ) (file : List ℕ) (job : Job Limit Seen S) → IsJob terms place file job →
       opening_for number job ≡ opening_at terms place number file
-  opening_is place number file job is = λ i. opening_of number (is.file_is i) (is.name_is i) (is.random_is i)
+  opening_is place number file job is = λ i. opening_of number (is.version_is i) (is.file_is i) (is.name_is i) (is.random_is i)
 
   one_kept : (place number : ℕ) (file : List ℕ) (earlier committed : List Record) (job new : Job Limit Seen S) (report : GuestReport) →
       next_guest earlier ≤ number

@@ -1,11 +1,13 @@
 -- The jobs of a recording.
-use Rattle.std.specs.Prelude.{◌≡◌, ◌==◌, ℕ, false, zero, suc, ◌+◌, List, [], ◌∷◌, length, map, if◌then◌else◌, Option, Some, None, Vec, vec_items}
+use Rattle.std.specs.Prelude.{◌≡◌, ◌==◌, ℕ, Bool, true, false, zero, suc, ◌+◌, List, [], ◌∷◌, length, map, if◌then◌else◌, Option, Some, None, Vec, vec_items}
 use Rattle.std.specs.declared.alloc.Global.{Global}
 use Rattle.choices.specs.Schedule.{Plan, plan}
 use Rattle.command_line.specs.declared.request.Then.{Then}
 use Rattle.command_line.specs.declared.request.Then.TheVariants as thens
 use Rattle.host.specs.Seen.{Seen}
 use Rattle.host.specs.Stream.{opening_bytes}
+use Rattle.rrv_model.specs.declared.machine.Version.{Version}
+use Rattle.rrv_model.specs.declared.machine.Version.TheVariants.{One, Two}
 use Rattle.rrv_model.specs.declared.record.Choice.{Choice}
 use Rattle.session.specs.declared.job.Job.{Job}
 use Rattle.recording.specs.declared.shared.Shared.{Shared}
@@ -15,6 +17,7 @@ use Rattle.recording.specs.Names.{name_by}
 
 -- what the guests of a recording share
 pub record Terms : Type 0 where
+  pub version : Version
   pub input : List ℕ
   pub seed : List ℕ
   pub names : Names
@@ -29,6 +32,7 @@ lists_of choices = map vec_items choices
 
 abbrev pub terms_of : {R : Type 0} → Shared R → Terms
 terms_of shared = record {
+  version = shared.version;
   input = shared.input.now;
   seed = shared.seed;
   names = shared.names;
@@ -38,6 +42,11 @@ terms_of shared = record {
   after = shared.then;
   limit = shared.limit;
 }
+
+-- guests are of version 2 in a store that holds the Mark, and of version 1 in any other
+abbrev pub version_in : (marked : Bool) → Version
+version_in true = Two
+version_in false = One
 
 -- the list at a place, if there is one
 abbrev pub list_at : List (List Choice) → ℕ → List Choice
@@ -62,9 +71,10 @@ plan_at terms place = plan (choices_at terms.choices place) (turns_after terms.a
 abbrev pub limit_at : Terms → ℕ → Limit
 limit_at terms place = record { plan = plan_at terms place; limit = terms.limit; is_over = false }
 
--- The job of the program at this place of the line: its file, its name, its random bytes and its choices are those of the place,
+-- The job of the program at this place of the line: its version is that of all, its file, its name, its random bytes and its choices are those of the place,
 -- and it reads the input from its start.
 pub record IsJob {S : Type 0} (terms : Terms) (place : ℕ) (file : List ℕ) (job : Job Limit Seen S) : Type 0 where
+  pub version_is : job.version ≡ terms.version
   pub file_is : vec_items job.elf ≡ file
   pub name_is : vec_items job.name ≡ name_by terms.names place
   pub random_is : job.random ≡ opening_bytes terms.seed place

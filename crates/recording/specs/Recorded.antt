@@ -14,7 +14,7 @@ use Rattle.recording.specs.Names.{name_by}
 
 -- the opening of the program at a place of the line, as the guest of this number
 abbrev pub opening_at : Terms → ℕ → ℕ → List ℕ → Record
-opening_at terms place number file = opening_of number file (name_by terms.names place) (opening_bytes terms.seed place)
+opening_at terms place number file = opening_of number terms.version file (name_by terms.names place) (opening_bytes terms.seed place)
 
 -- Of the program at this place of the line, the records under this number are a recording that begins with its opening, and the
 -- report says how many there are, and the end of the state that they end in.

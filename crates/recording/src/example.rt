@@ -6,6 +6,7 @@ use crate::programs::record_images;
 use crate::shared::Shared;
 use command_line::Then;
 use elf_load::Image;
+use rrv_model::machine::Version;
 use std::alloc::Global;
 use std::io::Write;
 use std::sync::Wait;
@@ -40,6 +41,7 @@ pub fn record_example<
     };
     let shared = Shared {
         rt,
+        version: Version::One,
         start,
         input: &[],
         seed: [0; 16],

@@ -85,6 +85,7 @@ fn job_of<'a, 's, R: Clock, O: Write + Drop, E: Write + Drop>(
     ensures job { IfOk result (λ job. IsJob (terms_of shared.now) place image job) }
 {
     Ok(Job {
+        version: shared.version,
         elf: image.into_file(),
         name: name_of(alloc, shared.names, place as usize)?.into_bytes(),
         random: opening_random(&shared.seed, place),

@@ -4,7 +4,7 @@ ghost use Rattle.std.specs.Prelude.{◌≡◌, false, true, IfOk, List, length, 
 ghost use Rattle.rrv_model.specs.declared.record.Record.{Record};
 ghost use Rattle.serial_sched.specs.Slices.{IsQuantum};
 ghost use Rattle.session.specs.Sessions.{IsLeft};
-ghost use Rattle.recording.specs.Jobs.{terms_of};
+ghost use Rattle.recording.specs.Jobs.{terms_of, version_in};
 ghost use Rattle.recording.specs.Recorded.{HasRecorded};
 
 use crate::choice_files::choices_in_files;
@@ -22,6 +22,7 @@ use elf_load::Image;
 use guest_calls::Guest;
 use host::Streams;
 use progress::Clearing;
+use rrv_model::machine::Version;
 use rrv_model::record::Choice;
 use session::{GuestReport, SessionFault, record_all};
 use std::alloc::Global;
@@ -33,7 +34,7 @@ use std::sync::{Mutex, Wait};
 use std::thread::Threads;
 use std::time::{Clock, Instant};
 use stored_guests::{
-    Refusal, Terminals, end_open_line, finish, images_in, in_blocks, input_in, open_log,
+    Refusal, Terminals, end_open_line, finish, images_in, in_blocks, input_in, marked, open_log,
 };
 use trace_disk::{Disk, FileDisk};
 use trace_log::Log;
@@ -65,7 +66,7 @@ pub fn record<
 {
     let start = Instant::now(rt).map_err(|_| Refusal::NoClock)?;
     let seed = seed_of(recording.seed)?;
-    let log = open_log(rt, recording.store)?;
+    let log = store_of(rt, recording)?;
     let inputs = inputs_of(rt, recording, terminals.err)?;
     let names = names_of(recording);
     match record_shown(rt, recording, start, seed, log, inputs, terminals, out, err) {
@@ -80,6 +81,31 @@ pub fn record<
             Err(Refusal::OutputFailed)
         }
     }
+}
+
+/// Opens the store of a recording, and marks it if the line asks for that.
+fn store_of<R: Files<File = File> + AllocGlobal>(
+    rt: &R,
+    recording: &Recording<'_>,
+) -> Result<Log<FileDisk>, Refusal>
+    ensures whole { IfOk result (λ log. log.is_broken ≡ false) }
+    ensures marked { IfOk result (λ log. recording.now.upgrade ≡ true → log.marked ≡ true) }
+{
+    let log = open_log(rt, recording.store)?;
+    if recording.upgrade {
+        return marked(rt.alloc(), log);
+    }
+    Ok(log)
+}
+
+/// The version of the guests that are recorded to this log: 2 if its store holds the Mark, and else 1.
+fn version_in<D: Disk>(log: &Log<D>) -> Version
+    ensures { result ≡ version_in log.now.marked }
+{
+    if log.marked() {
+        return Version::Two;
+    }
+    Version::One
 }
 
 /// How the guests of a recording are named.
@@ -156,6 +182,7 @@ fn record_shown<
     let counts = counts(rt.alloc()).map_err(Refusal::from)?;
     let shared = Shared {
         rt,
+        version: version_in(&log),
         start,
         input: &input,
         seed,
@@ -210,7 +237,8 @@ pub(crate) fn record_images<
     line: &AtomicBool,
     is_on: bool,
 ) -> Result<(Log<D>, Recorded), Unreported<D>>
-    requires { log.is_broken ≡ false }
+    requires whole { log.is_broken ≡ false }
+    requires version { shared.now.version ≡ version_in log.marked }
     ensures stored { (bodies : List (List ℕ)) (earlier : List Record) → IsLeft D.Disk log bodies earlier
         → IfOk result (λ recorded. HasRecorded D.Disk (terms_of shared.now) images.items
         log recorded.0 recorded.1.reports.items bodies earlier) }

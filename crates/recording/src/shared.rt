@@ -4,6 +4,7 @@ ghost use Rattle.serial_sched.specs.Slices.{IsQuantum};
 
 use crate::names::Names;
 use command_line::Then;
+use rrv_model::machine::Version;
 use rrv_model::record::Choice;
 use std::alloc::Global;
 use std::sync::atomic::AtomicU64;
@@ -13,6 +14,7 @@ use std::time::{Clock, Instant};
 #[derive(Drop)]
 pub(crate) struct Shared<'a, R: Clock> {
     pub(crate) rt: &'a R,
+    pub(crate) version: Version,
     pub(crate) start: Instant,
     pub(crate) input: &'a [u8],
     pub(crate) seed: [u8; 16],

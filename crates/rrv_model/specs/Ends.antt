@@ -62,6 +62,17 @@ item_kind (items.Opening o) = kinds.Opening o.version
 item_kind (items.Frame f) = end_kind f.end
 item_kind (items.Part p) = kinds.Part
 
+-- whether a record of this kind may stand before a store's Mark: no opening of version 2, and no expire
+abbrev pub is_old : Kind → Bool
+is_old (kinds.Opening One) = true
+is_old (kinds.Opening Two) = false
+is_old kinds.Preempt = true
+is_old kinds.Call = true
+is_old kinds.Fault = true
+is_old kinds.Stuck = true
+is_old kinds.Part = true
+is_old kinds.Expire = false
+
 -- ---- how a frame ended
 
 -- the call that it ends in, if it ends in one

@@ -9,7 +9,7 @@ ghost use Rattle.rrv_model.specs.Opening.{OpeningsAreStates};
 ghost use Rattle.rrv_model.specs.StateAt.{RecordedStatesAreStates};
 ghost use Rattle.rrv_model.specs.RecordText.{CheckpointsExist, OneReading, OneSpelling};
 ghost use Rattle.rrv_model.specs.Recording.{BeginningsAreRecordings, FramesAppend, OneEnd};
-ghost use Rattle.rrv_model.specs.Recovered.{BeginningsAreRecovered, OneBatch, OneRecovery};
+ghost use Rattle.rrv_model.specs.Recovered.{MarkIsNoText, MarkIsTold, BeginningsAreRecovered, OneBatch, OneRecovery};
 
 /// A state, a thread and a call's record leave one state after at most, whatever the outside answered.
 pub fn one_state_after_call()
@@ -54,6 +54,16 @@ pub fn frames_append()
 /// A body is the text of one list of records at most.
 pub fn one_batch()
     ensures { OneBatch }
+{}
+
+/// The Mark is the text of no records.
+pub fn mark_is_no_text()
+    ensures { MarkIsNoText }
+{}
+
+/// One of the batches is that of the Mark exactly if one of the bodies is the Mark.
+pub fn mark_is_told()
+    ensures { MarkIsTold }
 {}
 
 /// From bodies at most one list of records is recovered, and so of each guest.

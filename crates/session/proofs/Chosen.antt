@@ -3,8 +3,7 @@ use Rattle.std.proofs.Common.{true, false, true≢false, Option, ◌≡◌, ◌�
 use denote.Enum.Bare.{sameb}
 use Rattle.std.proofs.lemmas.List.{append-nil, take-append-drop}
 use Rattle.std.proofs.lemmas.List.Sums.{sum_by-append}
-use Rattle.std.proofs.lemmas.Bool.{false≢true}
-use Rattle.std.specs.Prelude.{◌≢◌, Some, None, Err, IfSome, IsSome, IsSomeAnd, vec_items}
+use Rattle.std.specs.Prelude.{◌≢◌, Some, None, Err, vec_items}
 use Rattle.rrv_model.specs.declared.record.Choice.{Choice}
 use Rattle.rrv_model.specs.declared.record.Frame.{Frame}
 use Rattle.rrv_model.specs.declared.record.Item.{Item}
@@ -13,31 +12,24 @@ use Rattle.rrv_model.specs.declared.record.Opening.{Opening}
 use Rattle.rrv_model.specs.declared.record.Part.{Part}
 use Rattle.rrv_model.specs.declared.record.Record.{Record}
 use Rattle.rrv_model.specs.FrameStep.{FrameStep}
-use Rattle.rrv_model.specs.declared.machine.FutexWait.{FutexWait}
-use Rattle.rrv_model.specs.declared.machine.Thread.{Thread}
-use Rattle.rrv_model.specs.declared.machine.Timeout.{Timeout}
-use Rattle.rrv_model.specs.declared.machine.Version.{Version}
-use Rattle.rrv_model.specs.declared.machine.Version.TheVariants.{One}
 use Rattle.rrv_model.specs.Opening.{opening_state}
 use Rattle.rrv_model.specs.Recording.{EndsIn, frame_record, frames_of, items_of}
-use Rattle.rrv_model.specs.State.{State, thread_at, IsState, IsThread, IsTimed, IsTimeout, IsWait}
+use Rattle.rrv_model.specs.Ends.{is_expiry}
+use Rattle.rrv_model.specs.State.{State}
 use Rattle.rrv_model.specs.StateAt.{total}
-use Rattle.rrv_model.proofs.FrameStays.{version_stays}
 use Rattle.guest_calls.specs.Guest.{GuestValue, counted, state_of}
 use Rattle.serial_sched.specs.Asking.{Gives}
-use Rattle.serial_sched.specs.Chosen.{AreChosen, Choosing, Picks}
-use Rattle.serial_sched.proofs.Chosen.{beginnings_are_chosen, chosen_on}
+use Rattle.serial_sched.specs.Chosen.{AreMade, AreRunning, Choosing, Picks, PicksAmong}
+use Rattle.serial_sched.specs.Slices.{FitsChoice, IsAsleep}
+use Rattle.serial_sched.proofs.Chosen.{beginnings_are_made, made_on}
 use Rattle.commit_core.proofs.Runs.{frames_of-append}
 use Rattle.commit_core.specs.World.{opening_record}
 use Rattle.commit_group.specs.Numbers.{renumbered}
-use Rattle.commit_group.specs.Seats.{RecorderValue}
 use Rattle.recorder.specs.declared.checkpoints.Parts.{Parts}
 use Rattle.recorder.specs.declared.fault.RecorderFault.{RecorderFault}
 use Rattle.recorder.specs.declared.fault.RecorderFault.TheVariants as recorder_faults
-use Rattle.recorder.specs.Deadlines.{AreDeadlinesOf, HasDeadline, due}
-use Rattle.recorder.specs.Recorded.{IsRecorded}
-use Rattle.recorder.specs.RecorderCalls.{AsksNow, HasStepped, IsStep, IsUnmoved, KeepsMade, Slices, part_records}
-use Rattle.recorder.proofs.Kept.{is_state}
+use Rattle.recorder.specs.Deadlines.{due}
+use Rattle.recorder.specs.RecorderCalls.{HasStepped, IsStep, IsUnmoved, KeepsMade, part_records}
 use Rattle.recorder.specs.Recorders.{GuestRecorder, HasRecorded, made, records_from}
 use Rattle.session.specs.contracts.rounds.Step.{the_type}
 use Rattle.session.specs.declared.job.Job.{Job}
@@ -46,7 +38,7 @@ use Rattle.session.specs.declared.rounds.Step.TheVariants as turns
 use Rattle.session.specs.declared.rounds.WorkFault.{WorkFault}
 use Rattle.session.specs.declared.rounds.WorkFault.TheVariants as work_faults
 use Rattle.session.specs.Drives.{fault_told, work_told}
-use Rattle.session.specs.Chosen.{HasChosen, HasChosenOn, IsAskedOnce, IsAtStart, IsLeftWith, IsUntimed, LeavesChooser, MakesChosen, TurnLeaves, WorkLeaves, frames_in, start_of}
+use Rattle.session.specs.Chosen.{HasChosen, HasChosenOn, IsAskedOnce, IsAtStart, IsLeftWith, LeavesChooser, MakesChosen, TurnLeaves, WorkLeaves, frames_in, start_of}
 
 -- ---- the frames among records
 
@@ -79,63 +71,30 @@ counts_both a b c fs gs p q low =
 counts_one : (a b : ℕ) (f : Frame) → b ≡ counted a f.count → Counts a (total (f ∷ [])) b
 counts_one a b f is low = is ∙ omega arith
 
--- ---- a guest of version 1
-
--- a wait of one has no timeout
-untimed_thread : (t : Thread) → IsThread One t → IsTimed (Some t) → ⊥
-untimed_thread t is timed = by t.wait is.waits timed where
-  of_wait : (w : FutexWait) → IsWait One w → IsSome w.timeout → ⊥
-  of_wait w h some = of_timeout w.timeout h.timeout some where
-    of_timeout : (o : Option Timeout) → IfSome o (IsTimeout One) → IsSome o → ⊥
-    of_timeout None g some = false≢true some
-    of_timeout (Some timeout) g some = g.version
-
-  by : (o : Option FutexWait) → IfSome o (IsWait One) → IsSomeAnd o (λ w. IsSome w.timeout) → ⊥
-  by None h g = g
-  by (Some w) h g = of_wait w h g
-
-none_timed : (o : Option Thread) → IfSome o (IsThread One) → IsTimed o → ⊥
-none_timed None h timed = timed
-none_timed (Some t) h timed = untimed_thread t h timed
-
--- so its recorder has no deadlines
-no_deadlines : (r : GuestRecorder) → IsUntimed r → r.deadlines ≡ []
-no_deadlines r u = by r.deadlines (λ tid h. (u.recorded.deadlines.each tid).0 h) where
-  is : IsState (state_of r.guest)
-  is = is_state (items_of (made r)) (state_of r.guest) u.recorded.recorded.ends
-
-  untimed : (tid : ℕ) → IsTimed (thread_at (state_of r.guest) tid) → ⊥
-  untimed tid =
-      none_timed (thread_at (state_of r.guest) tid)
-      (subst (λ (v : Version). IfSome (thread_at (state_of r.guest) tid) (IsThread v)) u.version (is.rules.threads.threads tid))
-
-  by : (ds : List (ℕ × ℕ)) → ((tid : ℕ) → HasDeadline ds tid → IsTimed (thread_at (state_of r.guest) tid)) → ds ≡ []
-  by [] h = refl
-  by (d ∷ ds) h = absurd (untimed d.0 (h d.0 (inl refl)))
-
-untimed_same : (a b : GuestRecorder) → b.seat.guest ≡ a.seat.guest → made b ≡ made a → state_of b.guest ≡ state_of a.guest →
-    b.deadlines ≡ a.deadlines → IsUntimed a → IsUntimed b
-untimed_same a b place made_is state deadlines u = record {
-  version = ap (λ (s : State). s.version) state ∙ u.version;
-  recorded = record {
-    recorded = subst (λ (x : ℕ × (List Record × State)). IsRecorded x.0 x.1.0 x.1.1)
-        (λ i. (sym place i, (sym made_is i, sym state i))) u.recorded.recorded;
-    deadlines = subst (λ (x : State × List (ℕ × ℕ)). AreDeadlinesOf x.0 x.1) (λ i. (sym state i, sym deadlines i)) u.recorded.deadlines;
-  };
-}
-
 -- ---- what a recorder makes
+
+-- the frame of a step is the slice of its choice, unless it ends a wait
+step_made : {O : Type 0} (gives : Gives O) (old : GuestValue) (choice : Choice) (f : Frame) (new : GuestValue) (tid : Option ℕ)
+    (before after : O) →
+    IsStep gives old choice f new tid before after
+    → FrameStep (state_of old) f (state_of new) × (new.ran ≡ counted old.ran f.count)
+    × (is_expiry f.end ≡ false → FitsChoice f.end (state_of old) f choice)
+step_made gives old choice f new None before after h = (h.slice.is_frame.frame, h.slice.is_frame.ran, λ _. h.slice.fits)
+step_made gives old choice f new (Some tid) before after h = (
+  h.0.is_frame.frame,
+  h.0.is_frame.ran,
+  λ other. absurd (true≢false (sym (ap (λ (g : Frame). is_expiry g.end) h.0.expiry) ∙ other)),
+)
 
 module _ {C : Type 0} (chooses : Choosing C) where
   -- no frame
   pub makes_none : (r : GuestRecorder) (c : C) (E : C → Type 0) → E c → MakesChosen chooses r c r E
-  makes_none r c E e u = record {
+  makes_none r c E e = record {
     frames = [];
     made_are = sym (append-nil (frames_in (made r)));
     last = c;
     chosen = (refl, refl);
     ran = counts_none r.guest.ran;
-    untimed = u;
     ends = e;
   }
 
@@ -147,38 +106,35 @@ module _ {C : Type 0} (chooses : Choosing C) where
   pub makes_unmoved : {O : Type 0} (gives : Gives O) (a b : GuestRecorder) (before after : O) (c : C) (E : C → Type 0) → E c →
       IsUnmoved gives a b before after →
       MakesChosen chooses a c b E
-  makes_unmoved gives a b before after c E e h u = record {
+  makes_unmoved gives a b before after c E e h = record {
     frames = [];
     made_are = (λ i. frames_in ((h.seat i).sent ++ h.backlog i)) ∙ sym (append-nil (frames_in (made a)));
     last = c;
     chosen = (h.state, refl);
     ran = subst (λ (n : ℕ). Counts a.guest.ran 0 n) (sym h.ran) (counts_none a.guest.ran);
-    untimed = untimed_same a b (ap (λ (q : RecorderValue). q.guest) h.seat) (λ i. (h.seat i).sent ++ h.backlog i) h.state h.deadlines u;
     ends = e;
   }
 
   pub makes_kept : (o a b : GuestRecorder) (c : C) (E : C → Type 0) → KeepsMade a b → MakesChosen chooses o c a E →
       MakesChosen chooses o c b E
-  makes_kept o a b c E keeps makes u = let p = makes u in record {
+  makes_kept o a b c E keeps p = record {
     frames = p.frames;
     made_are = ap (λ (l : List Record). frames_in l) keeps.made_is ∙ p.made_are;
     last = p.last;
-    chosen = subst (λ (g : GuestValue). AreChosen chooses (state_of o.guest) c p.frames (state_of g) p.last) (sym keeps.guest) p.chosen;
+    chosen = subst (λ (g : GuestValue). AreMade chooses (state_of o.guest) c p.frames (state_of g) p.last) (sym keeps.guest) p.chosen;
     ran = subst (λ (g : GuestValue). Counts o.guest.ran (total p.frames) g.ran) (sym keeps.guest) p.ran;
-    untimed = untimed_same a b keeps.place keeps.made_is (ap (λ (g : GuestValue). state_of g) keeps.guest) keeps.deadlines.0 p.untimed;
     ends = p.ends;
   }
 
   pub makes_both : (o a b : GuestRecorder) (c c' : C) (E : C → Type 0) → MakesChosen chooses o c a (λ last. c' ≡ last) →
       MakesChosen chooses a c' b E → MakesChosen chooses o c b E
-  makes_both o a b c c' E first second u = let p = first u in let q = second p.untimed in record {
+  makes_both o a b c c' E p q = record {
     frames = p.frames ++ q.frames;
     made_are = q.made_are ∙ ap (λ (l : List Frame). l ++ q.frames) p.made_are ∙ append_assoc (frames_in (made o)) p.frames q.frames;
     last = q.last;
-    chosen = chosen_on chooses p.frames q.frames (state_of o.guest) (state_of a.guest) (state_of b.guest) c c' q.last
-        (subst (λ (x : C). AreChosen chooses (state_of o.guest) c p.frames (state_of a.guest) x) (sym p.ends) p.chosen) q.chosen;
+    chosen = made_on chooses p.frames q.frames (state_of o.guest) (state_of a.guest) (state_of b.guest) c c' q.last
+        (subst (λ (x : C). AreMade chooses (state_of o.guest) c p.frames (state_of a.guest) x) (sym p.ends) p.chosen) q.chosen;
     ran = counts_both o.guest.ran a.guest.ran b.guest.ran p.frames q.frames p.ran q.ran;
-    untimed = q.untimed;
     ends = q.ends;
   }
 
@@ -191,23 +147,34 @@ module _ {C : Type 0} (chooses : Choosing C) where
       makes_unmoved gives a b before after c (IsAskedOnce chooses c' (state_of b.guest))
       (inr (Some choice, subst (λ (s : State). Picks chooses s c (Some choice) c') (sym h.state) picks)) h
 
+  -- no thread runs, so that the chooser isn't asked
+  unasked : (s : State) (c c' : C) (choice : Choice) → IsAsleep s → Picks chooses s c (Some choice) c' → c' ≡ c
+  unasked s c c' choice asleep picks = at picks.tids picks.running picks.picks where
+    at : (tids : List ℕ) → AreRunning s tids → PicksAmong chooses tids c (Some choice) c' → c' ≡ c
+    at [] running among = among.1
+    at (tid ∷ tids) running among = absurd (asleep.none_running (tid, (running.running tid).0 (0, omega arith, refl)))
+
+  -- a step was refused where all threads wait
+  pub makes_asleep : {O : Type 0} (gives : Gives O) (a b : GuestRecorder) (choice : Choice) (before after : O) (c c' : C) →
+      IsUnmoved gives a b before after → IsAsleep (state_of a.guest) → Picks chooses (state_of a.guest) c (Some choice) c' →
+      MakesChosen chooses a c b (λ last. c' ≡ last)
+  makes_asleep gives a b choice before after c c' h asleep picks =
+      makes_unmoved gives a b before after c (λ last. c' ≡ last) (unasked (state_of a.guest) c c' choice asleep picks) h
+
   -- one frame
   pub makes_one : {O : Type 0} (gives : Gives O) (a b : GuestRecorder) (choice : Choice) (outcome : Parts) (before after : O) (c c' : C) →
       HasStepped gives a choice outcome b before after
-      → HasRecorded b → Picks chooses (state_of a.guest) c (Some choice) c' → MakesChosen chooses a c b (λ last. c' ≡ last)
-  makes_one gives a b choice outcome before after c c' h recorded picks u =
+      → Picks chooses (state_of a.guest) c (Some choice) c' → MakesChosen chooses a c b (λ last. c' ≡ last)
+  makes_one gives a b choice outcome before after c c' h picks =
       let f = h.makes.frame in
-      let none_waits : a.deadlines ≡ [] = no_deadlines a u in
-      let unasked = subst (λ (ds : List (ℕ × ℕ)). AsksNow gives ds h.makes.asked before h.makes.between) none_waits h.makes.asks in
-      let slices : Slices gives a.guest choice f h.between.guest h.makes.between h.makes.middle =
-      subst (λ (o : Option ℕ). IsStep gives a.guest choice f h.between.guest (due a.deadlines o) h.makes.between h.makes.middle) unasked.0
-      h.makes.step in
+      let stepped =
+      step_made gives a.guest choice f h.between.guest (due a.deadlines h.makes.asked) h.makes.between h.makes.middle h.makes.step in
       let r = frame_record a.seat.guest (length (made a)) f in
       let more = part_records h.between h.keeps.parts in
       let made_is : made b ≡ (made a ++ r ∷ []) ++ more = h.keeps.made_is ∙ ap (λ (l : List Record). l ++ more) h.makes.made_is in
       let none : frames_in more ≡ [] = no_frames h.between.seat.guest (length (made h.between)) h.keeps.parts in
       let step : FrameStep (state_of a.guest) f (state_of b.guest) =
-      subst (λ (s : State). FrameStep (state_of a.guest) f s) (sym h.keeps.guest.0) slices.slice.is_frame.frame in
+      subst (λ (s : State). FrameStep (state_of a.guest) f s) (sym h.keeps.guest.0) stepped.0 in
       record {
         frames = f ∷ [];
         made_are = ap (λ (l : List Record). frames_in l) made_is ∙ frames_append (made a ++ r ∷ []) more
@@ -217,23 +184,21 @@ module _ {C : Type 0} (chooses : Choosing C) where
         chosen = (
           state_of b.guest,
           c',
-          record { step = step; choice = choice; picks = picks; fits = slices.slice.fits },
+          record { step = step; choice = choice; picks = picks; fits = stepped.2 },
           (refl, refl),
         );
-        ran = counts_one a.guest.ran b.guest.ran f (h.keeps.guest.1 ∙ slices.slice.is_frame.ran);
-        untimed = record { version = version_stays (state_of a.guest) f (state_of b.guest) step ∙ u.version; recorded = recorded };
+        ran = counts_one a.guest.ran b.guest.ran f (h.keeps.guest.1 ∙ stepped.1);
         ends = refl;
       }
 
   makes_weaker : (o a : GuestRecorder) (c : C) (E F : C → Type 0) → ((last : C) → E last → F last) → MakesChosen chooses o c a E →
       MakesChosen chooses o c a F
-  makes_weaker o a c E F weaker makes u = let p = makes u in record {
+  makes_weaker o a c E F weaker p = record {
     frames = p.frames;
     made_are = p.made_are;
     last = p.last;
     chosen = p.chosen;
     ran = p.ran;
-    untimed = p.untimed;
     ends = weaker p.last p.ends;
   }
 
@@ -243,6 +208,7 @@ module _ {C : Type 0} (chooses : Choosing C) where
   goes_round turns.Stepped new s last other h = h
   goes_round turns.Held new s last other h = h
   goes_round turns.Waits new s last other h = h
+  goes_round turns.Asleep new s last other h = h
 
   pub makes_round : (a b : GuestRecorder) (c c' : C) (turn : Step) → turn ≢ turns.Over →
       MakesChosen chooses a c b (TurnLeaves chooses turn c' (state_of b.guest)) → MakesChosen chooses a c b (λ last. c' ≡ last)
@@ -311,6 +277,7 @@ is_over turns.Over h = refl
 is_over turns.Stepped h = absurd (true≢false h)
 is_over turns.Held h = absurd (true≢false h)
 is_over turns.Waits h = absurd (true≢false h)
+is_over turns.Asleep h = absurd (true≢false h)
 
 pub not_over : (turn : Step) → false ≡ sameb the_type turn turns.Over → turn ≡ turns.Over → ⊥
 not_over turn h over = true≢false (sym (h ∙ ap (λ (t : Step). sameb the_type t turns.Over) over))
@@ -322,25 +289,21 @@ same_items b [] = refl
 same_items b (r ∷ rs) = ap (λ l. r.item ∷ l) (same_items b rs)
 
 module _ {C O S : Type 0} (chooses : Choosing C) (job : Job C O S) where
-  pub untimed_start : (r : GuestRecorder) → IsAtStart job r → IsUntimed r
-  untimed_start r start = record { version = ap (λ (s : State). s.version) start.state; recorded = start.recorded }
-
   pub chosen_from_start : (old new : GuestRecorder) (E : C → Type 0) → IsAtStart job old → MakesChosen chooses old job.chooser new E
       → HasChosen chooses job (made new) (λ s last. (s ≡ state_of new.guest) × E last)
-  chosen_from_start old new E start makes =
-      let p = makes (untimed_start old start) in
+  chosen_from_start old new E start p =
       let same : frames_in (made new) ≡ p.frames = p.made_are ∙ ap (λ (l : List Frame). l ++ p.frames) start.none in
       record {
         state = state_of new.guest;
         last = p.last;
-        chosen = subst (λ (x : State × List Frame). AreChosen chooses x.0 job.chooser x.1 (state_of new.guest) p.last)
+        chosen = subst (λ (x : State × List Frame). AreMade chooses x.0 job.chooser x.1 (state_of new.guest) p.last)
             (λ i. (start.state i, sym same i)) p.chosen;
         ends = (refl, p.ends);
       }
 
   -- a recorder of the job's opening alone
   pub at_start : (r : GuestRecorder) (guest : ℕ) (o : Opening) → made r ≡ opening_record guest o ∷ [] → HasRecorded r → r.guest.ran ≡ 0 →
-      o ≡ record { version = One; elf = vec_items job.elf; name = vec_items job.name; random = job.random }
+      o ≡ record { version = job.version; elf = vec_items job.elf; name = vec_items job.name; random = job.random }
       → IsAtStart job r
   at_start r guest o is recorded ran o_is =
       let e : EndsIn (items_of (opening_record guest o ∷ [])) (state_of r.guest) =
@@ -358,8 +321,8 @@ module _ {C O S : Type 0} (chooses : Choosing C) (job : Job C O S) where
   pub front_chosen : (xs ys : List Record) (E : State → C → Type 0) → HasChosen chooses job (xs ++ ys) E →
       HasChosen chooses job xs (λ _ _. Unit {0})
   front_chosen xs ys E h =
-      let r = beginnings_are_chosen chooses (frames_in xs) (frames_in ys) (start_of job) h.state job.chooser h.last
-      (subst (λ (l : List Frame). AreChosen chooses (start_of job) job.chooser l h.state h.last) (frames_append xs ys) h.chosen) in
+      let r = beginnings_are_made chooses (frames_in xs) (frames_in ys) (start_of job) h.state job.chooser h.last
+      (subst (λ (l : List Frame). AreMade chooses (start_of job) job.chooser l h.state h.last) (frames_append xs ys) h.chosen) in
       record { state = r.0; last = r.1; chosen = r.2; ends = tt }
 
   pub none_on : (E : State → C → Type 0) → E (start_of job) job.chooser → HasChosenOn chooses job [] E
@@ -370,13 +333,13 @@ module _ {C O S : Type 0} (chooses : Choosing C) (job : Job C O S) where
     behind = frames_in ys;
     state = h.state;
     last = h.last;
-    chosen = subst (λ (l : List Frame). AreChosen chooses (start_of job) job.chooser l h.state h.last) (frames_append xs ys) h.chosen;
+    chosen = subst (λ (l : List Frame). AreMade chooses (start_of job) job.chooser l h.state h.last) (frames_append xs ys) h.chosen;
     ends = h.ends;
   }
 
   pub front_on : (xs : List Record) (E : State → C → Type 0) → HasChosenOn chooses job xs E → HasChosen chooses job xs (λ _ _. Unit {0})
   front_on xs E h =
-      let r = beginnings_are_chosen chooses (frames_in xs) h.behind (start_of job) h.state job.chooser h.last h.chosen in
+      let r = beginnings_are_made chooses (frames_in xs) h.behind (start_of job) h.state job.chooser h.last h.chosen in
       record { state = r.0; last = r.1; chosen = r.2; ends = tt }
 
   pub first_on : (k : ℕ) (xs : List Record) (E : State → C → Type 0) → HasChosenOn chooses job xs E → HasChosenOn chooses job (take k xs) E
@@ -387,7 +350,7 @@ module _ {C O S : Type 0} (chooses : Choosing C) (job : Job C O S) where
         behind = frames_in (drop k xs) ++ h.behind;
         state = h.state;
         last = h.last;
-        chosen = subst (λ (l : List Frame). AreChosen chooses (start_of job) job.chooser l h.state h.last)
+        chosen = subst (λ (l : List Frame). AreMade chooses (start_of job) job.chooser l h.state h.last)
             (ap (λ (l : List Frame). l ++ h.behind) whole ∙ append_assoc (frames_in (take k xs)) (frames_in (drop k xs)) h.behind) h.chosen;
         ends = h.ends;
       }
@@ -398,7 +361,7 @@ module _ {C O S : Type 0} (chooses : Choosing C) (job : Job C O S) where
     behind = h.behind;
     state = h.state;
     last = h.last;
-    chosen = subst (λ (l : List Item). AreChosen chooses (start_of job) job.chooser (frames_of l ++ h.behind) h.state h.last)
+    chosen = subst (λ (l : List Item). AreMade chooses (start_of job) job.chooser (frames_of l ++ h.behind) h.state h.last)
         (sym (same_items b xs)) h.chosen;
     ends = h.ends;
   }
@@ -413,7 +376,7 @@ module _ {C O S : Type 0} (chooses : Choosing C) (job : Job C O S) where
   chosen_again b xs E h = record {
     state = h.state;
     last = h.last;
-    chosen = subst (λ (l : List Item). AreChosen chooses (start_of job) job.chooser (frames_of l) h.state h.last) (sym (same_items b xs))
+    chosen = subst (λ (l : List Item). AreMade chooses (start_of job) job.chooser (frames_of l) h.state h.last) (sym (same_items b xs))
         h.chosen;
     ends = h.ends;
   }

@@ -104,9 +104,7 @@ module _ {C O S : Type 0} where
   opening_again : (first guest : ℕ) (old new : Job C O S) → IsSameJob old new →
       numbered first (opening_for guest new) ≡ opening_for (first + guest) old
   opening_again first guest old new same =
-      ap (λ e. opening_of (first + guest) e (new.name.items) new.random) same.elf
-      ∙ ap (λ e. opening_of (first + guest) (old.elf.items) e new.random) same.name
-      ∙ ap (λ e. opening_of (first + guest) (old.elf.items) (old.name.items) e) same.random
+      λ i. opening_of (first + guest) (same.version i) (same.elf i) (same.name i) (same.random i)
 
   first_again : (first guest : ℕ) (old new : Job C O S) (sent : List Record) → IsSameJob old new → IsFirst (opening_for guest new) sent →
       IsFirst (opening_for (first + guest) old) (renumbered first sent)

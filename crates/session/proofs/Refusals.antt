@@ -42,6 +42,7 @@ first_of_all faults.Memory h = elim h [ inl l ↦ absurd (omega (arith, l)) | in
 first_of_all faults.TooManyGuests h = elim h [ inl l ↦ absurd (omega (arith, l)) | inr e ↦ absurd (omega (arith, e.0)) ]
 first_of_all faults.StoreFull h = elim h [ inl l ↦ absurd (omega (arith, l)) | inr e ↦ absurd (omega (arith, e.0)) ]
 first_of_all (faults.BadOpening g) h = elim h [ inl l ↦ absurd (omega (arith, l)) | inr e ↦ absurd (omega (arith, e.0)) ]
+first_of_all (faults.NeedsMark g) h = elim h [ inl l ↦ absurd (omega (arith, l)) | inr e ↦ absurd (omega (arith, e.0)) ]
 
 module _ {C O S D : Type 0} (log log' : LogValue D) (jobs jobs' : Vec (Job C O S) Global) where
   -- ---- the flusher's
@@ -50,6 +51,7 @@ module _ {C O S D : Type 0} (log log' : LogValue D) (jobs jobs' : Vec (Job C O S
   flusher_tells flushes.DeviceFailed left = left
   flusher_tells flushes.Halted left = left
   flusher_tells flushes.TooLong left = left
+  flusher_tells flushes.NeedsMark left = left
   flusher_tells flushes.Memory left = left
 
   flusher_tells_one : (flushed : Result Unit FlushFault) (fault : SessionFault) → IfErr flushed (IsLeftBy log') →
@@ -66,6 +68,7 @@ module _ {C O S D : Type 0} (log log' : LogValue D) (jobs jobs' : Vec (Job C O S
   whole_unless (Err flushes.DeviceFailed) rest fault left whole lowest other = absurd (other (first_of_all fault lowest.1.0))
   whole_unless (Err flushes.Halted) rest fault left whole lowest other = left
   whole_unless (Err flushes.TooLong) rest fault left whole lowest other = left.0
+  whole_unless (Err flushes.NeedsMark) rest fault left whole lowest other = left.0
   whole_unless (Err flushes.Memory) rest fault left whole lowest other = left
 
   -- ---- a worker's

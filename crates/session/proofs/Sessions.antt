@@ -47,6 +47,7 @@ module _ {D : Type 0} (device : Device D) where
   stands_new group log bodies earlier left = record {
     is_honest = left.is_honest;
     keeps = left.keeps;
+    marked = left.marked;
     recovered = subst (λ (l : List Record). IsRecovered bodies l) (sym (append-nil earlier)) left.recovered;
     below = left.above;
     raised = subst (λ (l : List Record). next_guest l ≤ log.next_guest) (sym (append-nil earlier)) left.above;
@@ -101,7 +102,7 @@ module _ {D : Type 0} (device : Device D) where
     none_recorded number [] = tt
     none_recorded number (job ∷ jobs) = (
       record {
-        job = record { elf = refl; name = refl; random = refl; every = refl };
+        job = record { version = refl; elf = refl; name = refl; random = refl; every = refl };
         records = inl refl;
         chosen = none_chosen choosers.chooses job;
         put = [];
@@ -271,6 +272,7 @@ module _ {C O S D : Type 0} (choosers : Choosers C) (sinks : Sinks S) (device : 
       flusher_is (Err flushes.DeviceFailed) = (tt, tt)
       flusher_is (Err flushes.Halted) = (tt, tt)
       flusher_is (Err flushes.TooLong) = (tt, tt)
+      flusher_is (Err flushes.NeedsMark) = (tt, tt)
       flusher_is (Err flushes.Memory) = (tt, tt)
 
       goes_on : flusher_met flushed ≡ [] → AllCommitted f × (f.halted ≡ false)

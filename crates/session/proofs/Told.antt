@@ -15,7 +15,8 @@ use Rattle.session.specs.declared.task.Task.{Task}
 use Rattle.session.specs.declared.task.Worked.{Worked}
 use Rattle.session.specs.Faults.{IsLowest, IsNoLater, IsSessions, flusher_met, guest_of, rank}
 use Rattle.session.specs.Gains.{TellsDisk}
-use Rattle.session.specs.Openings.{IsFirstBad, RefusesJobs, StartsGuest}
+use Rattle.rrv_model.specs.declared.machine.Version.TheVariants.{One, Two}
+use Rattle.session.specs.Openings.{AreOld, IsFirstBad, IsFirstNew, RefusesJobs, StartsGuest}
 use Rattle.session.specs.Pairs.{ArePairs}
 use Rattle.session.specs.Sessions.{TellsBadJob, TellsDevice, TellsSinks}
 use Rattle.session.specs.Tasks.{faults_met, jobs_of, jobs_worked, met_once, seats_of, seats_worked}
@@ -50,6 +51,7 @@ steady_told T faults.Memory old new other same = same
 steady_told T faults.TooManyGuests old new other same = same
 steady_told T faults.StoreFull old new other same = same
 steady_told T (faults.BadOpening guest) old new other same = same
+steady_told T (faults.NeedsMark guest) old new other same = same
 
 -- where another fault is the lowest no call of the disk failed
 steady_unless : (flushed : Result (Unit {0}) FlushFault) (rest : List SessionFault) (fault : SessionFault) (old new : ℕ) →
@@ -59,6 +61,7 @@ steady_unless (Ok u) rest fault old new h lowest other = h
 steady_unless (Err flushes.DeviceFailed) rest fault old new h lowest other = absurd (other (first_of_all fault lowest.1.0))
 steady_unless (Err flushes.Halted) rest fault old new h lowest other = h
 steady_unless (Err flushes.TooLong) rest fault old new h lowest other = h
+steady_unless (Err flushes.NeedsMark) rest fault old new h lowest other = h
 steady_unless (Err flushes.Memory) rest fault old new h lowest other = h
 
 -- a failed call of the disk is the flusher's to meet
@@ -69,6 +72,8 @@ by_flusher (Err flushes.DeviceFailed) old new h there = h
 by_flusher (Err flushes.Halted) old new h there = absurd (let e = ap rank (only_one faults.Memory faults.DeviceFailed there) in omega arith)
 by_flusher (Err flushes.TooLong) old new h there =
     absurd (let e = ap rank (only_one faults.StoreFull faults.DeviceFailed there) in omega arith)
+by_flusher (Err flushes.NeedsMark) old new h there =
+    absurd (let e = ap rank (only_one (faults.NeedsMark 0) faults.DeviceFailed there) in omega arith)
 by_flusher (Err flushes.Memory) old new h there = absurd (let e = ap rank (only_one faults.Memory faults.DeviceFailed there) in omega arith)
 
 no_worker_meets : (guest : ℕ) → IsMet guest faults.DeviceFailed → ⊥
@@ -97,6 +102,8 @@ module _ (flushed : Result (Unit {0}) FlushFault) (rest : List SessionFault) (ol
       steady_unless flushed rest faults.StoreFull old new h lowest (other_rank faults.StoreFull (λ e. omega (arith, e)))
   device_told T (faults.BadOpening guest) lowest =
       steady_unless flushed rest (faults.BadOpening guest) old new h lowest (other_rank (faults.BadOpening guest) (λ e. omega (arith, e)))
+  device_told T (faults.NeedsMark guest) lowest =
+      steady_unless flushed rest (faults.NeedsMark guest) old new h lowest (other_rank (faults.NeedsMark guest) (λ e. omega (arith, e)))
 
 -- ---- which worker works on which job
 
@@ -202,6 +209,7 @@ module _ {C O S T : Type 0} (choosers : Choosers C) (sinks : Sinks S) (group : G
   rises_by k w old new (Some faults.TooManyGuests) is own h = inl h
   rises_by k w old new (Some faults.StoreFull) is own h = inl h
   rises_by k w old new (Some (faults.BadOpening guest)) is own h = inl h
+  rises_by k w old new (Some (faults.NeedsMark guest)) is own h = inl h
   rises_by k w old new (Some (faults.SinkFailed guest)) is own h =
       let at : guest ≡ k = own_sink w.worked.seat.guest guest own ∙ place k w in
       inr (
@@ -292,6 +300,8 @@ met_by_worker flushed rest first lowest guest is = elim (Contains-append_cases (
         ap rank (only_one faults.DeviceFailed (faults.SinkFailed guest) there) in omega arith
     not_flusher (Err flushes.Halted) there = let e = ap rank (only_one faults.Memory (faults.SinkFailed guest) there) in omega arith
     not_flusher (Err flushes.TooLong) there = let e = ap rank (only_one faults.StoreFull (faults.SinkFailed guest) there) in omega arith
+    not_flusher (Err flushes.NeedsMark) there = let e =
+        ap rank (only_one (faults.NeedsMark 0) (faults.SinkFailed guest) there) in omega arith
     not_flusher (Err flushes.Memory) there = let e = ap rank (only_one faults.Memory (faults.SinkFailed guest) there) in omega arith
 
 -- ---- a job that starts no guest
@@ -304,6 +314,9 @@ starts_at (x ∷ jobs) (suc k) job all at = starts_at jobs k job all.1 at
 
 pub none_is_bad : {C O S : Type 0} (jobs : List (Job C O S)) (guest : ℕ) → AllByRecursion StartsGuest jobs → IsFirstBad jobs guest → ⊥
 none_is_bad jobs guest all bad = bad.starts_none (starts_at jobs guest bad.job all bad.is_there)
+
+one_is_not_two : One ≡ Two → ⊥
+one_is_not_two e = cc
 
 -- those before a job that starts no guest end with the first such job
 first_is : {C O S : Type 0} (jobs : List (Job C O S)) (j k : ℕ) (a b : Job C O S) → slice_get jobs j ≡ Some a → slice_get jobs k ≡ Some b →
@@ -344,6 +357,34 @@ bad_told T log jobs guest fault h bad = elim h.refuses [
       first_is jobs h.place guest h.job bad.job h.is_there bad.is_there refuses.1 bad.starts_none h.before bad.before in
       inl (refuses.0 ∙ ap (λ (g : ℕ). faults.BadOpening g) is)
 ]
+
+-- ---- a job of a guest of version 2
+
+-- two places that are the first of one are one place
+pub new_once : {C O S : Type 0} (jobs : List (Job C O S)) (j k : ℕ) → IsFirstNew jobs j → IsFirstNew jobs k → j ≡ k
+new_once jobs j k h m = at jobs j k h.job m.job h.is_there m.is_there h.version m.version h.before m.before where
+  at : {C O S : Type 0} (jobs : List (Job C O S)) (j k : ℕ) (a b : Job C O S) → slice_get jobs j ≡ Some a → slice_get jobs k ≡ Some b →
+      a.version ≡ Two → b.version ≡ Two → AreOld (take j jobs) → AreOld (take k jobs) → j ≡ k
+  at [] j k a b there there' two two' before before' = absurd (none_there j a there)
+  at (x ∷ jobs) zero zero a b there there' two two' before before' = refl
+  at {C = C} {O = O} {S = S} (x ∷ jobs) zero (suc k) a b there there' two two' before before' =
+      let same : x ≡ a = ap (λ (o : Option (Job C O S)). unwrap_or o x) there in
+      absurd (one_is_not_two (sym before'.0 ∙ ap (λ (q : Job C O S). q.version) same ∙ two))
+  at {C = C} {O = O} {S = S} (x ∷ jobs) (suc j) zero a b there there' two two' before before' =
+      let same : x ≡ b = ap (λ (o : Option (Job C O S)). unwrap_or o x) there' in
+      absurd (one_is_not_two (sym before.0 ∙ ap (λ (q : Job C O S). q.version) same ∙ two'))
+  at (x ∷ jobs) (suc j) (suc k) a b there there' two two' before before' =
+      ap suc (at jobs j k a b there there' two two' before.1 before'.1)
+
+-- there is none where all are of version 1
+pub none_is_new : {C O S : Type 0} (jobs : List (Job C O S)) (k : ℕ) → AreOld jobs → IsFirstNew jobs k → ⊥
+none_is_new jobs k old h = at jobs k h.job old h.is_there h.version where
+  at : {C O S : Type 0} (jobs : List (Job C O S)) (k : ℕ) (a : Job C O S) → AreOld jobs → slice_get jobs k ≡ Some a → a.version ≡ Two → ⊥
+  at [] k a old there two = none_there k a there
+  at {C = C} {O = O} {S = S} (x ∷ jobs) zero a old there two =
+      let same : x ≡ a = ap (λ (o : Option (Job C O S)). unwrap_or o x) there in
+      one_is_not_two (sym old.0 ∙ ap (λ (q : Job C O S). q.version) same ∙ two)
+  at (x ∷ jobs) (suc k) a old there two = at jobs k a old.1 there two
 
 -- ---- where no fault was met
 

@@ -32,7 +32,7 @@ use Rattle.session.specs.declared.job.Job.{Job}
 use Rattle.session.specs.declared.task.Task.{Task}
 use Rattle.session.specs.declared.task.Worked.{Worked}
 use Rattle.session.proofs.Works.{no_fault, none_put}
-use Rattle.session.proofs.Chosen.{chosen_from_start, none_on, sent_on, untimed_start}
+use Rattle.session.proofs.Chosen.{chosen_from_start, none_on, sent_on}
 use Rattle.session.specs.Chosen.{HasChosenOn, IsAtStart, IsLeftWith, LeavesChooser, MakesChosen, frames_in}
 use Rattle.session.specs.Drives.{Drives, HasHalted, IsDone, IsDriven, IsOver, LeavesWith}
 use Rattle.session.specs.Works.{AreMet, Choosers, FaultTellsSink, HasChosenAll, HasFinished, IsBehind, HasStopped, HasWorked, IsBegun, IsRecordedFrom, IsSameJob, Sinks, opening_for}
@@ -101,7 +101,8 @@ is_no_none o some none = true≢false (sym (subst IsSome none some))
 
 same_opening : {C O S : Type 0} (guest guest' : ℕ) (job job' : Job C O S) → guest' ≡ guest → IsSameJob job job' →
     opening_for guest job ≡ opening_for guest' job'
-same_opening guest guest' job job' e same = λ i. opening_of (sym e i) (sym same.elf i) (sym same.name i) (sym same.random i)
+same_opening guest guest' job job' e same =
+    λ i. opening_of (sym e i) (sym same.version i) (sym same.elf i) (sym same.name i) (sym same.random i)
 
 -- ---- the steps of a recording
 
@@ -135,8 +136,7 @@ low_total place (r ∷ records) numbered h =
 left_behind : {C O S : Type 0} (choosers : Choosers C) (job : Job C O S) (old new : GuestRecorder) (opening : Record) (Ends : C → Type 0) →
     IsRecordedFrom opening new.seat.guest (made new) (state_of new.guest) → IsAtStart job old
     → MakesChosen choosers.chooses old job.chooser new Ends → IsBehind (made new) new.guest
-left_behind choosers job old new opening Ends recorded start makes_all =
-    let makes = makes_all (untimed_start choosers.chooses job old start) in
+left_behind choosers job old new opening Ends recorded start makes =
     let all : frames_in (made new) ≡ makes.frames = makes.made_are ∙ ap (λ (l : List Frame). l ++ makes.frames) start.none in
     let count : total (frames_in (made new)) ≡ total makes.frames = ap (λ (l : List Frame). total l) all in
     let none = start.ran in
@@ -316,7 +316,7 @@ worked_none choosers sinks task seat is none =
       group = ap (λ (q : RecorderValue). q.group) is;
       guest = ap (λ (q : RecorderValue). q.guest) is;
       left = ap (λ (q : RecorderValue). q.has_left) is;
-      job = record { elf = refl; name = refl; random = refl; every = refl };
+      job = record { version = refl; elf = refl; name = refl; random = refl; every = refl };
       sent = inl sent;
       chosen = subst
           (λ (l : List Record). HasChosenOn choosers.chooses task.job l

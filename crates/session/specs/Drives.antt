@@ -53,6 +53,7 @@ abbrev pub next_held : Step → ℕ → ℕ
 next_held turns.Stepped held = 0
 next_held turns.Held held = held + 1
 next_held turns.Waits held = held
+next_held turns.Asleep held = held
 next_held turns.Over held = 0
 
 -- how a worker tells why its recorder didn't go on

@@ -15,6 +15,7 @@ rank faults.Memory = 4
 rank faults.TooManyGuests = 5
 rank faults.StoreFull = 6
 rank (faults.BadOpening guest) = 7
+rank (faults.NeedsMark guest) = 8
 
 -- the guest that a fault tells of, or 0
 abbrev pub guest_of : SessionFault → ℕ
@@ -25,6 +26,7 @@ guest_of faults.Memory = 0
 guest_of faults.TooManyGuests = 0
 guest_of faults.StoreFull = 0
 guest_of (faults.BadOpening guest) = guest
+guest_of (faults.NeedsMark guest) = guest
 
 -- by kind, and then by guest
 abbrev pub IsNoLater : SessionFault → SessionFault → Type 0
@@ -56,12 +58,14 @@ IsSessions faults.Memory = Unit {0}
 IsSessions faults.TooManyGuests = Unit {0}
 IsSessions faults.StoreFull = Unit {0}
 IsSessions (faults.BadOpening guest) = Unit {0}
+IsSessions (faults.NeedsMark guest) = Unit {0}
 
 -- How a refusal of the flusher is told. It finds the group halted only where no thread could be made for a worker.
 abbrev pub flush_told : FlushFault → SessionFault
 flush_told flushes.DeviceFailed = faults.DeviceFailed
 flush_told flushes.Halted = faults.Memory
 flush_told flushes.TooLong = faults.StoreFull
+flush_told flushes.NeedsMark = faults.NeedsMark 0
 flush_told flushes.Memory = faults.Memory
 
 -- the fault that the flusher met, if it met one

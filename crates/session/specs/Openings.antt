@@ -3,6 +3,7 @@ use Rattle.std.specs.Prelude.{◌≡◌, ◌⊎◌, ◌≤◌, ℕ, List, length
 use Rattle.std.specs.List.{AllByRecursion}
 use Rattle.elf_load.specs.Refusals.{IsPastRefusal}
 use Rattle.rrv_model.specs.declared.limits.TheConstants.{MAX_ELF}
+use Rattle.rrv_model.specs.declared.machine.Version.TheVariants.{One, Two}
 use Rattle.rrv_model.specs.Elf.{refusal}
 use Rattle.rrv_model.specs.Opening.{IsName}
 use Rattle.session.specs.declared.fault.SessionFault.{SessionFault}
@@ -32,6 +33,17 @@ pub record RefusesJobs {C O S : Type 0} (jobs : List (Job C O S)) (fault : Sessi
   pub is_there : slice_get jobs place ≡ Some job
   pub refuses : RefusesJob place job fault
   pub before : AllByRecursion StartsGuest (take place jobs)
+
+-- the job at this place is the first of a guest of version 2
+pub record IsFirstNew {C O S : Type 0} (jobs : List (Job C O S)) (place : ℕ) : Type 0 where
+  pub job : Job C O S
+  pub is_there : slice_get jobs place ≡ Some job
+  pub version : job.version ≡ Two
+  pub before : AllByRecursion (λ j. j.version ≡ One) (take place jobs)
+
+-- none of the jobs is of a guest of version 2
+abbrev pub AreOld : {C O S : Type 0} → List (Job C O S) → Type 0
+AreOld jobs = AllByRecursion (λ j. j.version ≡ One) jobs
 
 -- the job at this place is the first that starts no guest
 pub record IsFirstBad {C O S : Type 0} (jobs : List (Job C O S)) (place : ℕ) : Type 0 where

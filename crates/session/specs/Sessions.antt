@@ -8,7 +8,7 @@ use Rattle.rrv_model.specs.Recording.{IsNumbered, IsRecording}
 use Rattle.rrv_model.specs.Recovered.{next_guest, of_guest, IsRecovered}
 use Rattle.guest_calls.specs.Guest.{GuestValue}
 use Rattle.trace_disk.specs.Devices.{Device}
-use Rattle.trace_log.specs.Kept.{Keeps, LogValue}
+use Rattle.trace_log.specs.Kept.{HoldsMark, Keeps, LogValue}
 use Rattle.commit_core.specs.Runs.{IsOutput}
 use Rattle.commit_group.specs.Numbers.{IsPlaced}
 use Rattle.recorder.specs.Recorded.{IsFirst}
@@ -21,7 +21,7 @@ use Rattle.session.specs.declared.task.Worked.{Worked}
 use Rattle.session.specs.Faults.{IsLowest, IsNoLater, IsSessions, told_of}
 use Rattle.session.specs.Gains.{HasGained, IsFull}
 use Rattle.session.specs.Chosen.{HasChosen, HasChosenOn, LeavesChooser}
-use Rattle.session.specs.Openings.{IsFirstBad, OneWantsMemory}
+use Rattle.session.specs.Openings.{IsFirstBad, IsFirstNew, OneWantsMemory}
 use Rattle.session.specs.Tasks.{all_met}
 use Rattle.session.specs.Works.{AreMet, Choosers, FaultTellsSink, Sinks, HasChosenAll, IsBehind, IsSameJob, IsToItsEnd, Takes, opening_for}
 
@@ -77,11 +77,13 @@ AreLeft committed number _ _ = ⊥
 
 -- ---- the log
 
--- The log keeps these bodies, from which these records are recovered, and its next guest is above all of theirs.
+-- The log keeps these bodies, and the Mark is one if it says so. From them these records are recovered, and its next
+-- guest is above all of theirs.
 pub record IsLeft {D : Type 0} (device : Device D) (log : LogValue D) (bodies : List (List ℕ)) (earlier : List Record)
     : Type 0 where
   pub is_honest : device.honest log.disk
   pub keeps : Keeps device.state log bodies
+  pub marked : HoldsMark log bodies
   pub recovered : IsRecovered bodies earlier
   pub above : next_guest earlier ≤ log.next_guest
 
@@ -122,6 +124,7 @@ RefusesSession log log' jobs jobs' faults.TooManyGuests =
 RefusesSession log log' jobs jobs' faults.StoreFull = (log'.is_broken ≡ false) × IsFull log'
 RefusesSession log log' jobs jobs' (faults.BadOpening guest) =
     IsFirstBad (vec_items jobs) guest × AreUntouched log log' jobs jobs'
+RefusesSession log log' jobs jobs' (faults.NeedsMark guest) = (log'.is_broken ≡ false) × (log'.marked ≡ false)
 
 -- How many calls of the disk had failed before and after: one that is reported failed, and no other.
 abbrev pub TellsDevice : {T : Type 0} → Result T SessionFault → ℕ → ℕ → Type 0
@@ -133,6 +136,7 @@ TellsDevice (Err faults.Memory) old new = new ≡ old
 TellsDevice (Err faults.TooManyGuests) old new = new ≡ old
 TellsDevice (Err faults.StoreFull) old new = new ≡ old
 TellsDevice (Err (faults.BadOpening guest)) old new = new ≡ old
+TellsDevice (Err (faults.NeedsMark guest)) old new = new ≡ old
 
 -- The sink of the job at this place refused nothing, or it refused once and that is reported, or a fault before that; and
 -- where that is reported it refused.
@@ -147,11 +151,21 @@ TellsSinks {C = C} {O = O} {S = S} sinks result jobs jobs' =
     (guest : ℕ) (old new : Job C O S) → slice_get jobs guest ≡ Some old → slice_get jobs' guest ≡ Some new
     → TellsSink result guest (sinks.faults old.sink) (sinks.faults new.sink)
 
--- The first job that starts no guest is reported, unless there are too many guests, or there was no memory to look at it
--- or at one before it.
+-- The first job of a guest of version 2 is reported, unless there are too many guests.
+abbrev pub TellsNewJob : {C O S D T : Type 0} → Result T SessionFault → LogValue D → List (Job C O S) → ℕ → Type 0
+TellsNewJob result log jobs guest = IsErrAnd result (λ fault. (fault ≡ faults.NeedsMark guest)
+    ⊎ ((fault ≡ faults.TooManyGuests) × AreTooMany log jobs))
+
+-- a job of a guest of version 2 is reported, since the log doesn't hold the Mark
+abbrev pub LacksMark : {C O S D : Type 0} → LogValue D → List (Job C O S) → SessionFault → Type 0
+LacksMark log jobs fault = (log.marked ≡ false) × (place : ℕ) × IsFirstNew jobs place × (fault ≡ faults.NeedsMark place)
+
+-- The first job that starts no guest is reported, unless there are too many guests, one lacks the Mark, or there was no memory
+-- to look at it or at one before it.
 abbrev pub TellsBadJob : {C O S D T : Type 0} → Result T SessionFault → LogValue D → List (Job C O S) → ℕ → Type 0
 TellsBadJob result log jobs guest = IsErrAnd result (λ fault. (fault ≡ faults.BadOpening guest)
-    ⊎ (((fault ≡ faults.Memory) × OneWantsMemory jobs guest) ⊎ ((fault ≡ faults.TooManyGuests) × AreTooMany log jobs)))
+    ⊎ (((fault ≡ faults.Memory) × OneWantsMemory jobs guest) ⊎ (((fault ≡ faults.TooManyGuests) × AreTooMany log jobs)
+    ⊎ LacksMark log jobs fault)))
 
 -- What the worker of the guest at this place met: a fault of its own, with a refusal of its sink if it is that, or none.
 -- Then the guest is recorded to its end, unless the session met a fault that is no worker's. Its job's chooser comes back

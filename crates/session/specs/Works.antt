@@ -32,10 +32,11 @@ Choosers C = choosers.Ghosts C
 
 -- the job's opening, as the first record of this guest
 abbrev pub opening_for : {C O S : Type 0} → ℕ → Job C O S → Record
-opening_for guest job = opening_of guest (vec_items job.elf) (vec_items job.name) job.random
+opening_for guest job = opening_of guest job.version (vec_items job.elf) (vec_items job.name) job.random
 
 -- the job stays, but for what its chooser, its environment and its sink become
 pub record IsSameJob {C O S : Type 0} (old new : Job C O S) : Type 0 where
+  pub version : new.version ≡ old.version
   pub elf : vec_items new.elf ≡ vec_items old.elf
   pub name : vec_items new.name ≡ vec_items old.name
   pub random : new.random ≡ old.random
@@ -92,6 +93,7 @@ FaultTellsSink (Some faults.Memory) old new = new ≡ old
 FaultTellsSink (Some faults.TooManyGuests) old new = new ≡ old
 FaultTellsSink (Some faults.StoreFull) old new = new ≡ old
 FaultTellsSink (Some (faults.BadOpening guest)) old new = new ≡ old
+FaultTellsSink (Some (faults.NeedsMark guest)) old new = new ≡ old
 
 abbrev pub AreMet : ℕ → Option SessionFault → Type 0
 AreMet guest None = Unit {0}

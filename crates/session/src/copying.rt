@@ -10,15 +10,15 @@ use rrv_model::record::Opening;
 use rrv_model::sequence::Sequence;
 use std::alloc::{AllocError, Global};
 
-/// The opening of these bytes, of a guest of version 1.
-fn join(elf: Vec<u8>, name: Vec<u8>, random: &[u8; 16]) -> Opening
+/// The opening of these bytes.
+fn join(version: Version, elf: Vec<u8>, name: Vec<u8>, random: &[u8; 16]) -> Opening
     requires accepted { refusal elf.items ≡ None }
     requires name { IsName name.items }
-    ensures is { result ≡ record { version = Version.One; elf = elf.items; name = name.items; random = random.now } }
+    ensures is { result ≡ record { version = version; elf = elf.items; name = name.items; random = random.now } }
     ensures text { HasOpeningText result }
 {
     Opening {
-        version: Version::One,
+        version,
         elf: Sequence::from_vec(elf),
         name: Sequence::from_vec(name),
         random: *random,
@@ -28,6 +28,7 @@ fn join(elf: Vec<u8>, name: Vec<u8>, random: &[u8; 16]) -> Opening
 /// The opening of a copy of these bytes: the job keeps its own.
 pub(crate) fn copy_opening(
     alloc: Global,
+    version: Version,
     elf: &[u8],
     name: &[u8],
     random: &[u8; 16],
@@ -35,10 +36,10 @@ pub(crate) fn copy_opening(
     requires accepted { refusal elf.now ≡ None }
     requires name { IsName name.now }
     ensures is { IfOk result (λ o.
-        o ≡ record { version = Version.One; elf = elf.now; name = name.now; random = random.now }) }
+        o ≡ record { version = version; elf = elf.now; name = name.now; random = random.now }) }
     ensures text { IfOk result HasOpeningText }
 {
     let elf = Vec::from_slice(alloc, elf)?;
     let name = Vec::from_slice(alloc, name)?;
-    Ok(join(elf, name, random))
+    Ok(join(version, elf, name, random))
 }

@@ -31,6 +31,9 @@ pub enum SessionFault {
     /// No guest starts so: the file is refused, or the name.
     #[error("guest {guest}: bad opening")]
     BadOpening { guest: u32 },
+    /// The guest is of version 2, and the store doesn't hold the Mark.
+    #[error("guest {guest}: store needs the mark")]
+    NeedsMark { guest: u32 },
 }
 
 impl SessionFault {
@@ -46,6 +49,7 @@ impl SessionFault {
             SessionFault::TooManyGuests => 5,
             SessionFault::StoreFull => 6,
             SessionFault::BadOpening { .. } => 7,
+            SessionFault::NeedsMark { .. } => 8,
         }
     }
 
@@ -56,7 +60,8 @@ impl SessionFault {
         match self {
             SessionFault::SinkFailed { guest }
             | SessionFault::Held { guest }
-            | SessionFault::BadOpening { guest } => guest,
+            | SessionFault::BadOpening { guest }
+            | SessionFault::NeedsMark { guest } => guest,
             _ => 0,
         }
     }
@@ -76,6 +81,7 @@ impl From<FlushFault> for SessionFault {
         match fault {
             FlushFault::DeviceFailed => SessionFault::DeviceFailed,
             FlushFault::TooLong => SessionFault::StoreFull,
+            FlushFault::NeedsMark => SessionFault::NeedsMark { guest: 0 },
             FlushFault::Halted | FlushFault::Memory => SessionFault::Memory,
         }
     }

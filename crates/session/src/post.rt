@@ -10,6 +10,12 @@ use rrv_model::machine::Thread;
 use rrv_model::record::Choice;
 use rrv_model::syscall::{Syscall, syscall_of};
 use std::cell::Cell;
+use std::sync::Wait;
+use std::sync::atomic::AtomicU64;
+use std::time::Duration;
+
+/// How long a worker sleeps at most, in nanoseconds.
+const LONGEST_SLEEP: u64 = 10_000_000;
 
 /// The register that has a call's number, a7.
 const NUMBER: usize = 17;
@@ -25,6 +31,10 @@ pub(crate) struct Post<'s, G: Gate> {
     pace: &'s Pace,
     /// Whether the slice that isn't sent yet ended in a call that put out.
     puts_out: Cell<bool>,
+    /// Whether the worker has slept since the last frame.
+    has_slept: Cell<bool>,
+    /// What it sleeps on: nobody wakes it.
+    bed: AtomicU64,
 }
 
 impl<'s, G: Gate> Post<'s, G> {
@@ -36,6 +46,8 @@ impl<'s, G: Gate> Post<'s, G> {
             gate,
             pace,
             puts_out: Cell::new(false),
+            has_slept: Cell::new(false),
+            bed: AtomicU64::new(0),
         }
     }
 
@@ -54,6 +66,18 @@ impl<'s, G: Gate> Post<'s, G> {
             None => false,
         };
         self.puts_out.set(put_out);
+        self.has_slept.set(false);
+    }
+
+    /// Sleeps where all threads of the guest wait for a time: so many nanoseconds, or for 10 milliseconds where that is less, so that a
+    /// halt and what became durable are seen, and a clock that isn't the host's. The flusher is hurried as the worker falls asleep, so
+    /// that what the guest put out leaves.
+    pub(crate) fn sleep<R: Wait>(&self, rt: &R, left: Option<u64>) {
+        if !self.has_slept.replace(true) {
+            self.pace.hurry();
+        }
+        let left = left.unwrap_or(LONGEST_SLEEP).min(LONGEST_SLEEP);
+        self.bed.park_timeout(rt, 0, Duration::from_nanos(left));
     }
 
     /// Tells the flusher and the gate of the records that were sent, and the gate of those behind the opening, which is the first.

@@ -17,7 +17,7 @@ use rrv_model::limits::MIN_QUANTUM;
 use rrv_model::record::Choice;
 use rrv_model::refusal::Memory;
 use rrv_model::sink::Sink;
-use serial_sched::Chooser;
+use serial_sched::{Chooser, SliceFault};
 use std::alloc::Global;
 use std::sync::Wait;
 use std::thread;
@@ -45,8 +45,8 @@ impl From<RecorderFault> for WorkFault {
         match fault {
             RecorderFault::Halted => WorkFault::Halted,
             RecorderFault::SinkFailed { .. } => WorkFault::SinkFailed,
-            // A step with a place for its frame, by a choice that fits, is refused for want of memory alone: a session's guests are
-            // of version 1, so that none waits for a time.
+            // A step with a place for its frame, by a choice that fits, is refused for want of memory alone, or since all threads wait
+            // for a time, which a turn tells otherwise.
             RecorderFault::Memory
             | RecorderFault::Full
             | RecorderFault::Refused(_)
@@ -73,6 +73,8 @@ enum Step {
     Held,
     /// A record waits to be sent.
     Waits,
+    /// No thread of the guest runs, and the time of no wait is over.
+    Asleep,
     /// There is no frame to make.
     Over,
 }
@@ -136,7 +138,11 @@ fn take_turn<C: Chooser, O: Outside, G: Gate>(
         return Ok(Step::Over);
     };
     let before = recorder.guest().ran();
-    recorder.step(alloc, choice, outside)?;
+    match recorder.step(alloc, choice, outside) {
+        Ok(_) => {}
+        Err(RecorderFault::Refused(SliceFault::Waiting)) => return Ok(Step::Asleep),
+        Err(fault) => return Err(WorkFault::from(fault)),
+    }
     post.look_for_output(recorder.guest(), choice, before);
     Ok(Step::Stepped)
 }
@@ -183,6 +189,7 @@ fn rest(turn: Step, held: u32) -> Result<u32, WorkFault>
 {
     match turn {
         Step::Stepped | Step::Over => Ok(0),
+        Step::Asleep => Ok(held),
         Step::Waits => {
             thread::yield_now();
             Ok(held)
@@ -218,6 +225,9 @@ fn make_frames<C: Chooser, O: Outside, S: Sink, G: Gate, R: Wait>(
         let turn = take_turn(alloc, recorder, chooser, outside, post)?;
         if turn == Step::Over {
             break;
+        }
+        if turn == Step::Asleep {
+            post.sleep(rt, recorder.time_left());
         }
         held = rest(turn, held)?;
     }

@@ -2,15 +2,15 @@
 
 ghost use Rattle.std.specs.Prelude.{◌≡◌, ◌<◌, ◌≤◌, ◌+◌, ℕ, [], false, length, IfErr, OnErr, OnOk, Err};
 ghost use Rattle.std.specs.List.{AllByRecursion};
-ghost use Rattle.session.specs.Openings.{IsFirstBad, StartsGuest};
-ghost use Rattle.session.specs.Sessions.{AreTooMany, AreUntouched, HasEnded, RefusesSession, TellsBadJob, TellsDevice, TellsSinks};
+ghost use Rattle.session.specs.Openings.{IsFirstBad, IsFirstNew, StartsGuest};
+ghost use Rattle.session.specs.Sessions.{AreTooMany, AreUntouched, HasEnded, RefusesSession, TellsBadJob, TellsDevice, TellsNewJob, TellsSinks};
 
 use crate::fault::SessionFault;
 use crate::gate::Gate;
 use crate::hand_over::{give, take_back};
 use crate::job::Job;
 use crate::lowest::lowest_fault;
-use crate::opening::check_jobs;
+use crate::opening::{check_jobs, first_unmarked};
 use crate::report::SessionReport;
 use crate::room::{SessionRoom, make_room};
 use crate::run::run;
@@ -120,6 +120,8 @@ pub fn record_all<
     ensures none { jobs.items ≡ [] → AreUntouched log result.0 jobs result.1 × OnErr result.2 ⊥ }
     ensures disk { TellsDevice result.2 (D.faults log.disk) (D.faults result.0.disk) }
     ensures sinks { TellsSinks S.Sink result.2 jobs.items result.1.items }
+    ensures unmarked { (guest : ℕ) → log.marked ≡ false → IsFirstNew jobs.items guest
+        → AreUntouched log result.0 jobs result.1 × TellsNewJob result.2 log jobs.items guest }
     ensures bad { (guest : ℕ) → IsFirstBad jobs.items guest
         → AreUntouched log result.0 jobs result.1 × TellsBadJob result.2 log jobs.items guest }
 {
@@ -133,6 +135,9 @@ pub fn record_all<
             states: Vec::new(alloc),
         };
         return (log, jobs, Ok(report));
+    }
+    if let Some(guest) = first_unmarked(&jobs, log.marked()) {
+        return (log, jobs, Err(SessionFault::NeedsMark { guest }));
     }
     if let Err(fault) = check_jobs(alloc, &jobs) {
         return (log, jobs, Err(fault));

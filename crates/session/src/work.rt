@@ -36,7 +36,7 @@ fn open<C: Chooser + Drop, O: Outside + Drop, S: Sink + Drop>(
     ensures every { IfOk result (λ r. r.every ≡ job.now.every) }
     ensures back { IfErr result (λ e. e ≡ seat) }
 {
-    let Ok(opening) = copy_opening(alloc, &job.elf, &job.name, &job.random) else {
+    let Ok(opening) = copy_opening(alloc, job.version, &job.elf, &job.name, &job.random) else {
         return Err(seat);
     };
     match Recorder::new(alloc, seat, opening, job.every) {

@@ -10,6 +10,7 @@ mod gates;
 mod jobs;
 mod listed;
 mod many;
+mod marked;
 mod memory;
 mod numbers;
 mod recorders;

@@ -124,6 +124,11 @@ pub fn call_log<D: Disk>(
             commit_each(alloc, log, bytes, count)
         }
         "next-guest" => told(alloc, &log.next_guest()),
+        "marked" => told(alloc, &log.marked()),
+        "mark" => match log.mark(alloc) {
+            Ok(made) => told(alloc, &made),
+            Err(fault) => told(alloc, &fault),
+        },
         "raise-guest" => {
             log.raise_guest(short_number(words, 1)?);
             Some(String::new(alloc))

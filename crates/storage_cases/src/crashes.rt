@@ -48,6 +48,24 @@ fn crashes_of(disk: &MemDisk) -> [(u64, u8); 9] {
     ]
 }
 
+/// Whether each of the crashes leaves so many records of guest 0, and then, once it is marked, these bytes. Marking it writes them
+/// only if the crash left no Mark.
+pub fn marks(alloc: Global, disk: &MemDisk, records: u32, want: &[u8]) -> Option<()> {
+    for (len, fill) in crashes_of(disk) {
+        let (mut log, lists) = open(alloc, crashed(alloc, disk, len, fill)?).ok()?;
+        let was_marked = log.marked();
+        let made = log.mark(alloc).ok()?;
+        let mut left = log.close();
+        if lists.len(0) != records || made == was_marked {
+            return None;
+        }
+        if bytes_on(alloc, &mut left)?.as_slice() != want {
+            return None;
+        }
+    }
+    Some(())
+}
+
 /// Whether each crash leaves what was told, with one record more at most, and just what an opening told.
 fn holds(alloc: Global, disk: &MemDisk, told: u32, opening: Option<u32>) -> Option<bool> {
     for (len, fill) in crashes_of(disk) {

@@ -62,7 +62,7 @@ impl<D: Disk + Drop> Machine<D> {
         if disk.len() <= gate {
             return None;
         }
-        self.log = Some(Log::adopt(disk, gate, segments));
+        self.log = Some(Log::adopt(disk, gate, segments, false));
         Some(String::new(alloc))
     }
 
@@ -124,7 +124,9 @@ impl<D: Disk + Drop> Machine<D> {
                 put_numbered(alloc, &mut self.body, words)?;
                 Some(String::new(alloc))
             }
-            "commit" | "commit-each" | "next-guest" | "raise-guest" => self.log(alloc, words),
+            "commit" | "commit-each" | "next-guest" | "raise-guest" | "mark" | "marked" => {
+                self.log(alloc, words)
+            }
             "guests" | "records" | "record-at" | "reads" => {
                 ask_lists(alloc, self.lists.as_ref()?, self.disk.as_mut(), words)
             }

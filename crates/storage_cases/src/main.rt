@@ -27,6 +27,7 @@
 //! | `numbered FROM TO PLACE BYTES` | puts a record's text behind these for each index from one up to another, which stands at PLACE too |
 //! | `commit`, `commit-each COUNT` | commits these bytes, or each COUNT of them |
 //! | `raise-guest N`, `next-guest` | calls of the log |
+//! | `mark`, `marked` | whether the log committed the Mark now, whether it holds the Mark |
 //! | `open`, `open-in PIECE`, `read` | opens the store, opens it in pieces, only reads it |
 //! | `guests`, `records GUEST`, `record-at GUEST INDEX` | what was there at the last of these |
 //! | `reads GUEST FROM TO WORDS` | how many records from one index up to another tell what begins so |
@@ -34,6 +35,7 @@
 //! | `lengths` | the least and the greatest length that a crash of that disk may leave |
 //! | `crash LEN BYTE` | goes on with what a crash leaves, with the byte wherever it may change one |
 //! | `crashes BYTE` | what is opened after a crash of each length |
+//! | `marks COUNT FILE` | each of nine crashes leaves so many records, and once it is marked, if it isn't, the bytes of a file |
 //! | `survives COUNT` | each of nine crashes, and of nine behind each failed call of its opening, leaves so many records, or one more |
 //! | `file PART`, `look PART` | the same of a machine with a disk in a file |
 //! | `.. make PATH`, `.. open-file PATH`, `.. open-to-read PATH`, `.. let-go` | its disk is made, opened, opened to be read alone, let go |

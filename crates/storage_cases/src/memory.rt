@@ -1,6 +1,6 @@
 //! A machine with a disk in memory, of which a call may fail, and which may stop.
 
-use crate::crashes::{crashed, crashes_text, survives};
+use crate::crashes::{crashed, crashes_text, marks, survives};
 use crate::machine::Machine;
 use crate::measured::Measured;
 use crate::stores::disk_of;
@@ -108,6 +108,16 @@ impl Memory {
                 let disk = self.stopped.as_ref()?;
                 let crash = crashed(alloc, disk, number(words, 1)?, byte(words, 2)?)?;
                 self.put(alloc, crash, 0)
+            }
+            "marks" => {
+                let bytes = fs::read(rt, *words.get(2)?).ok()?;
+                marks(
+                    alloc,
+                    self.stopped.as_ref()?,
+                    short_number(words, 1)?,
+                    &bytes,
+                )?;
+                Some(String::new(alloc))
             }
             "lengths" | "crashes" | "survives" => {
                 ask_stopped(alloc, self.stopped.as_ref()?, words)

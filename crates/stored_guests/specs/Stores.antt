@@ -1,10 +1,12 @@
 -- What is found of a guest in a store, and why it isn't.
-use Rattle.std.specs.Prelude.{◌≡◌, ◌⊎◌, ℕ, ◌≤◌, List, [], length, Result, IfErr, IfOk}
+use Rattle.std.specs.Prelude.{◌≡◌, ◌⊎◌, ℕ, ◌≤◌, false, List, [], length, Result, IfErr, IfOk}
 use Rattle.rrv_model.specs.declared.record.Record.{Record}
 use Rattle.recover.specs.declared.fault.OpenFault.{OpenFault}
 use Rattle.recover.specs.declared.spot.Spot.{Spot}
 use Rattle.recover.specs.Opened.{IsFailure, IsFaultOf}
 use Rattle.recover.specs.Spots.{StandOn}
+use Rattle.session.specs.declared.fault.SessionFault.TheVariants as session_faults
+use Rattle.trace_log.specs.Kept.{IsPastLimit, LogValue, mark}
 use Rattle.replayer.specs.declared.fault.VerifyFault.TheVariants as verify_faults
 use Rattle.replayer.specs.Sourced.{RefusesSource}
 use Rattle.stored_guests.specs.declared.refusal.Refusal.{Refusal}
@@ -20,6 +22,13 @@ RefusesStore bytes e =
 -- the device failed, or there was no memory
 abbrev pub IsFailed : Refusal → Type 0
 IsFailed e = (e ≡ refusals.DeviceFailed) ⊎ (e ≡ refusals.Memory)
+
+-- the store is full, the device failed, or there was no memory
+abbrev pub RefusesMark : {D : Type 0} → LogValue D → Refusal → Type 0
+RefusesMark log (refusals.Session session_faults.StoreFull) = (log.marked ≡ false) × IsPastLimit log mark
+RefusesMark log refusals.DeviceFailed = Unit {0}
+RefusesMark log refusals.Memory = Unit {0}
+RefusesMark log _ = ⊥
 
 -- What is read of a store is so where its records stand on an honest disk, on which they then stand still; else the device failed, or there
 -- was no memory.

@@ -18,6 +18,8 @@ use Rattle.session.specs.declared.fault.SessionFault.{SessionFault}
 use Rattle.session.specs.declared.fault.SessionFault.TheVariants as session_faults
 use Rattle.trace_disk.specs.declared.file_disk.CreateFault.{CreateFault}
 use Rattle.trace_disk.specs.declared.file_disk.CreateFault.TheVariants as create_faults
+use Rattle.trace_log.specs.declared.log.LogFault.{LogFault}
+use Rattle.trace_log.specs.declared.log.LogFault.TheVariants as log_faults
 use Rattle.stored_guests.specs.declared.file_fault.FileFault.{FileFault}
 use Rattle.stored_guests.specs.declared.file_fault.FileFault.TheVariants as file_faults
 use Rattle.stored_guests.specs.declared.refusal.Refusal.{Refusal}
@@ -37,6 +39,12 @@ session_told session_faults.DeviceFailed = refusals.DeviceFailed
 session_told session_faults.Memory = refusals.Memory
 session_told (session_faults.SinkFailed guest) = refusals.OutputFailed
 session_told fault = refusals.Session fault
+
+-- of a body that was to be committed
+abbrev pub log_told : LogFault → Refusal
+log_told log_faults.Memory = refusals.Memory
+log_told log_faults.TooLong = refusals.Session session_faults.StoreFull
+log_told fault = refusals.DeviceFailed
 
 abbrev pub seek_told : SeekFault → Refusal
 seek_told seek_faults.Memory = refusals.Memory

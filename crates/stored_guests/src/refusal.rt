@@ -1,7 +1,7 @@
 //! Why a line of the program did not do what it asks for.
 
 ghost use Rattle.std.specs.Prelude.{◌≡◌, ◌≢◌, false};
-ghost use Rattle.stored_guests.specs.Told.{IsChecked, IsInWords, copy_told, create_told, elf_told, file_told, open_told, output_told, read_told, seek_told, session_told, verify_told};
+ghost use Rattle.stored_guests.specs.Told.{IsChecked, IsInWords, copy_told, create_told, elf_told, file_told, log_told, open_told, output_told, read_told, seek_told, session_told, verify_told};
 ghost use Rattle.stored_guests.specs.declared.refusal.Refusal.TheVariants as refusals;
 
 use crate::file_fault::{FileFault, FirstLine};
@@ -17,6 +17,7 @@ use session::SessionFault;
 use std::alloc::{AllocError, AllocFailed, Global};
 use thiserror::Error;
 use trace_disk::{CannotOpen, CreateFault, DiskFailed};
+use trace_log::LogFault;
 
 /// Why a line was refused. The text is what the program prints behind `rrv: `.
 #[derive(Debug, Drop, Error)]
@@ -231,6 +232,18 @@ impl From<VerifyFault> for Refusal {
         match fault {
             VerifyFault::Memory => Refusal::Memory,
             fault => Refusal::Verify { fault },
+        }
+    }
+}
+
+impl From<LogFault> for Refusal {
+    ghost from_gives = { λ fault e. e ≡ log_told fault };
+
+    fn from(fault: LogFault) -> Self {
+        match fault {
+            LogFault::Memory => Refusal::Memory,
+            LogFault::TooLong => Refusal::from(SessionFault::StoreFull),
+            LogFault::DeviceFailed | LogFault::Broken | LogFault::NotEmpty => Refusal::DeviceFailed,
         }
     }
 }

@@ -1,12 +1,13 @@
 //! Stores in files, and the guests that they hold.
 
-ghost use Rattle.std.specs.Prelude.{◌≡◌, ◌<◌, ◌≤◌, [], IfErr, IfOk, List, Some, false, length, slice_get, ℕ};
+ghost use Rattle.std.specs.Prelude.{◌≡◌, ◌<◌, ◌≤◌, [], IfErr, IfOk, List, MatchBool, Some, false, length, slice_get, true, ℕ};
 ghost use Rattle.rrv_model.specs.Recovered.{IsRecovered, of_guest};
 ghost use Rattle.store_model.specs.StoreText.{IsStore};
 ghost use Rattle.rrv_model.specs.declared.record.Record.{Record};
 ghost use Rattle.recover.specs.Opened.{IsOpened, IsRead, IsReady};
 ghost use Rattle.recover.specs.Spots.{records_of};
-ghost use Rattle.stored_guests.specs.Stores.{IsFailed, ReadsStore, RefusesStore};
+ghost use Rattle.trace_log.specs.Committed.{HasMarked};
+ghost use Rattle.stored_guests.specs.Stores.{IsFailed, ReadsStore, RefusesMark, RefusesStore};
 
 use crate::refusal::Refusal;
 use recover::{Lists, open, read, settle};
@@ -60,6 +61,19 @@ pub fn open_log<R: Files<File = File> + AllocGlobal>(
 {
     let disk = FileDisk::open(rt, path)?;
     let (log, _) = opened(rt.alloc(), disk)?;
+    Ok(log)
+}
+
+/// A log whose store holds the Mark: it is committed if none is there.
+pub fn marked<D: Disk + Drop>(alloc: Global, log: Log<D>) -> Result<Log<D>, Refusal>
+    requires whole { log.is_broken ≡ false }
+    ensures whole { IfOk result (λ new. new.is_broken ≡ false) }
+    ensures marked { IfOk result (λ new. new.marked ≡ true) }
+    ensures stored { IfOk result (λ new. MatchBool log.marked (new ≡ log) (HasMarked D.Disk log new)) }
+    ensures refused { IfErr result (RefusesMark log) }
+{
+    let mut log = log;
+    log.mark(alloc)?;
     Ok(log)
 }
 

@@ -190,3 +190,43 @@ fn ended_group(rt: HostRuntime) -> Result<(), Fail> {
     same(&rt, &"the report", found, want);
     Ok(())
 }
+
+// The store doesn't hold the Mark. One guest is of version 1, and what it sent in an earlier turn stays. The opening of the other, of version
+// 2, is refused with all that is in its batch; nothing is written, and the group halts.
+#[test]
+fn new_records_need_the_mark(rt: HostRuntime) -> Result<(), Fail> {
+    let alloc = rt.alloc();
+    let rows = [
+        Row::SendsAll(0, 2),
+        Row::Turn(Ok(Turn::Committed(2))),
+        Row::SendsAll(0, 1),
+        Row::Sends(1, Manner::New, None),
+        Row::Turn(Err(FlushFault::NeedsMark)),
+        Row::LooksForHalt(0, true),
+        Row::LooksForHalt(1, true),
+        Row::Looks(0, 2),
+        Row::Looks(1, 0),
+        Row::NextGuest(1),
+        Row::Turn(Err(FlushFault::Halted)),
+        Row::Sends(1, Manner::New, Some(SubmitFault::Halted)),
+    ];
+    let mut disk = play(&rt, alloc, 2, 0, &rows)?;
+    has_bytes(&rt, &mut disk, 202, &[(16, 0xA5), (201, 0)])?;
+    crashes_leave(&rt, alloc, &disk, &[2])
+}
+
+// So is the end of a wait, of a guest whose opening was taken.
+#[test]
+fn the_end_of_a_wait_needs_the_mark(rt: HostRuntime) -> Result<(), Fail> {
+    let alloc = rt.alloc();
+    let rows = [
+        Row::SendsAll(0, 2),
+        Row::Turn(Ok(Turn::Committed(2))),
+        Row::Sends(0, Manner::New, None),
+        Row::Turn(Err(FlushFault::NeedsMark)),
+        Row::LooksForHalt(0, true),
+        Row::Looks(0, 2),
+    ];
+    let disk = play(&rt, alloc, 1, 0, &rows)?;
+    crashes_leave(&rt, alloc, &disk, &[2])
+}

@@ -17,21 +17,21 @@ use test_guests::files::file_of;
 /// `j .`
 const JUMP_TO_ITSELF: [u32; 1] = [0x0000_006F];
 
-fn opening_of(elf: Vec<u8>, name: Vec<u8>) -> Item
+fn opening_of(version: Version, elf: Vec<u8>, name: Vec<u8>) -> Item
     requires fits { length elf.items ≤ MAX_ELF }
     requires named { IsName name.items }
     ensures { IsOpening result × HasItemText result }
 {
     Item::Opening(Opening {
-        version: Version::One,
+        version,
         elf: Sequence::from_vec(elf),
         name: Sequence::from_vec(name),
         random: [0; 16],
     })
 }
 
-/// The opening of a guest named `a`.
-pub(crate) fn opening(alloc: Global) -> Result<Item, Fail>
+/// The opening of a guest of a version, which is named `a`.
+pub(crate) fn opening(alloc: Global, version: Version) -> Result<Item, Fail>
     ensures { IfOk result (λ item. IsOpening item × HasItemText item) }
 {
     let elf = file_of(alloc, &JUMP_TO_ITSELF)?;
@@ -39,17 +39,17 @@ pub(crate) fn opening(alloc: Global) -> Result<Item, Fail>
         return Err(Fail::new("a file too long"));
     }
     let name = Vec::from_slice(alloc, b"a")?;
-    Ok(opening_of(elf, name))
+    Ok(opening_of(version, elf, name))
 }
 
-/// The same with a file as long as one may be, of zeros.
+/// The same of version 1 with a file as long as one may be, of zeros.
 pub(crate) fn long_opening(alloc: Global) -> Result<Item, Fail>
     ensures { IfOk result (λ item. IsOpening item × HasItemText item) }
 {
     let mut elf = Vec::new(alloc);
     elf.resize(MAX_ELF as usize, 0)?;
     let name = Vec::from_slice(alloc, b"a")?;
-    Ok(opening_of(elf, name))
+    Ok(opening_of(Version::One, elf, name))
 }
 
 /// The frame of a slice of 64 instructions.
@@ -61,5 +61,17 @@ pub(crate) fn preempted() -> Item
         tid: 1,
         count: 64,
         end: End::Preempt,
+    })
+}
+
+/// The frame of a wait whose time was over.
+pub(crate) fn expired() -> Item
+    ensures opens { IsOpening result → ⊥ }
+    ensures text { HasItemText result }
+{
+    Item::Frame(Frame {
+        tid: 1,
+        count: 0,
+        end: End::Expire,
     })
 }

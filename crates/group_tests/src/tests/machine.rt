@@ -4,8 +4,9 @@ ghost use Rattle.std.specs.Prelude.{◌≡◌, false, length, IfOk};
 ghost use Rattle.commit_group.specs.Seats.{AllOf};
 ghost use Rattle.commit_group.specs.Submits.{CanSubmit};
 
-use super::items::{long_opening, opening, preempted};
+use super::items::{expired, long_opening, opening, preempted};
 use commit_group::{FlushFault, FlusherSeat, Group, RecorderSeat, Report, SubmitFault, Turn, end};
+use rrv_model::machine::Version;
 use rrv_model::record::Item;
 use std::alloc::Global;
 use std::sync::Wait;
@@ -15,16 +16,18 @@ use trace_log::Log;
 
 pub(crate) type Device = FailOnce<MemDisk>;
 
-/// What the guest of a seat sends next: an opening, with a short file or the longest, and then frames.
-fn next_item(alloc: Global, seat: &RecorderSeat, is_long: bool) -> Result<Item, Fail>
+/// What the guest of a seat sends next: an opening at first, and then frames.
+fn next_item(alloc: Global, seat: &RecorderSeat, manner: Manner) -> Result<Item, Fail>
     ensures { IfOk result (CanSubmit seat.now) }
 {
     let _ = seat.guest();
-    match seat.sent() {
-        0 if is_long => Ok(long_opening(alloc)?),
-        0 => Ok(opening(alloc)?),
-        u32::MAX => Err(Fail::new("too many items")),
-        _ => Ok(preempted()),
+    match (seat.sent(), manner) {
+        (0, Manner::Long) => Ok(long_opening(alloc)?),
+        (0, Manner::New) => Ok(opening(alloc, Version::Two)?),
+        (0, _) => Ok(opening(alloc, Version::One)?),
+        (u32::MAX, _) => Err(Fail::new("too many items")),
+        (_, Manner::New) => Ok(expired()),
+        (_, _) => Ok(preempted()),
     }
 }
 
@@ -36,6 +39,8 @@ pub(crate) enum Manner {
     Waits,
     /// It tries, and an opening has the longest file.
     Long,
+    /// It tries, and an opening is of version 2, and a frame ends a wait.
+    New,
 }
 
 /// Sends an item. The seat stays of its group and guest.
@@ -75,7 +80,7 @@ fn log_behind(alloc: Global, segments: u32) -> Result<Log<Device>, Fail>
     if disk.len() != 17 {
         return Err(Fail::new("no empty store"));
     }
-    Ok(Log::adopt(disk, 16, segments))
+    Ok(Log::adopt(disk, 16, segments, false))
 }
 
 /// The seats of a group, and a log that takes a further commit unless the group has halted.
@@ -132,7 +137,7 @@ impl Machine {
         let Some(seat) = self.seats.get_mut(guest as usize) else {
             return Err(Fail::new("no such guest"));
         };
-        let item = next_item(alloc, seat, manner == Manner::Long)?;
+        let item = next_item(alloc, seat, manner)?;
         match send_by(rt, seat, item, manner) {
             Ok(()) => Ok(None),
             Err((_, fault)) => Ok(Some(fault)),

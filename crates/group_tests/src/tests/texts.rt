@@ -23,6 +23,7 @@ fn says_why_a_turn_is_refused(rt: HostRuntime) -> Result<(), Fail> {
         (FlushFault::DeviceFailed, "device failed"),
         (FlushFault::Halted, "halted"),
         (FlushFault::TooLong, "too long"),
+        (FlushFault::NeedsMark, "store needs the mark"),
         (FlushFault::Memory, "out of memory"),
     ] {
         let told = format!(in rt.alloc(); "{fault}")?;

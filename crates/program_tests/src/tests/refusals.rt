@@ -86,6 +86,10 @@ fn refusals_of_a_session(rt: HostRuntime) -> Result<(), Fail> {
             SessionFault::BadOpening { guest: 1 },
             "guest 1: bad opening",
         ),
+        (
+            SessionFault::NeedsMark { guest: 1 },
+            "guest 1: store needs the mark",
+        ),
     ];
     for (fault, want) in faults {
         shows(&rt, &fault, want)?;
@@ -137,6 +141,7 @@ fn refusals_of_a_copy(rt: HostRuntime) -> Result<(), Fail> {
         (CopyFault::DeviceFailed, "device failed"),
         (CopyFault::StoreFull, "store full"),
         (CopyFault::TooManyGuests, "too many guests"),
+        (CopyFault::NeedsMark, "store needs the mark"),
         (CopyFault::Memory, "out of memory"),
     ];
     for (fault, want) in faults {

@@ -1,11 +1,11 @@
 //! Recorders that wake threads whose timed waits are over. Their clock is a list of answers.
 
-ghost use Rattle.std.specs.Prelude.{◌≡◌, false};
+ghost use Rattle.std.specs.Prelude.{◌≡◌, [], false};
 
-use super::recorders::{counts, recorder_of_version, two_seats};
+use super::recorders::{counts, opening, recorder_of_version, two_seats};
 use super::same;
-use super::store::Store;
-use commit_group::FlusherSeat;
+use super::store::{Store, marked_log};
+use commit_group::{FlusherSeat, RecorderSeat};
 use guest_calls::Outside;
 use recorder::{Parts, Recorder, RecorderFault};
 use rrv_model::machine::{GuestEnd, Version};
@@ -221,11 +221,10 @@ impl Recorded {
     fn new(rt: &impl Wait, alloc: Global, program: &[u32], every: u32) -> Result<Recorded, Fail> {
         let (seat, _, flusher) = two_seats(alloc)?;
         let recorder = recorder_of_version(alloc, seat, Version::Two, program, every)?;
-        let log = Log::create(MemDisk::new(alloc)).ok().ok_or("not made")?;
         let mut recorded = Recorded {
             recorder,
             flusher,
-            log,
+            log: marked_log(alloc)?,
             checkpoints: 0,
         };
         recorded.commit(rt, alloc)?;
@@ -513,17 +512,32 @@ fn step_at_last<R: Abort>(
     Ok(())
 }
 
-// Each growth is refused in turn: of the recorder, of the wait, of its expiry, and of the frames around them.
+/// A recorder of a guest that waits. If it finds no memory the seat that comes back makes one.
+fn recorder_at_last<R: Abort>(rt: &R, alloc: Global, seat: RecorderSeat) -> Result<Recorder, Fail>
+    requires { (seat.sent ≡ []) × (seat.has_left ≡ false) }
+{
+    let opening = opening(alloc, Version::Two, &ONE_WAIT)?;
+    match Recorder::new(alloc, seat, opening, 0) {
+        Ok(recorder) => Ok(recorder),
+        Err((seat, fault)) => {
+            same(rt, &"new", fault, RecorderFault::Memory);
+            recorder_of_version(alloc, seat, Version::Two, &ONE_WAIT, 0)
+        }
+    }
+}
+
+// Each growth is refused in turn: of the recorder, of the wait, of its expiry, and of the frame behind it. The records and the instructions
+// behind each step are those of the frame that would have been made.
 #[test]
 fn a_wait_finds_no_memory(rt: HostRuntime) -> Result<(), Fail> {
     let alloc = rt.alloc();
     let (seat, _, _) = two_seats(alloc)?;
-    let mut recorder = recorder_of_version(alloc, seat, Version::Two, &ONE_WAIT, 0)?;
-    for seconds in 0u64..8 {
+    let mut recorder = recorder_at_last(&rt, alloc, seat)?;
+    for (seconds, made, ran) in [(0u64, 2u32, 10u64), (1, 3, 10), (2, 4, 12)] {
         recorder.send(&rt)?;
-        if recorder.guest().ended().is_none() {
-            step_at_last(&rt, alloc, &mut recorder, (seconds, 0))?;
-        }
+        step_at_last(&rt, alloc, &mut recorder, (seconds, 0))?;
+        let found = (recorder.made(), recorder.guest().ran());
+        same(&rt, &seconds, found, (made, ran));
     }
     let want = Some(GuestEnd::Exited(0x92));
     same(&rt, &"end", recorder.guest().ended(), want);

@@ -3,6 +3,7 @@
 use super::same;
 use guest_calls::Put;
 use recorder::MemSink;
+use rrv_model::machine::Version;
 use serial_sched::RoundRobin;
 use session::Job;
 use std::alloc::Global;
@@ -52,6 +53,7 @@ pub(super) fn jobs(alloc: Global, count: u32, times: u32) -> Result<Vec<MemJob>,
     let mut jobs = Vec::new(alloc);
     for place in 0..count {
         jobs.push(Job {
+            version: Version::One,
             elf: file_of(alloc, &putting(place, times))?,
             name: Vec::from_slice(alloc, b"putting")?,
             random: [7; 16],

@@ -5,6 +5,7 @@ use super::gates::Behind;
 use super::same;
 use super::store::{Kind, Store};
 use guest_calls::Put;
+use rrv_model::machine::Version;
 use rrv_model::record::Choice;
 use serial_sched::Listed;
 use session::{Job, OpenGate, SessionFault, record_all};
@@ -33,6 +34,7 @@ pub(super) fn listed_jobs(alloc: Global, programs: &[&[u32]]) -> Result<Vec<List
     let mut jobs = Vec::new(alloc);
     for program in programs {
         jobs.push(Job {
+            version: Version::One,
             elf: file_of(alloc, program)?,
             name: Vec::from_slice(alloc, b"listed")?,
             random: [0; 16],
@@ -56,7 +58,7 @@ fn says_hi(rt: &impl Abort, puts: &[Put]) -> bool {
 }
 
 /// The records of a guest that jumps to itself.
-const SPINS: [Kind; 11] = [
+pub(super) const SPINS: [Kind; 11] = [
     ("opening", 88),
     ("preempt", 64),
     ("preempt", 64),

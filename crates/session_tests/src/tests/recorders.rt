@@ -57,7 +57,7 @@ fn opening_of(version: Version, elf: Vec<u8>, name: Vec<u8>) -> Opening
 }
 
 /// The opening of a guest named `a`, of this version.
-fn opening(alloc: Global, version: Version, program: &[u32]) -> Result<Opening, Fail>
+pub(super) fn opening(alloc: Global, version: Version, program: &[u32]) -> Result<Opening, Fail>
     ensures { IfOk result HasOpeningText }
 {
     let elf = file_of(alloc, program)?;

@@ -1,14 +1,17 @@
 //! What a store has after a session.
 
+ghost use Rattle.std.specs.Prelude.{◌≡◌, false, IfOk};
+
 use recorder::MemSink;
 use recover::{Lists, open};
 use replayer::verify;
-use rrv_model::machine::GuestEnd;
+use rrv_model::machine::{GuestEnd, Version};
 use rrv_model::record::{End, Item, Record};
 use std::alloc::Global;
 use std::sync::Wait;
 use std::test::Fail;
 use trace_disk::{Disk, MemDisk};
+use trace_log::Log;
 
 /// What a record is: its kind, and how many bytes of a file or instructions it has.
 pub(super) type Kind = (&'static str, usize);
@@ -23,6 +26,16 @@ fn kind_of(record: &Record) -> Kind {
         },
         Item::Part(_) => ("part", 0),
     }
+}
+
+/// The log of a new store that holds the Mark.
+pub(super) fn marked_log(alloc: Global) -> Result<Log<MemDisk>, Fail>
+    ensures { IfOk result (λ log. log.is_broken ≡ false) }
+{
+    let mut log = Log::create(MemDisk::new(alloc)).ok().ok_or("not made")?;
+    log.mark(alloc)?;
+    let (log, _) = open(alloc, log.close()).ok().ok_or("not opened")?;
+    Ok(log)
 }
 
 /// All the bytes of a disk.
@@ -75,6 +88,17 @@ impl Store {
     /// The records of a guest.
     fn records(&mut self, alloc: Global, guest: u32) -> Result<Vec<Record>, Fail> {
         records_of(alloc, &self.lists, &mut self.disk, guest)
+    }
+
+    /// The version of a guest, which its opening has.
+    pub(super) fn version(&mut self, alloc: Global, guest: u32) -> Result<Version, Fail> {
+        match self.records(alloc, guest)?.first() {
+            Some(record) => match &record.item {
+                Item::Opening(opening) => Ok(opening.version),
+                _ => Err(Fail::new("no opening")),
+            },
+            None => Err(Fail::new("no records")),
+        }
     }
 
     /// What the records of a guest are.

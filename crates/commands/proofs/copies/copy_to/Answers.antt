@@ -21,7 +21,7 @@ returns-in_err-name-clause-copied g c earlier on k =
 pub returns-in_err-name-clause-safe : goal.returns-in_err-name-clause-safe
 returns-in_err-name-clause-safe g c earlier k =
     let p = err_from_is_err_and c.from_residual.result c.from_residual.ensures.1 in
-    ([], copies_none c.args.log.now.next_guest 0, rw p.1 (copies_nothing g.D.Disk p.0 c.args.log.now earlier [] k))
+    ([], copies_none c.args.log.now.marked c.args.log.now.next_guest 0, rw p.1 (copies_nothing g.D.Disk p.0 c.args.log.now earlier [] k))
 
 pub returns-in_err-number-clause-copied : goal.returns-in_err-number-clause-copied
 returns-in_err-number-clause-copied g c earlier on k =
@@ -55,14 +55,16 @@ returns-in_err-print_guest-clause-safe g c earlier k =
 pub returns-in_err-name-clause-refused : goal.returns-in_err-name-clause-refused
 returns-in_err-name-clause-refused g c on =
     let p = err_from_is_err_and c.from_residual.result c.from_residual.ensures.1 in
-    rw (p.1, p.2) (name_refused c.args.log.now.next_guest c.args.log.now _ (c.in_err-name.ensures.refused on))
+    rw (p.1, p.2) (name_refused (copies_of c.args.log.now.next_guest c.args.guest c.args.lists.now) c.args.log.now c.args.log.now _
+    (c.in_err-name.ensures.refused on))
 
 pub returns-in_err-number-clause-refused : goal.returns-in_err-number-clause-refused
 returns-in_err-number-clause-refused g c on =
     let p = err_from_is_err_and c.from_residual-in_err-number.result c.from_residual-in_err-number.ensures.1 in
     let fault = c.in_err-number.ensures in
-    rw (p.1, p.2) (copy_refused c.args.log.now.next_guest c.copy_guest.new.log _ (λ e. fault.too_many.0 (ap Err e))
-    (λ e. fault.full (ap Err e)) (fault.undamaged (c.in_ok-name.ensures.on on)))
+    let on' = c.in_ok-name.ensures.on on in
+    rw (p.1, p.2) (copy_refused (copies_of c.args.log.now.next_guest c.args.guest c.args.lists.now) c.args.log.now c.copy_guest.new.log _
+    (λ e. fault.too_many.0 (ap Err e)) (λ e. fault.full (ap Err e)) (fault.undamaged on') (fault.needs on'))
 
 pub returns-in_err-print_guest-clause-refused : goal.returns-in_err-print_guest-clause-refused
 returns-in_err-print_guest-clause-refused g c on =

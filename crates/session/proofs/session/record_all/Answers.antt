@@ -1,12 +1,14 @@
-use Rattle.std.proofs.Common.{rules, arith, ◌≡◌, [], refl, subst}
-use Rattle.std.specs.Prelude.{slice_get, Some}
+use Rattle.std.proofs.Common.{rules, arith, ◌≡◌, ◌∙◌, inl, inr, ℕ, [], false, ap, refl, sym, subst}
+use Rattle.std.specs.Prelude.{slice_get, Some, IfSome}
 use Rattle.session.specs.declared.fault.SessionFault.TheVariants as faults
 use Rattle.session.specs.declared.report.SessionReport.{SessionReport}
-use Rattle.session.proofs.Told.{bad_told, job_is_no_device, job_is_no_sink, job_is_sessions, none_is_bad, none_there, other_than_sink, sinks_rest, steady_told}
+use Rattle.session.proofs.Told.{bad_told, new_once, none_is_new, job_is_no_device, job_is_no_sink, job_is_sessions, none_is_bad, none_there, other_than_sink, sinks_rest, steady_told}
 use Rattle.session.proofs.Pairs.{none_left}
-use Rattle.session.specs.Openings.{RefusesJobs}
+use Rattle.session.specs.Openings.{AreOld, IsFirstNew, RefusesJobs}
 use Rattle.session.proofs.Refusals.{job_tells}
 use Rattle.session.proofs.Sessions.{none_left_behind, none_reported, nothing_ran, tells_alone, tells_none}
+use Rattle.session.proofs.session.record_all.Given.{Over}
+use Rattle.session.proofs.session.record_all.Goals.{In-Some, In_default}
 use Rattle.session.proofs.session.record_all.Goals as goal
 
 pub returns-then-count-clause-recorded : goal.returns-then-count-clause-recorded
@@ -43,7 +45,7 @@ returns-in-Err-clause-recorded g c = (
 pub returns-in-Err-clause-refused : goal.returns-in-Err-clause-refused
 returns-in-Err-clause-refused g c =
     job_tells c.args.log c.args.jobs c.in-Err.fault c.requires.whole
-    (subst (λ l. RefusesJobs l c.in-Err.fault) c.deref.ensures.value c.in-Err.ensures.refused)
+    (subst (λ l. RefusesJobs l c.in-Err.fault) c.deref-2.ensures.value c.in-Err.ensures.refused)
 
 pub returns-then-count-clause-sinks : goal.returns-then-count-clause-sinks
 returns-then-count-clause-sinks g c = sinks_rest g.S.Sink _ c.args.jobs.items (other_than_sink faults.TooManyGuests (λ e. omega (arith, e)))
@@ -66,8 +68,53 @@ pub returns-in-Err-clause-bad : goal.returns-in-Err-clause-bad
 returns-in-Err-clause-bad g c guest bad = (
   (refl, refl),
   bad_told SessionReport c.args.log c.args.jobs.items guest c.in-Err.fault
-      (subst (λ l. RefusesJobs l c.in-Err.fault) c.deref.ensures.value c.in-Err.ensures.refused) bad,
+      (subst (λ l. RefusesJobs l c.in-Err.fault) c.deref-2.ensures.value c.in-Err.ensures.refused) bad,
 )
 
 pub returns-clause-bad : goal.returns-clause-bad
 returns-clause-bad g c guest bad = absurd (none_is_bad c.args.jobs.items guest (search rules) bad)
+
+-- ---- a job of a guest of version 2
+
+-- one was found, and the log isn't marked
+first_there : (g : Over) (c : In-Some g) → (c.args.log.marked ≡ false) × IsFirstNew c.args.jobs.items c.in-Some.guest
+first_there g c =
+    let found : (c.marked.result ≡ false) × IsFirstNew c.deref.result.now c.in-Some.guest =
+    subst (λ o. IfSome o (λ place. (c.marked.result ≡ false) × IsFirstNew c.deref.result.now place)) c.in-Some.is
+    c.first_unmarked.ensures.found in
+    (sym c.marked.ensures ∙ found.0, subst (λ l. IsFirstNew l c.in-Some.guest) c.deref.ensures.value found.1)
+
+-- none was
+none_new : (g : Over) (c : In_default g) → c.args.log.marked ≡ false → AreOld c.args.jobs.items
+none_new g c unmarked =
+    subst AreOld c.deref.ensures.value (c.first_unmarked.ensures.none (rw c.in_default.is refl) (c.marked.ensures ∙ unmarked))
+
+pub returns-in-Some-clause-recorded : goal.returns-in-Some-clause-recorded
+returns-in-Some-clause-recorded g c = (
+  [],
+  nothing_ran g.D.Disk g.C.Chooser g.S.Sink c.args.log c.args.jobs.items,
+  tt,
+  tells_alone g.D.Disk g.C.Chooser g.S.Sink SessionReport (faults.NeedsMark c.in-Some.guest) tt c.args.log.next_guest c.args.jobs.items,
+)
+
+pub returns-in-Some-clause-unmarked : goal.returns-in-Some-clause-unmarked
+returns-in-Some-clause-unmarked g c guest unmarked new =
+    let found = first_there g c in (
+      (refl, refl),
+      inl (ap (λ (n : ℕ). faults.NeedsMark n) (new_once c.args.jobs.items c.in-Some.guest guest found.1 new)),
+    )
+
+pub returns-in-Err-clause-unmarked : goal.returns-in-Err-clause-unmarked
+returns-in-Err-clause-unmarked g c guest unmarked new =
+    absurd (none_is_new c.args.jobs.items guest (none_new g (goal.at.returns-in-Err-clause-unmarked g c).In_default unmarked) new)
+
+pub returns-clause-unmarked : goal.returns-clause-unmarked
+returns-clause-unmarked g c guest unmarked new =
+    absurd (none_is_new c.args.jobs.items guest (none_new g (goal.at.returns-clause-unmarked g c).In_default unmarked) new)
+
+pub returns-in-Some-clause-bad : goal.returns-in-Some-clause-bad
+returns-in-Some-clause-bad g c guest bad =
+    let found = first_there g c in ((refl, refl), inr (inr (inr (found.0, c.in-Some.guest, found.1, refl))))
+
+pub returns-in-Some-clause-refused : goal.returns-in-Some-clause-refused
+returns-in-Some-clause-refused g c = (c.requires.whole, (first_there g c).0)

@@ -1,0 +1,5 @@
+use Rattle.rrv_model.proofs.RecoveredLaws.{mark_is_told}
+use Rattle.rrv_model.proofs.laws.mark_is_told.Goals as goal
+
+pub returns : goal.returns
+returns c = mark_is_told
