@@ -20,11 +20,11 @@
 //!   gate.
 //! - `record_all`, choices: the frames committed of each job, whatever it returns, are those that its chooser chose, as the
 //!   job came in, from the opening's state on, but for ends of waits, by each of which a choice is lost
-//!   (`HasRecorded.chosen`). A guest of version 1 has none. After Ok they are all of them, and the job's chooser comes back as
-//!   they left it, or was asked once more and had no choice left (`IsReported.chosen`). Whatever it returns, the frames
-//!   committed and some made after them led to the chooser that comes back. If the gate held, that chooser is the very one. If
-//!   memory was wanted, it may have been asked once more, and the choice is lost. Else it was at most asked once more and had
-//!   no choice left (`HasMet.chosen`).
+//!   (`HasRecorded.chosen`). A guest of version 1 has none (`old_guests_lose_no_choice`). After Ok they are all of them, and
+//!   the job's chooser comes back as they left it, or was asked once more and had no choice left (`IsReported.chosen`).
+//!   Whatever it returns, the frames committed and some made after them led to the chooser that comes back. If the gate held,
+//!   that chooser is the very one. If memory was wanted, it may have been asked once more, and the choice is lost. Else it was
+//!   at most asked once more and had no choice left (`HasMet.chosen`).
 //! - `record_all`, guests: after Ok each guest comes back in the state that its committed records end in, and counts as many
 //!   steps as their frames do (`AreLeft`).
 //! - `record_all`, refusals: `TooManyGuests` comes exactly for more than 16 guests or numbers past their limit. A job that
@@ -77,6 +77,6 @@ mod worker;
 pub use fault::SessionFault;
 pub use gate::{Gate, OpenGate};
 pub use job::Job;
-pub use laws::sessions_can_follow;
+pub use laws::{old_guests_lose_no_choice, sessions_can_follow};
 pub use report::{GuestReport, SessionReport};
 pub use session::record_all;
