@@ -32,7 +32,7 @@ pub enum FlushFault {
     /// The store or the number of segments would pass its limit. The group is halted.
     #[error("too long")]
     TooLong,
-    /// A record of the batch may stand behind the Mark alone, and the log holds none. The group is halted.
+    /// A record of the batch may stand only behind the Mark, and the log doesn't hold it. The group is halted.
     #[error("store needs the mark")]
     NeedsMark,
     /// There was no memory. What was received waits for the next turn.

@@ -20,7 +20,7 @@ pub enum CopyFault {
     /// The log's store is as long as it may be.
     #[error("store full")]
     StoreFull,
-    /// The guest has a record that stands behind the Mark alone, and the log doesn't hold it.
+    /// The guest has a record that may stand only behind the Mark, and the log doesn't hold it.
     #[error("store needs the mark")]
     NeedsMark,
     /// The guest would have a number past the greatest.
