@@ -43,6 +43,7 @@ fn copy_to<S: Disk, D: Disk, W: Write>(
     ensures too_many { MAX_NUMBER < log.old.next_guest → OnOk result ⊥ × (log.new ≡ log.old) }
     ensures refused { StandOn S.honest S.state source.old lists.now
         → IfErr result (RefusesCopy (copies_of log.old.next_guest guest lists.now) log.old log.new) }
+    ensures mark { log.new.marked ≡ log.old.marked }
     ensures quiet { IfErr result (λ e. e ≢ Refusal.OutputFailed → out.new ≡ out.old) }
     ensures printed { StandOn S.honest S.state source.old lists.now
         → OnOk result (Appends (W.contents out.old) (W.contents out.new)

@@ -21,7 +21,8 @@ use Rattle.commit_core.proofs.Invariant.{Invariant}
 use Rattle.commit_core.proofs.Schedules.{invariant_at_start, invariant_of_run}
 use Rattle.commit_core.proofs.Recovery.{stored_recovered}
 use Rattle.commit_core.proofs.Stages.{store_text-push}
-use Rattle.commit_core.proofs.Sessions.{marked_recovered, mark_end}
+use Rattle.rrv_model.proofs.RecoveredLaws.{mark_adds_none}
+use Rattle.commit_core.proofs.Sessions.{mark_end}
 
 -- ---- the start
 
@@ -63,7 +64,7 @@ rests = mark_end (fresh_disk (closed_store [])) [] empty_store can_mark
 
 starts : IsStart marked_start []
 starts = starts_with (mark ∷ []) 0 1 (λ g. new_recorder) marked_disk [] (omega arith) (omega arith) (omega arith)
-    (marked_recovered [] [] can_mark nothing_recovered) refl ((omega arith, omega arith), tt) (omega arith) rests ready
+    (mark_adds_none [] [] can_mark.none nothing_recovered) refl ((omega arith, omega arith), tt) (omega arith) rests ready
 
 -- ---- its events
 
@@ -133,8 +134,8 @@ marks = (empty_store, nothing_recovered, can_mark, inr (inr (inl refl)))
 nothing_left : IsCrash writing.pending (closed_store [])
 nothing_left = record { no_shorter = omega arith; no_longer = omega arith; kept = λ place low outside. refl }
 
-records : IsSession (fresh_disk (closed_store [])) (Ran marked_start [] new_events) world.disk
-records = (inr ([], empty_store, can_mark, refl, refl), starts, schedule, refl)
+records : IsSession (fresh_disk (closed_store [])) (Ran [] marked_start [] new_events) world.disk
+records = ((empty_store, inr (can_mark, refl, refl)), starts, schedule, refl)
 
 abbrev both_store : IsStore (closed_store both) both
 both_store = closed_at_end both sizes (omega arith)

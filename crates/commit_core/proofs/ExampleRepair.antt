@@ -148,7 +148,7 @@ module _ (guest : Ended) where
       fresh_disk torn_store,
       stops,
       inr (torn_store, torn_again, refl),
-      (repaired_disk, repaired_disk, (inl (store, repaired_is), again, tt, refl), inl refl, refl),
+      (repaired_disk, repaired_disk, ((store, inl (refl, repaired_is)), again, tt, refl), inl refl, refl),
     ),
   )
 

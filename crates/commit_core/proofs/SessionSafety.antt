@@ -30,7 +30,7 @@ each_is_safe disk [] end are = tt
 each_is_safe disk (StoppedOpening ∷ sessions) end (stop, next, session, stopped, rest) = (tt, each_is_safe next sessions end rest)
 each_is_safe disk (Marked bodies old ∷ sessions) end (stop, next, session, stopped, rest) = (tt, each_is_safe next sessions end rest)
 each_is_safe disk (OnlyOpened bodies old ∷ sessions) end (stop, next, session, stopped, rest) = (tt, each_is_safe next sessions end rest)
-each_is_safe disk (Ran start old events ∷ sessions) end (stop, next, session, stopped, rest) = (
+each_is_safe disk (Ran reported start old events ∷ sessions) end (stop, next, session, stopped, rest) = (
   λ front behind is. safe_after start old front session.1 (schedule_front start front behind (subst (IsSchedule start) is session.2)),
   each_is_safe next sessions end rest,
 )

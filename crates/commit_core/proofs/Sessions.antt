@@ -1,5 +1,5 @@
 -- Over a list of sessions.
-use Rattle.std.proofs.Common.{◌≡◌, inl, inr, ⊎_elim, ℕ, ◌+◌, ◌-◌, ◌<◌, ◌≤◌, Bool, true, false, List, [], ◌∷◌, ◌++◌, length, take, drop, refl, ap, arith, sym, subst, ◌∙◌, append_assoc, take-append-drop}
+use Rattle.std.proofs.Common.{◌≡◌, inl, inr, ⊎_elim, ℕ, ◌+◌, ◌-◌, ◌<◌, ◌≤◌, List, [], ◌∷◌, ◌++◌, length, take, drop, refl, ap, arith, sym, subst, ◌∙◌, append_assoc, take-append-drop}
 use Rattle.std.specs.List.{AllByRecursion, Any}
 use Rattle.std.proofs.lemmas.List.{append-nil, take-append-le}
 use Rattle.rrv_model.specs.declared.record.Record.{Record}
@@ -7,9 +7,9 @@ use Rattle.store_model.specs.CrashModel.{DiskState}
 use Rattle.rrv_model.specs.Output.{Chunk, spread}
 use Rattle.store_model.specs.StoreText.{IsStore}
 use Rattle.store_model.specs.StoreCalls.{after_disk_calls, IsWithin}
-use Rattle.rrv_model.specs.Recovered.{mark, marked_behind, of_guest, next_guest, AreInOrder, IsRecovered}
+use Rattle.rrv_model.specs.Recovered.{mark, of_guest, next_guest, IsRecovered}
 use Rattle.outcomes.proofs.Lists.{AllByRecursion-append, AllByRecursion-back, AllByRecursion-weaker}
-use Rattle.rrv_model.proofs.RecoveredLaws.{one_recovery, recovered_push, mark_is_told}
+use Rattle.rrv_model.proofs.RecoveredLaws.{one_recovery, mark_adds_none}
 use Rattle.store_model.proofs.StoreLaws.{store_parts}
 use Rattle.commit_core.specs.Runs.{IsBeginning, IsOutput}
 use Rattle.commit_core.specs.World.{World, IsStart, IsAtRest, made, closed_store}
@@ -39,18 +39,6 @@ Stays P = (since : List World) (w : World) (old : List Record) (bodies : List (L
 abbrev StaysMarked : (List World → List (List ℕ) → Type 0) → Type 0
 StaysMarked P = (since : List World) (bodies : List (List ℕ)) → CanMark bodies → P since bodies → P since (bodies ++ mark ∷ [])
 
--- it adds no record
-pub marked_recovered : (bodies : List (List ℕ)) (records : List Record) → CanMark bodies → IsRecovered bodies records →
-    IsRecovered (bodies ++ mark ∷ []) records
-marked_recovered bodies records can is =
-    subst (IsRecovered (bodies ++ mark ∷ [])) (append-nil records)
-    (recovered_push bodies mark records [] is (none (marked_behind false is.batches) refl, refl)
-    (subst AreInOrder (sym (append-nil records)) is.in_order))
-  where
-    none : (b : Bool) → marked_behind false is.batches ≡ b → marked_behind false is.batches ≡ false
-    none false told = told
-    none true told = absurd (can.none ((mark_is_told bodies records is).0 told))
-
 next_guest-append : (xs ys : List Record) → next_guest xs ≤ next_guest (xs ++ ys)
 next_guest-append [] ys = omega arith
 next_guest-append (x ∷ xs) ys = omega (arith, next_guest-append xs ys)
@@ -59,7 +47,7 @@ records_stay : Stays (λ since. HasRecords)
 records_stay since w old bodies behind has = (behind.from.records, behind.from.recovered)
 
 records_stay_marked : StaysMarked (λ since. HasRecords)
-records_stay_marked since bodies can has = (has.0, marked_recovered bodies has.0 can has.1)
+records_stay_marked since bodies can has = (has.0, mark_adds_none bodies has.0 can.none has.1)
 
 -- records of numbers below some number, and then records of that number or later ones
 sent_both : (since more : List World) (border : ℕ) (xs ys : List Record) → AllByRecursion (λ (r : Record). r.guest < border) xs →
@@ -127,7 +115,7 @@ growth_stays_marked report since bodies can grows = record {
   before = grows.before;
   gained = grows.gained;
   reported = grows.reported;
-  recovered = marked_recovered bodies (grows.before ++ grows.gained) can grows.recovered;
+  recovered = mark_adds_none bodies (grows.before ++ grows.gained) can.none grows.recovered;
   later = grows.later;
   sent = grows.sent;
 }
@@ -247,7 +235,7 @@ module _ (w : World) (old : List Record) where
     from = keeps.from;
     grows = growth_stays_marked (report_of keeps.left keeps.from.records) since bodies can keeps.grows;
     records = keeps.records;
-    recovered = marked_recovered bodies keeps.records can keeps.recovered;
+    recovered = mark_adds_none bodies keeps.records can.none keeps.recovered;
     same = keeps.same;
     seen = keeps.seen;
     output = keeps.output;
@@ -325,20 +313,22 @@ abbrev and_ran : List World → Session → List World
 and_ran since StoppedOpening = since
 and_ran since (Marked bodies old) = since
 and_ran since (OnlyOpened bodies old) = since
-and_ran since (Ran start old events) = since ++ run start events ∷ []
+and_ran since (Ran reported start old events) = since ++ run start events ∷ []
 
 abbrev and_all_ran : List World → List Session → List World
 and_all_ran since [] = since
 and_all_ran since (session ∷ sessions) = and_all_ran (and_ran since session) sessions
 
 module _ (P : List World → List (List ℕ) → Type 0) (stays : Stays P) (stays_marked : StaysMarked P) where
-  -- what is so of the bodies on a disk is so of those with which a run begins
-  begun_at : (since : List World) (disk : DiskState) (bodies : List (List ℕ)) (begun : DiskState) → Good (P since) disk →
-      IsBegun disk bodies begun → P since bodies
-  begun_at since disk bodies begun good (inl (store, is)) = fine_at (P since) disk good disk.content bodies (inl refl) store
-  begun_at since disk bodies begun good (inr (before, store, can, bodies_are, is)) =
-      subst (P since) (sym bodies_are)
-      (stays_marked since before can (fine_at (P since) disk good disk.content before (inl refl) store))
+  -- what is so of the bodies on a disk is so of those that are reported, and of those with which a run begins
+  begun_at : (since : List World) (disk : DiskState) (reported bodies : List (List ℕ)) (begun : DiskState) → Good (P since) disk →
+      IsBegun disk reported bodies begun → P since reported × P since bodies
+  begun_at since disk reported bodies begun good (store, begins) =
+      let here : P since reported = fine_at (P since) disk good disk.content reported (inl refl) store in (
+        here,
+        ⊎_elim (λ as_reported. subst (P since) (sym as_reported.0) here)
+            (λ marked. subst (P since) (sym marked.1) (stays_marked since reported marked.0 here)) begins,
+      )
 
   -- what stays as bodies grow stays over a session
   good_session : (since : List World) (disk : DiskState) (session : Session) (end : DiskState) → Good (P since) disk →
@@ -350,11 +340,11 @@ module _ (P : List World → List (List ℕ) → Type 0) (stays : Stays P) (stay
   good_session since disk (OnlyOpened bodies old) end good (store, recovered, is) =
       subst (Good (P since)) (sym is)
       (good_opened (P since) disk bodies store (fine_at (P since) disk good disk.content bodies (inl refl) store))
-  good_session since disk (Ran start old events) end good (begun, is, schedule, end_is) =
+  good_session since disk (Ran reported start old events) end good (begun, is, schedule, end_is) =
       subst (Good (P (since ++ run start events ∷ []))) (sym end_is)
       (good_run start old events is schedule (P (since ++ run start events ∷ []))
       (λ bodies behind. stays since (run start events) old bodies behind
-      (subst (P since) (sym (run_same start events).0) (begun_at since disk start.bodies start.disk good begun))))
+      (subst (P since) (sym (run_same start events).0) (begun_at since disk reported start.bodies start.disk good begun).1)))
 
   -- and once it was stopped
   good_next : (since : List World) (disk : DiskState) (session : Session) (stop next : DiskState) → Good (P since) disk →
@@ -376,9 +366,11 @@ module _ (P : List World → List (List ℕ) → Type 0) (stays : Stays P) (stay
     fine_at (P since) disk good disk.content bodies (inl refl) one.0,
     found_later since next sessions end (good_next since disk (OnlyOpened bodies old) stop next good one stopped) rest,
   )
-  found_later since disk (Ran start old events ∷ sessions) end good (stop, next, one, stopped, rest) = (
-    begun_at since disk start.bodies start.disk good one.0,
-    found_later (since ++ run start events ∷ []) next sessions end (good_next since disk (Ran start old events) stop next good one stopped)
+  found_later since disk (Ran reported start old events ∷ sessions) end good (stop, next, one, stopped, rest) = (
+    (begun_at since disk reported start.bodies start.disk good one.0).0,
+    (begun_at since disk reported start.bodies start.disk good one.0).1,
+    found_later (since ++ run start events ∷ []) next sessions end
+        (good_next since disk (Ran reported start old events) stop next good one stopped)
         rest,
   )
 
@@ -410,7 +402,7 @@ each_grows disk (OnlyOpened bodies old ∷ sessions) end (stop, next, one, stopp
           (good_stopped (grows []) stop next good stopped) rest,
       each_grows next sessions end rest,
     )
-each_grows disk (Ran start old events ∷ sessions) end (stop, next, one, stopped, rest) =
+each_grows disk (Ran reported start old events ∷ sessions) end (stop, next, one, stopped, rest) =
     let grows = GrowsTo (record { bodies = start.bodies; first_guest = start.first_guest }) in
     let since : List World = run start events ∷ [] in
     let good : Good (grows since) stop =
@@ -430,7 +422,7 @@ each_is_kept disk [] end is = tt
 each_is_kept disk (StoppedOpening ∷ sessions) end (stop, next, one, stopped, rest) = each_is_kept next sessions end rest
 each_is_kept disk (Marked bodies old ∷ sessions) end (stop, next, one, stopped, rest) = each_is_kept next sessions end rest
 each_is_kept disk (OnlyOpened bodies old ∷ sessions) end (stop, next, one, stopped, rest) = each_is_kept next sessions end rest
-each_is_kept disk (Ran start old events ∷ sessions) end (stop, next, one, stopped, rest) =
+each_is_kept disk (Ran reported start old events ∷ sessions) end (stop, next, one, stopped, rest) =
     let keeps = KeepsSession (run start events) old in
     let good : Good (keeps []) stop =
     subst (Good (keeps [])) (sym one.3) (good_run start old events one.1 one.2 (keeps []) (own_session (run start events) old)) in (

@@ -133,4 +133,5 @@ pub record GateMayTear (w : World) : Type 0 where
 -- anything
 abbrev pub two_sessions : State → State → List Session
 two_sessions written ended =
-    Ran example_start [] (up_to_gate written ended) ∷ Ran (start_on (body_text all_three ∷ []) 1) all_three [] ∷ []
+    Ran [] example_start [] (up_to_gate written ended)
+    ∷ Ran (body_text all_three ∷ []) (start_on (body_text all_three ∷ []) 1) all_three [] ∷ []

@@ -43,5 +43,5 @@ new_events = Push 0 new_record [] ∷ Pop new_record [] ∷ WriteBody 1 ∷ Sync
 
 abbrev pub mark_sessions : List Session
 mark_sessions =
-    Marked [] [] ∷ Ran marked_start [] new_events
+    Marked [] [] ∷ Ran [] marked_start [] new_events
     ∷ OnlyOpened (mark ∷ body_text (new_record ∷ []) ∷ []) (new_record ∷ []) ∷ []

@@ -45,7 +45,8 @@ repaired_start = record (start_on first_body 1) { disk = repaired_disk }
 -- the last session finds the first two records, and is stopped before it does anything
 abbrev pub repair_sessions : State → State → List Session
 repair_sessions written ended =
-    Ran example_start [] (up_to_second_gate written ended) ∷ StoppedOpening ∷ Ran repaired_start first_two [] ∷ []
+    Ran [] example_start [] (up_to_second_gate written ended) ∷ StoppedOpening
+    ∷ Ran first_body repaired_start first_two [] ∷ []
 
 pub record IsRepaired (written ended : State) : Type 0 where
   pub out : ((run example_start (up_to_second_gate written ended)).recorders 0).out ≡ (1, 0x7F) ∷ []

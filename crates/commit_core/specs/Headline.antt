@@ -23,7 +23,7 @@ abbrev pub IsSafeThroughout : Session → Type 0
 IsSafeThroughout StoppedOpening = Unit {0}
 IsSafeThroughout (Marked bodies old) = Unit {0}
 IsSafeThroughout (OnlyOpened bodies old) = Unit {0}
-IsSafeThroughout (Ran start old events) =
+IsSafeThroughout (Ran reported start old events) =
     (front rest : List Event) → events ≡ front ++ rest → IsSafe (run start front) old
 
 -- ---- later
@@ -49,5 +49,5 @@ AreKept [] end = Unit {0}
 AreKept (StoppedOpening ∷ sessions) end = AreKept sessions end
 AreKept (Marked bodies old ∷ sessions) end = AreKept sessions end
 AreKept (OnlyOpened bodies old ∷ sessions) end = AreKept sessions end
-AreKept (Ran start old events ∷ sessions) end =
+AreKept (Ran reported start old events ∷ sessions) end =
     IsFoundLater (KeepsSession (run start events) old) [] sessions end × AreKept sessions end

@@ -14,12 +14,13 @@ use Rattle.commit_core.specs.Events.{Event, run, IsSchedule}
 -- ---- sessions
 
 -- one that is stopped within `open`; one whose `open` answered, that committed the Mark or was stopped in that, and
--- recorded nothing; one whose `open` answered and that did nothing more; and one that then ran a list of events
+-- recorded nothing; one whose `open` answered and that did nothing more; and one whose `open` answered these bodies, and
+-- that then, with the Mark committed or not, ran a list of events
 pub data Session : Type 0 where
   StoppedOpening : Session
   Marked : (bodies : List (List ℕ)) (old : List Record) → Session
   OnlyOpened : (bodies : List (List ℕ)) (old : List Record) → Session
-  Ran : (start : World) (old : List Record) (events : List Event) → Session
+  Ran : (reported : List (List ℕ)) (start : World) (old : List Record) (events : List Event) → Session
 
 -- the disk once `open` has answered
 abbrev pub opened_disk : (disk : DiskState) (bodies : List (List ℕ)) → IsStore disk.content bodies → DiskState
@@ -35,13 +36,13 @@ pub record CanMark (bodies : List (List ℕ)) : Type 0 where
 abbrev pub mark_calls : List (List ℕ) → List DiskCall
 mark_calls bodies = commit_calls (length (store_text bodies)) (length bodies) mark
 
--- the bodies and the disk with which a run begins: as `open` left them, or with the Mark committed behind these
-abbrev pub IsBegun : DiskState → List (List ℕ) → DiskState → Type 0
-IsBegun disk bodies begun =
-    ((store : IsStore disk.content bodies) × (begun ≡ opened_disk disk bodies store))
-    ⊎ ((before : List (List ℕ)) × (store : IsStore disk.content before) × CanMark before
-    × (bodies ≡ before ++ mark ∷ [])
-    × (begun ≡ after_disk_calls (opened_disk disk before store) (mark_calls before)))
+-- the bodies and the disk with which a run begins: as `open` reported and left them, or with the Mark committed behind these
+abbrev pub IsBegun : DiskState → (reported bodies : List (List ℕ)) → DiskState → Type 0
+IsBegun disk reported bodies begun =
+    (store : IsStore disk.content reported)
+    × (((bodies ≡ reported) × (begun ≡ opened_disk disk reported store))
+    ⊎ (CanMark reported × (bodies ≡ reported ++ mark ∷ [])
+    × (begun ≡ after_disk_calls (opened_disk disk reported store) (mark_calls reported))))
 
 -- a session that finds the one disk and leaves the other
 abbrev pub IsSession : DiskState → Session → DiskState → Type 0
@@ -53,8 +54,8 @@ IsSession disk (Marked bodies old) end =
     × IsWithin (opened_disk disk bodies store) (mark_calls bodies) end
 IsSession disk (OnlyOpened bodies old) end =
     (store : IsStore disk.content bodies) × IsRecovered bodies old × (end ≡ opened_disk disk bodies store)
-IsSession disk (Ran start old events) end =
-    IsBegun disk start.bodies start.disk
+IsSession disk (Ran reported start old events) end =
+    IsBegun disk reported start.bodies start.disk
     × IsStart start old × IsSchedule start events × (end ≡ (run start events).disk)
 
 -- a disk that holds these bytes and has done nothing yet
@@ -90,8 +91,8 @@ IsFoundLater P since [] end =
 IsFoundLater P since (StoppedOpening ∷ later) end = IsFoundLater P since later end
 IsFoundLater P since (Marked bodies old ∷ later) end = P since bodies × IsFoundLater P since later end
 IsFoundLater P since (OnlyOpened bodies old ∷ later) end = P since bodies × IsFoundLater P since later end
-IsFoundLater P since (Ran start old events ∷ later) end =
-    P since start.bodies × IsFoundLater P (since ++ run start events ∷ []) later end
+IsFoundLater P since (Ran reported start old events ∷ later) end =
+    P since reported × P since start.bodies × IsFoundLater P (since ++ run start events ∷ []) later end
 
 -- in this world the guest with this number has sent these records first
 pub record HasSent (number : ℕ) (records : List Record) (w : World) : Type 0 where
@@ -127,7 +128,7 @@ AreGrowing (Marked bodies old ∷ sessions) end =
 AreGrowing (OnlyOpened bodies old ∷ sessions) end =
     IsFoundLater (GrowsTo (record { bodies = bodies; first_guest = next_guest old })) [] sessions end
     × AreGrowing sessions end
-AreGrowing (Ran start old events ∷ sessions) end =
+AreGrowing (Ran reported start old events ∷ sessions) end =
     let report : Report = record { bodies = start.bodies; first_guest = start.first_guest } in
     IsFoundLater (GrowsTo report) (run start events ∷ []) sessions end × AreGrowing sessions end
 

@@ -1,11 +1,13 @@
 //! The recording of programs.
 
-ghost use Rattle.std.specs.Prelude.{◌≡◌, false, true, IfOk, List, length, ℕ};
+ghost use Rattle.std.specs.Prelude.{◌≡◌, false, true, IfErr, IfOk, List, MatchBool, length, ℕ};
 ghost use Rattle.rrv_model.specs.declared.record.Record.{Record};
 ghost use Rattle.serial_sched.specs.Slices.{IsQuantum};
 ghost use Rattle.session.specs.Sessions.{IsLeft};
 ghost use Rattle.recording.specs.Jobs.{terms_of, version_in};
 ghost use Rattle.recording.specs.Recorded.{HasRecorded};
+ghost use Rattle.stored_guests.specs.Stores.{RefusesMark};
+ghost use Rattle.trace_log.specs.Committed.{HasMarked};
 
 use crate::choice_files::choices_in_files;
 use crate::ended::{Stopped, Unreported, tell_ended};
@@ -92,8 +94,20 @@ fn store_of<R: Files<File = File> + AllocGlobal>(
     ensures marked { IfOk result (λ log. recording.now.upgrade ≡ true → log.marked ≡ true) }
 {
     let log = open_log(rt, recording.store)?;
-    if recording.upgrade {
-        return marked(rt.alloc(), log);
+    upgraded(rt.alloc(), log, recording.upgrade)
+}
+
+/// The log with the Mark if `upgrade` asks for it, and else as it is.
+fn upgraded<D: Disk + Drop>(alloc: Global, log: Log<D>, upgrade: bool) -> Result<Log<D>, Refusal>
+    requires { log.is_broken ≡ false }
+    ensures whole { IfOk result (λ new. new.is_broken ≡ false) }
+    ensures marked { IfOk result (λ new. upgrade ≡ true → new.marked ≡ true) }
+    ensures stored { IfOk result (λ new. MatchBool upgrade
+        (MatchBool log.marked (new ≡ log) (HasMarked D.Disk log new)) (new ≡ log)) }
+    ensures refused { IfErr result (λ e. (upgrade ≡ true) × RefusesMark log e) }
+{
+    if upgrade {
+        return marked(alloc, log);
     }
     Ok(log)
 }
@@ -177,6 +191,7 @@ fn record_shown<
 ) -> Result<Recorded, Unreported<FileDisk>>
     requires quantum { IsQuantum recording.now.quantum }
     requires whole { log.is_broken ≡ false }
+    requires marked { recording.now.upgrade ≡ true → log.marked ≡ true }
 {
     let (input, choices, images) = inputs.into_parts();
     let counts = counts(rt.alloc()).map_err(Refusal::from)?;

@@ -13,6 +13,7 @@ pub mod Decoding
 pub mod CallExamples
 pub mod RunExample
 pub mod RunLaws
+pub mod OldGuests
 pub mod Standing
 pub mod RecoveredLaws
 pub mod Names

@@ -9,7 +9,7 @@ ghost use Rattle.rrv_model.specs.Opening.{OpeningsAreStates};
 ghost use Rattle.rrv_model.specs.StateAt.{RecordedStatesAreStates};
 ghost use Rattle.rrv_model.specs.RecordText.{CheckpointsExist, OneReading, OneSpelling};
 ghost use Rattle.rrv_model.specs.Recording.{BeginningsAreRecordings, FramesAppend, OneEnd};
-ghost use Rattle.rrv_model.specs.Recovered.{MarkIsNoText, MarkIsTold, BeginningsAreRecovered, OneBatch, OneRecovery};
+ghost use Rattle.rrv_model.specs.Recovered.{MarkAddsNone, MarkIsNoText, MarkIsTold, BeginningsAreRecovered, OldGuestsNeedNoMark, OneBatch, OneRecovery};
 
 /// A state, a thread and a call's record leave one state after at most, whatever the outside answered.
 pub fn one_state_after_call()
@@ -64,6 +64,16 @@ pub fn mark_is_no_text()
 /// One of the batches is that of the Mark exactly if one of the bodies is the Mark.
 pub fn mark_is_told()
     ensures { MarkIsTold }
+{}
+
+/// With the Mark behind them, bodies without it hold the same records.
+pub fn mark_adds_none()
+    ensures { MarkAddsNone }
+{}
+
+/// Each record of a guest of version 1 may stand before the Mark.
+pub fn old_guests_need_no_mark()
+    ensures { OldGuestsNeedNoMark }
 {}
 
 /// From bodies at most one list of records is recovered, and so of each guest.

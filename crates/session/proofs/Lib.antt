@@ -8,6 +8,7 @@ pub mod Worked
 pub mod Recorded
 pub mod Sessions
 pub mod Openings
+pub mod OldJobs
 pub mod Refusals
 pub mod Chosen
 pub mod Told

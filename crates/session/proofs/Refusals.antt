@@ -1,5 +1,5 @@
 -- What the fault of a session tells.
-use Rattle.std.proofs.Common.{◌≡◌, ◌≢◌, inl, inr, ℕ, zero, suc, ◌<◌, List, [], ◌∷◌, ◌++◌, length, refl, sym, ◌∙◌, subst, arith, false}
+use Rattle.std.proofs.Common.{◌≡◌, ◌≢◌, inl, inr, ℕ, zero, suc, ◌<◌, List, [], ◌∷◌, ◌++◌, length, refl, sym, ◌∙◌, ap, subst, arith, false}
 use Rattle.std.proofs.lemmas.List.Elements.{Contains-append_cases}
 use Rattle.std.specs.Prelude.{Option, Some, None, Result, Ok, Err, OnOk, IfErr, Vec, vec_items, slice_get}
 use Rattle.std.specs.List.{Contains}
@@ -47,18 +47,21 @@ first_of_all (faults.NeedsMark g) h = elim h [ inl l ↦ absurd (omega (arith, l
 module _ {C O S D : Type 0} (log log' : LogValue D) (jobs jobs' : Vec (Job C O S) Global) where
   -- ---- the flusher's
 
-  flusher_tells : (e : FlushFault) → IsLeftBy log' e → RefusesSession log log' jobs jobs' (flush_told e)
-  flusher_tells flushes.DeviceFailed left = left
-  flusher_tells flushes.Halted left = left
-  flusher_tells flushes.TooLong left = left
-  flusher_tells flushes.NeedsMark left = left
-  flusher_tells flushes.Memory left = left
+  -- it met no record that needs a Mark that isn't there
+  flusher_tells : (e : FlushFault) → IsLeftBy log' e → (e ≡ flushes.NeedsMark → ⊥) → RefusesSession log log' jobs jobs' (flush_told e)
+  flusher_tells flushes.DeviceFailed left lacks_none = left
+  flusher_tells flushes.Halted left lacks_none = left
+  flusher_tells flushes.TooLong left lacks_none = left
+  flusher_tells flushes.NeedsMark left lacks_none = absurd (lacks_none refl)
+  flusher_tells flushes.Memory left lacks_none = left
 
   flusher_tells_one : (flushed : Result Unit FlushFault) (fault : SessionFault) → IfErr flushed (IsLeftBy log') →
+      (IfErr flushed (IsLeftBy log') → flushed ≡ Err flushes.NeedsMark → ⊥) →
       Contains (flusher_met flushed) fault → RefusesSession log log' jobs jobs' fault
-  flusher_tells_one (Ok u) fault left there = absurd (none_in fault there)
-  flusher_tells_one (Err e) fault left there =
-      subst (RefusesSession log log' jobs jobs') (only_one (flush_told e) fault there) (flusher_tells e left)
+  flusher_tells_one (Ok u) fault left lacks_none there = absurd (none_in fault there)
+  flusher_tells_one (Err e) fault left lacks_none there =
+      subst (RefusesSession log log' jobs jobs') (only_one (flush_told e) fault there)
+      (flusher_tells e left (λ is. lacks_none left (ap (λ (x : FlushFault). Err x) is)))
 
   -- where another fault is the lowest no call of the disk failed
   whole_unless : (flushed : Result Unit FlushFault) (rest : List SessionFault) (fault : SessionFault) → IfErr flushed (IsLeftBy log') →
@@ -115,12 +118,13 @@ module _ {C O S : Type 0} (choosers : Choosers C) (sinks : Sinks S) where
   pub lowest_tells : {D : Type 0} (log log' : LogValue D) (jobs jobs' : Vec (Job C O S) Global) (group : GroupId)
       (flushed : Result Unit FlushFault)
       (tasks : List (Task C O S)) (done : List (Worked C O S)) (fault : SessionFault)
-      → IfErr flushed (IsLeftBy log') → OnOk flushed (log'.is_broken ≡ false) → AllNew group (seats_of tasks) →
+      → IfErr flushed (IsLeftBy log') → OnOk flushed (log'.is_broken ≡ false)
+      → (IfErr flushed (IsLeftBy log') → flushed ≡ Err flushes.NeedsMark → ⊥) → AllNew group (seats_of tasks) →
       ArePairs (HasWorked choosers sinks) tasks done → length tasks ≡ length (vec_items jobs)
       → IsLowest (flusher_met flushed ++ faults_met done) (Some fault) → RefusesSession log log' jobs jobs' fault
-  lowest_tells log log' jobs jobs' group flushed tasks done fault left whole new pairs count lowest =
+  lowest_tells log log' jobs jobs' group flushed tasks done fault left whole lacks_none new pairs count lowest =
       elim (Contains-append_cases (flusher_met flushed) (faults_met done) fault lowest.0) [
-        | inl flusher ↦ flusher_tells_one log log' jobs jobs' flushed fault left flusher
+        | inl flusher ↦ flusher_tells_one log log' jobs jobs' flushed fault left lacks_none flusher
         | inr worker ↦
             let h = of_one tasks done fault pairs worker in
             let place = (all_of choosers sinks group tasks done new pairs h.0 h.1 h.2).1 in

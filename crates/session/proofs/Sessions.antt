@@ -4,9 +4,9 @@ use Rattle.std.proofs.lemmas.List.{append-nil, length-map, take-append-drop}
 use Rattle.std.specs.Prelude.{◌⊎◌, Option, None, Some, Result, Ok, Err, OnOk, slice_get}
 use Rattle.rrv_model.specs.declared.record.Record.{Record}
 use Rattle.store_model.specs.CrashModel.{Leaves}
-use Rattle.rrv_model.specs.Recovered.{next_guest, IsRecovered}
+use Rattle.rrv_model.specs.Recovered.{next_guest, AreOld, IsOld, IsRecovered}
 use Rattle.store_model.proofs.CrashLaws.{started}
-use Rattle.outcomes.proofs.Lists.{AllByRecursion-front}
+use Rattle.outcomes.proofs.Lists.{AllByRecursion-back, AllByRecursion-front}
 use Rattle.guest_calls.specs.Guest.{GuestValue}
 use Rattle.trace_disk.specs.Devices.{Device}
 use Rattle.trace_log.specs.Kept.{Keeps, LogValue}
@@ -19,6 +19,7 @@ use Rattle.session.specs.declared.fault.SessionFault.{SessionFault}
 use Rattle.session.specs.declared.job.Job.{Job}
 use Rattle.session.specs.Faults.{IsLowest, IsSessions, flusher_met, told_of}
 use Rattle.session.specs.Gains.{HasFlushed, HasGained, HoldsUpTo, StandsIn}
+use Rattle.session.specs.Openings.{AreOld as AreOldJobs}
 use Rattle.session.specs.Sessions.{AreRecorded, HasRun, IsLeft}
 use Rattle.session.specs.Works.{Sinks}
 use Rattle.std.specs.Prelude.{MatchOption}
@@ -36,6 +37,7 @@ use Rattle.session.specs.Works.{Choosers, HasWorked}
 use Rattle.session.specs.Chosen.{LeavesChooser}
 use Rattle.session.proofs.Chosen.{none_chosen, none_on}
 use Rattle.session.proofs.Gained.{leaves_kept}
+use Rattle.session.proofs.OldJobs.{each_old, of_each_number}
 use Rattle.session.proofs.Recorded.{AreFirstSent, IsEnded, all_left, all_recorded, all_reported, ended_at, first_sent, first_with, have_met, mets_are, mets_of}
 use Rattle.session.proofs.Pairs.{pairs_length}
 use Rattle.session.proofs.Tasks.{all_of}
@@ -117,6 +119,7 @@ module _ {D : Type 0} (device : Device D) where
       batch = [];
       gained = none_gained log;
       next = omega arith;
+      marked = refl;
       only = tt;
       recorded = none_recorded log.next_guest jobs;
       in_hand = none_recorded log.next_guest jobs;
@@ -213,11 +216,10 @@ module _ {C O S D : Type 0} (choosers : Choosers C) (sinks : Sinks S) (device : 
       first_with f log.next_guest (0 + k) e.0 e.1 e.2 j.flusher.count r e.3 (place ∙ omega arith)
       (first_is device group old f log log' flushed j.new j.flusher)
 
-  -- what is committed, and what is in hand, is of the session's guests alone
-  only_these : (count : ℕ) (j : AreJoined choosers sinks device group old f log log' flushed tasks done) → length tasks ≡ count
-      → AllByRecursion (IsPlaced log.next_guest count) (f.committed ++ hand_of j)
-  only_these count j given =
-      let n = j.flusher.count in
+  -- what is committed, and the first so many of what waits, are of the session's guests alone, where these have their numbers
+  of_these : (count n : ℕ) → AreJoined choosers sinks device group old f log log' flushed tasks done → length tasks ≡ count
+      → f.first_guest ≡ Some log.next_guest → AllByRecursion (IsPlaced log.next_guest count) (f.committed ++ take n f.waiting)
+  of_these count n j given first =
       let all = f.committed ++ take n f.waiting in
       let whole : all ++ drop n f.waiting ≡ f.committed ++ f.waiting =
       append_assoc f.committed (take n f.waiting) (drop n f.waiting)
@@ -226,10 +228,47 @@ module _ {C O S D : Type 0} (choosers : Choosers C) (sinks : Sinks S) (device : 
       let placed = AllByRecursion-front P all (drop n f.waiting) (subst (λ (l : List Record). AllByRecursion P l) (sym whole) j.placed) in
       let guests : f.group.guests ≡ count =
       sym j.count ∙ length-map done (λ worked. worked.seat) ∙ sym (pairs_length (HasWorked choosers sinks) tasks done j.works) ∙ given in
+      subst (λ (x : Option ℕ × ℕ). AllByRecursion (IsPlaced (base x.0) x.1) all) (λ i. (first i, guests i)) placed
+
+  -- so is what is in hand
+  only_these : (count : ℕ) (j : AreJoined choosers sinks device group old f log log' flushed tasks done) → length tasks ≡ count
+      → AllByRecursion (IsPlaced log.next_guest count) (f.committed ++ hand_of j)
+  only_these count j given =
       elim (first_is device group old f log log' flushed j.new j.flusher) [
-        | inl first ↦ subst (λ (x : Option ℕ × ℕ). AllByRecursion (IsPlaced (base x.0) x.1) all) (λ i. (first i, guests i)) placed
+        | inl first ↦ of_these count j.flusher.count j given first
         | inr none ↦ subst (λ (l : List Record). AllByRecursion (IsPlaced log.next_guest count) l) (sym (λ i. none.0 i ++ none.1 i)) tt
       ]
+
+  -- what is so of the records that each seat sent is recorded of the jobs
+  of_jobs : (jobs jobs' : List (Job C O S)) → AreJoined choosers sinks device group old f log log' flushed tasks done →
+      jobs_of tasks ≡ jobs → jobs' ≡ jobs_worked done → (records : List Record)
+      → ((k : ℕ) (r : RecorderValue) → slice_get (seats_worked done) k ≡ Some r → AreFirstSent records log.next_guest (0 + k) r)
+      → AreRecorded choosers sinks records log.next_guest jobs jobs'
+  of_jobs jobs jobs' j given back records each =
+      let all = all_recorded choosers sinks records log.next_guest 0 tasks done j.works each in
+      let here = subst (λ (n : ℕ). AreRecorded choosers sinks records n (jobs_of tasks) (jobs_worked done)) (omega arith) all in
+      subst (λ (x : List (Job C O S) × List (Job C O S)). AreRecorded choosers sinks records log.next_guest x.0 x.1)
+      (λ i. (given i, sym back i)) here
+
+  -- the flusher lacks no Mark where no job is of a guest of version 2
+  pub lacks_none : (jobs jobs' : List (Job C O S)) → AreJoined choosers sinks device group old f log log' flushed tasks done →
+      jobs_of tasks ≡ jobs → jobs' ≡ jobs_worked done → AreOldJobs jobs → flushed ≡ Err flushes.NeedsMark → ⊥
+  lacks_none jobs jobs' j given back are_old told =
+      let lacks = j.flusher.lacks told in
+      let n = lacks.count in
+      let count : length tasks ≡ length jobs = sym (length-map tasks (λ task. task.job)) ∙ ap length given in
+      let first : f.first_guest ≡ Some log.next_guest =
+      lacks.numbers ∙ ap (λ (x : FlusherValue). Some (first_number x.first_guest log.next_guest)) j.new in
+      let recorded : AreRecorded choosers sinks (f.committed ++ take n f.waiting) log.next_guest jobs jobs' =
+      of_jobs jobs jobs' j given back (f.committed ++ take n f.waiting)
+      (λ k r at. let e = j.each k r at in
+      first_with f log.next_guest (0 + k) e.0 e.1 e.2 n r e.3
+      ((all_of choosers sinks group tasks done j.seats j.works k r at).1 ∙ omega arith) (inl first)) in
+      let all : AreOld (f.committed ++ take n f.waiting) =
+      of_each_number (λ r. IsOld r.item) log.next_guest (length jobs) (f.committed ++ take n f.waiting)
+      (of_these (length jobs) n j count first)
+      (each_old choosers sinks (f.committed ++ take n f.waiting) log.next_guest jobs jobs' recorded are_old) in
+      lacks.new (AllByRecursion-back (λ r. IsOld r.item) f.committed (take n f.waiting) all)
 
   pub has_run : (jobs jobs' : List (Job C O S)) → AreJoined choosers sinks device group old f log log' flushed tasks done →
       jobs_of tasks ≡ jobs → jobs' ≡ jobs_worked done
@@ -238,19 +277,11 @@ module _ {C O S D : Type 0} (choosers : Choosers C) (sinks : Sinks S) (device : 
     batch = hand_of j;
     gained = session_gained device group old f log log' flushed j.new j.flusher;
     next = next_is device group old f log log' flushed j.new j.flusher;
+    marked = j.flusher.marked;
     only = only_these (length jobs) j (sym (length-map tasks (λ task. task.job)) ∙ ap length given);
-    recorded = of_jobs f.committed (λ k r at. first_sent f log.next_guest (0 + k) r (ends j k r at));
-    in_hand = of_jobs (f.committed ++ hand_of j) (first_in_hand j);
+    recorded = of_jobs jobs jobs' j given back f.committed (λ k r at. first_sent f log.next_guest (0 + k) r (ends j k r at));
+    in_hand = of_jobs jobs jobs' j given back (f.committed ++ hand_of j) (first_in_hand j);
   }
-    where
-      of_jobs : (records : List Record) →
-          ((k : ℕ) (r : RecorderValue) → slice_get (seats_worked done) k ≡ Some r → AreFirstSent records log.next_guest (0 + k) r)
-          → AreRecorded choosers sinks records log.next_guest jobs jobs'
-      of_jobs records each =
-          let all = all_recorded choosers sinks records log.next_guest 0 tasks done j.works each in
-          let here = subst (λ (n : ℕ). AreRecorded choosers sinks records n (jobs_of tasks) (jobs_worked done)) (omega arith) all in
-          subst (λ (x : List (Job C O S) × List (Job C O S)). AreRecorded choosers sinks records log.next_guest x.0 x.1)
-          (λ i. (given i, sym back i)) here
 
   pub tells_first : (T : Type 0) (result : Result T SessionFault) (jobs jobs' : List (Job C O S)) →
       AreJoined choosers sinks device group old f log log' flushed tasks done → jobs_of tasks ≡ jobs → jobs' ≡ jobs_worked done

@@ -89,13 +89,14 @@ pub record IsLeft {D : Type 0} (device : Device D) (log : LogValue D) (bodies : 
 
 -- These records were committed, whatever bodies the log kept before: of each job what was recorded so far, and no others. So
 -- are these with the batch in hand, in a body that a call of the disk failed to commit. The log's next guest is one above
--- the greatest number committed, and as before where nothing was.
+-- the greatest number committed, and as before where nothing was. It tells the Mark as before.
 pub record HasRun {C O S D : Type 0} (choosers : Choosers C) (sinks : Sinks S) (device : Device D)
     (committed : List Record) (log log' : LogValue D) (jobs jobs' : List (Job C O S)) : Type 0 where
   pub batch : List Record
   pub gained : (bodies : List (List ℕ)) (earlier : List Record)
       → IsLeft device log bodies earlier → HasGained device committed batch log log' bodies earlier
   pub next : log'.next_guest ≡ max log.next_guest (next_guest committed)
+  pub marked : log'.marked ≡ log.marked
   pub only : AllByRecursion (IsPlaced log.next_guest (length jobs)) (committed ++ batch)
   pub recorded : AreRecorded choosers sinks committed log.next_guest jobs jobs'
   pub in_hand : AreRecorded choosers sinks (committed ++ batch) log.next_guest jobs jobs'
@@ -110,7 +111,8 @@ AreTooMany log jobs = (16 < length jobs) ⊎ (4294967295 < log.next_guest + leng
 abbrev pub AreUntouched : {C O S D : Type 0} → (log log' : LogValue D) → (jobs jobs' : Vec (Job C O S) Global) → Type 0
 AreUntouched log log' jobs jobs' = (log' ≡ log) × (jobs' ≡ jobs)
 
--- what each fault tells of the log and the jobs: a failed call of the disk alone breaks the log
+-- What each fault tells of the log and the jobs: a failed call of the disk alone breaks the log. That the Mark is missing is told before
+-- anything is recorded, of the first job that needs it.
 abbrev pub RefusesSession : {C O S D : Type 0} → (log log' : LogValue D) → (jobs jobs' : Vec (Job C O S) Global)
     → SessionFault → Type 0
 RefusesSession log log' jobs jobs' faults.DeviceFailed = log'.is_broken ≡ true
@@ -124,7 +126,8 @@ RefusesSession log log' jobs jobs' faults.TooManyGuests =
 RefusesSession log log' jobs jobs' faults.StoreFull = (log'.is_broken ≡ false) × IsFull log'
 RefusesSession log log' jobs jobs' (faults.BadOpening guest) =
     IsFirstBad (vec_items jobs) guest × AreUntouched log log' jobs jobs'
-RefusesSession log log' jobs jobs' (faults.NeedsMark guest) = (log'.is_broken ≡ false) × (log'.marked ≡ false)
+RefusesSession log log' jobs jobs' (faults.NeedsMark guest) =
+    (log.marked ≡ false) × IsFirstNew (vec_items jobs) guest × AreUntouched log log' jobs jobs'
 
 -- How many calls of the disk had failed before and after: one that is reported failed, and no other.
 abbrev pub TellsDevice : {T : Type 0} → Result T SessionFault → ℕ → ℕ → Type 0

@@ -31,7 +31,8 @@
 //!   starts no guest is reported: `BadOpening` names the first one, unless `TooManyGuests` is reported, or `NeedsMark`, or
 //!   `Memory`: the last only if it or a job before it has a guest's name, and a file within its limit to which none of the
 //!   first twelve refusals applies. Of a log that doesn't hold the Mark the first job of version 2 is reported before those:
-//!   `NeedsMark` names it. In each case log and jobs are as before. `NeedsMark` comes only if the log doesn't hold the Mark.
+//!   `NeedsMark` names it, and comes for nothing else. In each case log and jobs are as before. Whatever comes, the log holds
+//!   the Mark as before (`HasRun.marked`).
 //!   `DeviceFailed` comes exactly if the log is broken, and then one call of the disk failed; else none did. `SinkFailed`
 //!   comes only if that guest's sink refused, once; and a sink that refused is reported, or a fault before that. So after Ok
 //!   no sink refused and no call of the disk failed. After `StoreFull` the text of some records, no longer than a body may be,
@@ -43,9 +44,9 @@
 //!   these the first is reported: by its kind, and then of the lowest guest (`TellsFirst`). A worker met `SinkFailed` exactly
 //!   if its sink refused. A guest whose worker met none is recorded to its end, also if another's fault is reported, unless
 //!   the session met others.
-//! - Not in its contract: that `NeedsMark` comes only if a job is of version 2; that the gate held if it says so, and that
-//!   `Memory` comes only if an allocation failed. So a list of faults that names one of these for a worker, `Memory` for the
-//!   session, or some fault of the session beside the reported one, is believed.
+//! - Not in its contract: that the gate held if it says so, and that `Memory` comes only if an allocation failed. So a list of
+//!   faults that names one of these for a worker, `Memory` for the session, or some fault of the session beside the reported
+//!   one, is believed.
 //!
 //! That threads run at once, that one could not be made, and that a worker ever ends is in no contract. Tests record 16 guests
 //! of a thousand records each, ten times, and replay what they find; two guests of which one waits for the other's frames, and

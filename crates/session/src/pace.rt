@@ -1,14 +1,15 @@
 //! When the flusher takes its turns: each commit costs the store's writes and two syncs, so records wait a little for others.
 
+use rrv_model::limits::BATCH_ITEMS;
 use std::sync::Wait;
 use std::sync::atomic::{AtomicU64, Ordering};
 use std::time::Duration;
 
-/// The flusher is woken when this many records were sent.
-const ENOUGH: u64 = 8;
+/// The flusher is woken when this many records were sent: as many as a body holds.
+const ENOUGH: u64 = BATCH_ITEMS as u64;
 
 /// How long the flusher sleeps at most, in milliseconds.
-const LONGEST_SLEEP: u64 = 10;
+const LONGEST_SLEEP: u64 = 50;
 
 /// How many records were sent since the flusher began its last turns. No contract tells it, and none needs to: what a turn
 /// commits is the queue's to tell.
@@ -35,7 +36,7 @@ impl Pace {
 
     /// Tells that a worker waits for the flusher, or a guest's output for its record.
     pub(crate) fn hurry(&self) {
-        self.sent(ENOUGH as u32);
+        self.sent(BATCH_ITEMS);
     }
 
     /// Sleeps until there are enough, or it slept as long as it may. What was sent before it returns stands in the queue by then.

@@ -3,6 +3,7 @@
 ghost use Rattle.std.specs.Prelude.{◌≡◌, ◌≢◌, ◌↔◌, ◌<◌, [], length, true, Err, IfErr, IfOk, IsTrue, None, OnErr, OnOk};
 ghost use Rattle.guest_calls.specs.Guest.{state_of};
 ghost use Rattle.serial_sched.specs.Chosen.{Picks};
+ghost use Rattle.serial_sched.specs.Slices.{IsAsleep};
 ghost use Rattle.recorder.specs.RecorderCalls.{KeepsMade};
 ghost use Rattle.recorder.specs.Recorders.{IsSettled, made};
 ghost use Rattle.session.specs.Chosen.{IsAskedOnce, MakesChosen, TurnLeaves, WorkLeaves};
@@ -119,6 +120,9 @@ fn take_turn<C: Chooser, O: Outside, G: Gate>(
     ensures over { IfOk result (λ turn. turn ≡ Step.Over → IsOver C.Chooser recorder.new chooser.new) }
     ensures waits { IfOk result (λ turn. turn ≡ Step.Waits
         → length recorder.new.seat.sent ≢ length (made recorder.new)) }
+    ensures held { IfOk result (λ turn. turn ≡ Step.Held
+        → (recorder.new ≡ recorder.old) × (chooser.new ≡ chooser.old)) }
+    ensures asleep { IfOk result (λ turn. turn ≡ Step.Asleep → IsAsleep (state_of recorder.new.guest)) }
     ensures memory { IfErr result (λ e. e ≡ WorkFault.Memory) }
     ensures chosen { OnErr result (MakesChosen C.chooses recorder.old chooser.old recorder.new
         (IsAskedOnce C.chooses chooser.new (state_of recorder.new.guest))) }

@@ -2,7 +2,7 @@
 
 ghost use Rattle.std.specs.Prelude.{◌≡◌, ◌<◌, ◌≤◌, ◌+◌, ℕ, [], false, length, IfErr, OnErr, OnOk, Err};
 ghost use Rattle.std.specs.List.{AllByRecursion};
-ghost use Rattle.session.specs.Openings.{IsFirstBad, IsFirstNew, StartsGuest};
+ghost use Rattle.session.specs.Openings.{AreOld, IsFirstBad, IsFirstNew, StartsGuest};
 ghost use Rattle.session.specs.Sessions.{AreTooMany, AreUntouched, HasEnded, RefusesSession, TellsBadJob, TellsDevice, TellsNewJob, TellsSinks};
 
 use crate::fault::SessionFault;
@@ -48,6 +48,7 @@ fn record_some<
     requires some { (0 < length jobs.items) × (length jobs.items ≤ 16) }
     requires whole { log.is_broken ≡ false }
     requires numbers { log.next_guest + length jobs.items ≤ 4294967295 }
+    requires marked { log.marked ≡ false → AreOld jobs.items }
     ensures recorded { HasEnded C.Chooser S.Sink D.Disk log result.0 jobs.items result.1.items result.2 }
     ensures whole { OnOk result.2 (result.0.is_broken ≡ false) }
     ensures refused { IfErr result.2 (RefusesSession log result.0 jobs result.1) }

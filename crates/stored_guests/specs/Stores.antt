@@ -23,11 +23,11 @@ RefusesStore bytes e =
 abbrev pub IsFailed : Refusal → Type 0
 IsFailed e = (e ≡ refusals.DeviceFailed) ⊎ (e ≡ refusals.Memory)
 
--- the store is full, the device failed, or there was no memory
+-- The Mark isn't there. It would pass a limit of the store; or it wouldn't, and the device failed, or there was no memory.
 abbrev pub RefusesMark : {D : Type 0} → LogValue D → Refusal → Type 0
 RefusesMark log (refusals.Session session_faults.StoreFull) = (log.marked ≡ false) × IsPastLimit log mark
-RefusesMark log refusals.DeviceFailed = Unit {0}
-RefusesMark log refusals.Memory = Unit {0}
+RefusesMark log refusals.DeviceFailed = (log.marked ≡ false) × (IsPastLimit log mark → ⊥)
+RefusesMark log refusals.Memory = (log.marked ≡ false) × (IsPastLimit log mark → ⊥)
 RefusesMark log _ = ⊥
 
 -- What is read of a store is so where its records stand on an honest disk, on which they then stand still; else the device failed, or there

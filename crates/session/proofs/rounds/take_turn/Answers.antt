@@ -1,8 +1,9 @@
-use Rattle.std.proofs.Common.{ap, subst, ◌∙◌, inl, Option}
+use Rattle.std.proofs.Common.{ap, subst, sym, ◌∙◌, inl, Option}
 use Rattle.std.proofs.lemmas.Result.{err_from_is_err_and}
 use Rattle.rrv_model.specs.declared.record.Choice.{Choice}
 use Rattle.guest_calls.specs.Guest.{GuestValue, state_of}
 use Rattle.serial_sched.specs.Chosen.{Picks}
+use Rattle.serial_sched.specs.Slices.{IsAsleep}
 use Rattle.recorder.specs.declared.fault.RecorderFault.{RecorderFault}
 use Rattle.recorder.specs.declared.fault.RecorderFault.TheVariants as recorder_faults
 use Rattle.recorder.specs.RecorderCalls.{RefusesStep}
@@ -39,6 +40,13 @@ returns-in-Err-Refused-Waiting-clause-turn g c =
     makes_asleep g.C.Chooser.chooses g.O.Outside.gives _ _ _ _ _ _ _ w.ensures.unmoved refused.2
     (subst (λ (x : GuestValue × Option Choice). Picks g.C.Chooser.chooses (state_of x.0) c.args.chooser.now x.1 c.choose.new.chooser)
     (λ i. (c.guest.ensures i, c.in-Some.is i)) c.in_ok-choice.ensures.picks)
+
+pub returns-in-Err-Refused-Waiting-clause-asleep : goal.returns-in-Err-Refused-Waiting-clause-asleep
+returns-in-Err-Refused-Waiting-clause-asleep g c _ =
+    let w = c.in-Err-Refused-Waiting in
+    let refused = subst (λ (e : RecorderFault). RefusesStep c.args.recorder.now c.in-Some.choice e)
+    (w.field-0-is ∙ ap recorder_faults.Refused (rw w.field-0-is at w.field-0-0-is)) w.ensures.refused in
+    subst IsAsleep (sym w.ensures.unmoved.state) refused.2
 
 pub returns-in-Err-clause-goes : goal.returns-in-Err-clause-goes
 returns-in-Err-clause-goes g c = goes_unmoved g.O.Outside.gives _ _ _ _ c.in-Err.ensures.unmoved

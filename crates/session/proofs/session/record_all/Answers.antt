@@ -104,6 +104,9 @@ returns-in-Some-clause-unmarked g c guest unmarked new =
       inl (ap (λ (n : ℕ). faults.NeedsMark n) (new_once c.args.jobs.items c.in-Some.guest guest found.1 new)),
     )
 
+pub record_some-requires-clause-marked : goal.record_some-requires-clause-marked
+record_some-requires-clause-marked g c κs within = none_new g (goal.at.record_some-requires-clause-marked g c).In_default
+
 pub returns-in-Err-clause-unmarked : goal.returns-in-Err-clause-unmarked
 returns-in-Err-clause-unmarked g c guest unmarked new =
     absurd (none_is_new c.args.jobs.items guest (none_new g (goal.at.returns-in-Err-clause-unmarked g c).In_default unmarked) new)
@@ -117,4 +120,4 @@ returns-in-Some-clause-bad g c guest bad =
     let found = first_there g c in ((refl, refl), inr (inr (inr (found.0, c.in-Some.guest, found.1, refl))))
 
 pub returns-in-Some-clause-refused : goal.returns-in-Some-clause-refused
-returns-in-Some-clause-refused g c = (c.requires.whole, (first_there g c).0)
+returns-in-Some-clause-refused g c = let found = first_there g c in (found.0, found.1, (refl, refl))

@@ -1,10 +1,14 @@
-use Rattle.std.proofs.Common.{rules, arith, ◌≡◌, [], ◌++◌, length, sym, ap, ◌∙◌, subst}
-use Rattle.std.specs.Prelude.{slice_get, Err, Option, Some}
+use Rattle.std.proofs.Common.{rules, arith, ◌≡◌, [], ◌++◌, length, false, sym, ap, ◌∙◌, subst}
+use Rattle.std.specs.Prelude.{slice_get, Err, IfErr, Option, Result, Some}
 use Rattle.std.proofs.lemmas.List.{length-map}
 use Rattle.commit_group.specs.Seats.{AllNew, AllOf, GroupId}
+use Rattle.commit_group.specs.declared.fault.FlushFault.{FlushFault}
+use Rattle.commit_group.specs.declared.fault.FlushFault.TheVariants as flushes
+use Rattle.trace_log.specs.Kept.{LogValue}
 use Rattle.session.specs.declared.fault.SessionFault.{SessionFault}
 use Rattle.session.specs.declared.report.SessionReport.{SessionReport}
 use Rattle.session.specs.Faults.{IsLowest, flusher_met}
+use Rattle.session.specs.Gains.{IsLeftBy}
 use Rattle.std.specs.List.{AllByRecursion}
 use Rattle.session.specs.Openings.{StartsGuest}
 use Rattle.session.specs.Tasks.{faults_met}
@@ -15,7 +19,7 @@ use Rattle.session.proofs.Recorded.{all_numbered}
 use Rattle.session.proofs.Refusals.{lowest_tells}
 use Rattle.session.specs.declared.fault.SessionFault.TheVariants as faults
 use Rattle.session.proofs.Told.{device_told, none_meets, other_than_sink, sinks_err, sinks_ok, sinks_rest, steady_where_none}
-use Rattle.session.proofs.Sessions.{AreJoined, flusher_met_none, has_left, has_reported, has_run, nothing_ran, tells_alone, tells_first}
+use Rattle.session.proofs.Sessions.{AreJoined, flusher_met_none, has_left, has_reported, has_run, lacks_none, nothing_ran, tells_alone, tells_first}
 use Rattle.session.proofs.Tasks.{all_fresh, all_of}
 use Rattle.session.proofs.session.record_some.Given.{Over}
 use Rattle.session.proofs.session.record_some.Goals.{After-end}
@@ -168,6 +172,11 @@ returns-clause-recorded g c =
           c.take_back.new.jobs.items joined c.give.ensures.jobs c.take_back.ensures.jobs (omega arith) none,
     )
 
+-- a flusher that lacks the Mark leaves a log without it
+unmarked_by : {D : Type 0} (log : LogValue D) (flushed : Result Unit FlushFault) → flushed ≡ Err flushes.NeedsMark →
+    IfErr flushed (IsLeftBy log) → log.marked ≡ false
+unmarked_by log flushed told left = (subst (λ r. IfErr r (IsLeftBy log)) told left).1
+
 pub returns-in-Some-clause-refused : goal.returns-in-Some-clause-refused
 returns-in-Some-clause-refused g c =
     let T = c.give.new.tasks.items in
@@ -176,6 +185,10 @@ returns-in-Some-clause-refused g c =
     let met = flusher_met c.run-done.result.3 in
     lowest_tells g.C.Chooser g.S.Sink c.args.log c.run-done.result.2 c.args.jobs c.take_back.new.jobs c.in-Ok.room.flusher.group
     c.run-done.result.3 T Z c.in-Some.fault f.refused f.whole
+    (λ left told. lacks_none g.C.Chooser g.S.Sink g.D.Disk c.in-Ok.room.flusher.group c.in-Ok.room.flusher c.run-done.result.1 c.args.log
+    c.run-done.result.2 c.run-done.result.3 T Z c.args.jobs.items c.take_back.new.jobs.items
+    (joins g (goal.at.returns-in-Some-clause-refused g c).After-end) c.give.ensures.jobs c.take_back.ensures.jobs
+    (c.requires.marked (sym f.marked ∙ unmarked_by c.run-done.result.2 c.run-done.result.3 told left)) told)
     (subst (λ l. AllNew c.in-Ok.room.flusher.group l) (sym c.give.ensures.seats) c.in-Ok.ensures.seats) c.run-done.ensures.works
     (sym (length-map T (λ task. task.job)) ∙ ap length c.give.ensures.jobs)
     (subst (λ l. IsLowest (met ++ faults_met l) (Some c.in-Some.fault)) c.deref.ensures.value
