@@ -1,5 +1,5 @@
 -- Frames that a chooser chose.
-use Rattle.std.proofs.Common.{true, false, true≢false, Option, ◌≡◌, ◌∙◌, inl, inr, ℕ, ◌+◌, ◌<◌, ◌^◌, arith, List, [], ◌∷◌, ◌++◌, length, map, take, drop, refl, sym, ap, subst, append_assoc}
+use Rattle.std.proofs.Common.{true, false, true≢false, Option, ◌≡◌, ◌∙◌, inl, inr, ℕ, ◌+◌, ◌<◌, ◌^◌, arith, List, [], ◌∷◌, ◌++◌, length, map, take, drop, refl, sym, ap, subst, append_assoc, length-append}
 use denote.Enum.Bare.{sameb}
 use Rattle.std.proofs.lemmas.List.{append-nil, take-append-drop}
 use Rattle.std.proofs.lemmas.List.Sums.{sum_by-append}
@@ -85,6 +85,17 @@ step_made gives old choice f new (Some tid) before after h = (
   h.0.is_frame.ran,
   λ other. absurd (true≢false (sym (ap (λ (g : Frame). is_expiry g.end) h.0.expiry) ∙ other)),
 )
+
+-- a step makes a record
+pub made_more : {O : Type 0} (gives : Gives O) (a b : GuestRecorder) (choice : Choice) (outcome : Parts) (before after : O) →
+    HasStepped gives a choice outcome b before after → length (made a) < length (made b)
+made_more gives a b choice outcome before after h =
+    let r = frame_record a.seat.guest (length (made a)) h.makes.frame in
+    let more = part_records h.between h.keeps.parts in
+    let made_is : made b ≡ (made a ++ r ∷ []) ++ more = h.keeps.made_is ∙ ap (λ (l : List Record). l ++ more) h.makes.made_is in
+    let grown : length (made b) ≡ length (made a ++ r ∷ []) + length more =
+    ap length made_is ∙ length-append (made a ++ r ∷ []) more in
+    omega (arith, length-append (made a) (r ∷ []))
 
 module _ {C : Type 0} (chooses : Choosing C) where
   -- no frame

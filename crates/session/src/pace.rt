@@ -5,47 +5,78 @@ use std::sync::Wait;
 use std::sync::atomic::{AtomicU64, Ordering};
 use std::time::Duration;
 
-/// The flusher is woken when this many records were sent: as many as a body holds.
+/// The flusher is woken when this many records wait: as many as a body holds at most.
 const ENOUGH: u64 = BATCH_ITEMS as u64;
 
 /// How long the flusher sleeps at most, in milliseconds.
 const LONGEST_SLEEP: u64 = 50;
 
-/// How many records were sent since the flusher began its last turns. No contract tells it, and none needs to: what a turn
-/// commits is the queue's to tell.
+/// What the workers and the flusher tell each other of records. No contract says it, and none needs to: what a turn commits is the
+/// queue's to tell.
 #[derive(Drop)]
 pub(crate) struct Pace {
-    waiting: AtomicU64,
+    /// How many records were sent.
+    sent: AtomicU64,
+    /// How many were committed.
+    committed: AtomicU64,
+    /// How many were sent and not committed when the flusher began its last turn.
+    known: AtomicU64,
+    /// 1 if the flusher is to take another turn, else 0. It sleeps at this word.
+    hurried: AtomicU64,
 }
 
 impl Pace {
     pub(crate) fn new() -> Pace {
         Pace {
-            waiting: AtomicU64::new(0),
+            sent: AtomicU64::new(0),
+            committed: AtomicU64::new(0),
+            known: AtomicU64::new(0),
+            hurried: AtomicU64::new(0),
         }
     }
 
-    /// Tells that so many records were sent. The flusher wakes once there are enough.
+    /// Tells that so many records were sent. The flusher wakes once enough wait.
     pub(crate) fn sent(&self, records: u32) {
         let records = u64::from(records);
-        let before = self.waiting.fetch_add(records, Ordering::SeqCst);
-        if before < ENOUGH && ENOUGH - before <= records {
-            self.waiting.wake_one();
+        let before = self.sent.fetch_add(records, Ordering::SeqCst);
+        let waited = before.saturating_sub(self.committed.load(Ordering::SeqCst));
+        if waited < ENOUGH && ENOUGH - waited <= records {
+            self.hurry();
         }
     }
 
     /// Tells that a worker waits for the flusher, or a guest's output for its record.
     pub(crate) fn hurry(&self) {
-        self.sent(BATCH_ITEMS);
+        if self.hurried.swap(1, Ordering::SeqCst) == 0 {
+            self.hurried.wake_one();
+        }
     }
 
-    /// Sleeps until there are enough, or it slept as long as it may. What was sent before it returns stands in the queue by then.
+    /// Sleeps after a turn until the flusher is to wake, or it slept as long as it may. What was sent before it returns stands in the
+    /// queue by then.
     pub(crate) fn wait<R: Wait>(&self, rt: &R) {
-        let waiting = self.waiting.load(Ordering::SeqCst);
-        if waiting < ENOUGH {
-            let longest = Duration::from_millis(LONGEST_SLEEP);
-            self.waiting.park_timeout(rt, waiting as u32, longest);
+        let longest = Duration::from_millis(LONGEST_SLEEP);
+        self.hurried.park_timeout(rt, 0, longest);
+        self.begin_turn();
+    }
+
+    /// Does the same after a turn that committed so many records, unless its body was full, by their number or by their bytes: then
+    /// more wait.
+    pub(crate) fn wait_after<R: Wait>(&self, rt: &R, records: usize) {
+        let records = records as u64;
+        self.committed.fetch_add(records, Ordering::SeqCst);
+        if ENOUGH <= records || records < self.known.load(Ordering::SeqCst) {
+            self.begin_turn();
+        } else {
+            self.wait(rt);
         }
-        self.waiting.store(0, Ordering::SeqCst);
+    }
+
+    /// Notes what is known as the flusher begins a turn. Who hurried it before this has sent its records, which the turn finds.
+    fn begin_turn(&self) {
+        self.hurried.store(0, Ordering::SeqCst);
+        let sent = self.sent.load(Ordering::SeqCst);
+        let known = sent.saturating_sub(self.committed.load(Ordering::SeqCst));
+        self.known.store(known, Ordering::SeqCst);
     }
 }

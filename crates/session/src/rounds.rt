@@ -123,6 +123,8 @@ fn take_turn<C: Chooser, O: Outside, G: Gate>(
     ensures held { IfOk result (λ turn. turn ≡ Step.Held
         → (recorder.new ≡ recorder.old) × (chooser.new ≡ chooser.old)) }
     ensures asleep { IfOk result (λ turn. turn ≡ Step.Asleep → IsAsleep (state_of recorder.new.guest)) }
+    ensures stepped { IfOk result (λ turn. turn ≡ Step.Stepped
+        → length (made recorder.old) < length (made recorder.new)) }
     ensures memory { IfErr result (λ e. e ≡ WorkFault.Memory) }
     ensures chosen { OnErr result (MakesChosen C.chooses recorder.old chooser.old recorder.new
         (IsAskedOnce C.chooses chooser.new (state_of recorder.new.guest))) }

@@ -9,11 +9,14 @@ use Rattle.recorder.specs.declared.fault.RecorderFault.TheVariants as recorder_f
 use Rattle.recorder.specs.RecorderCalls.{RefusesStep}
 use Rattle.session.proofs.Driven.{goes_stepped, goes_unmoved}
 use Rattle.session.specs.Chosen.{IsAskedOnce}
-use Rattle.session.proofs.Chosen.{makes_asleep, makes_lost, makes_none, makes_one}
+use Rattle.session.proofs.Chosen.{made_more, makes_asleep, makes_lost, makes_none, makes_one}
 use Rattle.session.proofs.rounds.take_turn.Goals as goal
 
 pub returns-clause-goes : goal.returns-clause-goes
 returns-clause-goes g c = goes_stepped g.O.Outside.gives _ _ _ _ _ _ c.in-Ok.ensures.stepped c.in-Ok.ensures.recorded
+
+pub returns-clause-stepped : goal.returns-clause-stepped
+returns-clause-stepped g c _ = made_more g.O.Outside.gives _ _ _ _ _ _ c.in-Ok.ensures.stepped
 
 pub returns-clause-turn : goal.returns-clause-turn
 returns-clause-turn g c = makes_one g.C.Chooser.chooses g.O.Outside.gives _ _ _ _ _ _ _ _ c.in-Ok.ensures.stepped
