@@ -35,7 +35,7 @@ module _ (bodies : List (List ℕ)) (sizes : AllByRecursion IsBody bodies) (few 
   pub session_on : (number : ℕ) (old : List Record) (events : List Event) → IsStart (start_on bodies number) old →
       IsSchedule (start_on bodies number) events →
       IsSession (fresh_disk (closed_store bodies)) (Ran bodies (start_on bodies number) old events)
-          (run (start_on bodies number) events).disk
+      (run (start_on bodies number) events).disk
   session_on number old events is schedule = ((closed_at_end, inl (refl, refl)), is, schedule, refl)
 
 pub first_opens : CanOpen (closed_store [])

@@ -83,7 +83,8 @@ pub record Report : Type 0 where
   pub bodies : List (List ℕ)
   pub first_guest : ℕ
 
--- It is so of the bodies of each later report, and of those that a read of the last disk gives or a crash leaves on it;
+-- It is so of the bodies of each later report, of those with which a run begins, and of those that a read of the last disk
+-- gives or a crash leaves on it;
 -- each time with the worlds to which sessions since then came, in their order, the given ones first.
 abbrev pub IsFoundLater : (List World → List (List ℕ) → Type 0) → List World → List Session → DiskState → Type 0
 IsFoundLater P since [] end =
@@ -118,7 +119,7 @@ pub record GrowsTo (report : Report) (since : List World) (bodies : List (List �
   -- all of them were sent since then: a body that was there and wasn't reported does not come back
   pub sent : AreSentIn since gained
 
--- what each report has is found later
+-- what each report has is found later; of a session that ran also what it has with the Mark, if it committed that
 abbrev pub AreGrowing : List Session → DiskState → Type 0
 AreGrowing [] end = Unit {0}
 AreGrowing (StoppedOpening ∷ sessions) end = AreGrowing sessions end

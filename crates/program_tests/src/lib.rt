@@ -4,9 +4,8 @@
 //! # What they show
 //!
 //! - The program: the texts of its refusals; what guests get from clocks and streams that fail; what verifying and a cursor leave where no
-//!   memory is found; which record is named where one isn't given, and which of spans is the first bad one; and what a full store tells that is asked
-//!   for the Mark. Its lines are tried by
-//!   `tools/program_lines` and `tools/scenes`.
+//!   memory is found; which record is named where one isn't given, and which of spans is the first bad one; and what is reported if the
+//!   Mark doesn't fit into a full store. Its lines are tried by `tools/program_lines` and `tools/scenes`.
 #![tactic(auto)]
 
 #[cfg(test)]

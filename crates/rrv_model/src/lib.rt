@@ -16,6 +16,9 @@
 //! - `frames_append`: a frame that goes on from a recording's end lengthens the recording.
 //! - `one_batch`: a body is the text of one list of records at most.
 //! - `one_recovery`: bodies give one list of recovered records at most.
+//! - `mark_is_no_text`, `mark_is_told`, `mark_adds_none`: the Mark is the text of no records; it is one of the bodies exactly if one of the
+//!   batches has no records; and bodies without it hold the same records if it is added.
+//! - `old_guests_need_no_mark`: each record of a guest of version 1 may stand before the Mark.
 //! - `beginnings_are_recovered`: the first of some bodies give a beginning of what all of them give.
 //! - `limits_are_these`: each limit is its number.
 //! - `highest_free_is_found`: the search for a free place finds the highest, and none only if there is none.

@@ -31,8 +31,8 @@
 //!   starts no guest is reported: `BadOpening` names the first one, unless `TooManyGuests` is reported, or `NeedsMark`, or
 //!   `Memory`: the last only if it or a job before it has a guest's name, and a file within its limit to which none of the
 //!   first twelve refusals applies. Of a log that doesn't hold the Mark the first job of version 2 is reported before those:
-//!   `NeedsMark` names it, and comes for nothing else. In each case log and jobs are as before. Whatever comes, the log holds
-//!   the Mark as before (`HasRun.marked`).
+//!   `NeedsMark` names it, and comes for nothing else. In each case log and jobs are as before. Whatever it returns, the log
+//!   holds the Mark exactly if it did before (`HasRun.marked`).
 //!   `DeviceFailed` comes exactly if the log is broken, and then one call of the disk failed; else none did. `SinkFailed`
 //!   comes only if that guest's sink refused, once; and a sink that refused is reported, or a fault before that. So after Ok
 //!   no sink refused and no call of the disk failed. After `StoreFull` the text of some records, no longer than a body may be,

@@ -7,7 +7,7 @@
 //! - `opened`, `looked`: a store and its records as `recover::open` or `recover::read` has them, for any disk; a refusal
 //!   is the one that the bytes have, failures aside. That a store is read alone if it can't be written or locked is tested.
 //! - `marked`: the log holds the Mark, which is committed if it wasn't there, and else the log is as it was; that the store is full
-//!   is told exactly if the Mark isn't there and doesn't fit.
+//!   is reported exactly if the Mark isn't there and doesn't fit.
 //! - `guest_in`, `verified_in`: the guest of a number, and its records, or where they end, verified as they are
 //!   read from the disk. `NoSuchGuest` comes exactly if the store has none of that number, and other refusals
 //!   are those of `verify_source`. This and what follows of printed records is said of an honest disk on which the records
