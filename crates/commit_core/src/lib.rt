@@ -108,11 +108,12 @@ pub fn safe_always()
 
 /// Over any list of sessions, each of which opens the store, may commit the Mark, records or records nothing, and is stopped anywhere,
 /// also within `open`, with the machine or alone. What one `open` reported is a beginning of what each later one reports, and of what the
-/// disk holds at the end; so is that with the Mark, if the session then committed it and ran. What follows belongs to guests of later numbers, and sessions since then sent it: a body that was there and was
-/// not reported does not come back. Of each session that ran, from what its `open` reported, what `safe_always` says is true at each of
-/// its moments. And each later report, and the disk at the end, has every record of it of which an output byte has left, and under each
-/// number up to the greatest of which a record was left just what was left. What every crash leaves, and what a read gives, can be opened
-/// again. Once `open` has made its calls the store is at rest with its bodies.
+/// disk holds at the end; so is that with the Mark, if the session then committed it and ran. What follows belongs to guests of later
+/// numbers, and sessions since then sent it: a body that was there and was not reported does not come back. Of each session that ran,
+/// from what its `open` reported, what `safe_always` says is true at each of its moments. And each later report, and the disk at the end,
+/// has every record of it of which an output byte has left, and under each number up to the greatest of which a record was left just what
+/// was left. What every crash leaves, and what a read gives, can be opened again. Once `open` has made its calls the store is at rest
+/// with its bodies.
 pub fn sessions_always()
     ensures grows { (content : List ℕ) (sessions : List Session) (end : DiskState) → CanOpen content
         → AreSessions (fresh_disk content) sessions end → AreGrowing sessions end }
