@@ -7,6 +7,7 @@ use std::test::Fail;
 mod from_host;
 mod given;
 mod in_spans;
+mod line;
 mod marking;
 mod memory;
 mod refusals;

@@ -6,6 +6,7 @@ use std::process::Abort;
 mod at_once;
 mod deadlines;
 mod fail_sink;
+mod failing;
 mod gates;
 mod jobs;
 mod listed;

@@ -25,6 +25,9 @@ pub(super) type ListedJob = Job<Listed, Nothing, FailSink>;
 /// It jumps to itself: `j .`.
 pub(super) const SPIN: [u32; 1] = [0x0000_006F];
 
+/// One exits with 5, one writes `hi` and a newline, and two jump to themselves.
+pub(super) const FOUR: [&[u32]; 4] = [&EXIT_FIVE, &HELLO, &SPIN, &SPIN];
+
 /// A job for each of these programs, by ten choices of 64 instructions of thread 1.
 pub(super) fn listed_jobs(alloc: Global, programs: &[&[u32]]) -> Result<Vec<ListedJob>, Fail> {
     let choice = Choice {
@@ -48,7 +51,7 @@ pub(super) fn listed_jobs(alloc: Global, programs: &[&[u32]]) -> Result<Vec<List
 }
 
 /// Whether `hi` and a newline were output, or nothing.
-fn says_hi(rt: &impl Abort, puts: &[Put]) -> bool {
+pub(super) fn says_hi(rt: &impl Abort, puts: &[Put]) -> bool {
     let Some(put) = puts.first() else {
         return false;
     };
@@ -72,11 +75,11 @@ pub(super) const SPINS: [Kind; 11] = [
     ("preempt", 64),
 ];
 
-// One would exit with 5, and is held; one writes `hi` and a newline, and two jump to themselves.
+// The one that would exit with 5 is held.
 #[test]
 fn a_guest_that_is_held_leaves_its_opening(rt: HostRuntime) -> Result<(), Fail> {
     let alloc = rt.alloc();
-    let jobs = listed_jobs(alloc, &[&EXIT_FIVE, &HELLO, &SPIN, &SPIN])?;
+    let jobs = listed_jobs(alloc, &FOUR)?;
     let log = Log::create(MemDisk::new(alloc)).ok().ok_or("not made")?;
     // No guest sends so many frames.
     let gate = Behind::holding(0, u32::MAX);

@@ -3,7 +3,7 @@
 use super::trial::same;
 use guest_calls::Guest;
 use rrv_model::record::{Choice, End, Frame};
-use serial_sched::{SliceFault, slice};
+use serial_sched::{SliceFault, follow, slice};
 use std::alloc::Global;
 use std::process::Abort;
 use std::test::Fail;
@@ -49,30 +49,31 @@ fn slice_of(alloc: Global, guest: &mut Guest) -> Result<Told, SliceFault> {
     Ok(told(&slice(alloc, guest, choice, &mut Nothing)?))
 }
 
-/// A slice. If it finds no memory the guest is as the other one is, and the slice is made again.
+/// A slice. If it finds no memory the guest is as one of these is, and the slice is made again.
 fn slice_at_last(
     rt: &impl Abort,
     alloc: Global,
     guest: &mut Guest,
-    before: &Guest,
+    before: &[Guest; 2],
 ) -> Result<Told, Fail> {
     let ran = guest.ran();
     match slice_of(alloc, guest) {
         Ok(told) => Ok(told),
         Err(fault) => {
             same(rt, &ran, fault, SliceFault::Memory);
-            same(rt, &ran, (guest.ran(), guest.same(before)), (ran, true));
+            let stands = before.iter().any(|it| it.ran() == ran && it.same(guest));
+            same(rt, &ran, (guest.ran(), stands), (ran, true));
             Ok(slice_of(alloc, guest)?)
         }
     }
 }
 
-/// The frames up to the guest's end, four at most. At the start the guest is as the other one is.
+/// The frames up to the guest's end, four at most. A slice may find no memory where one of these others stands.
 fn frames_of(
     rt: &impl Abort,
     alloc: Global,
     guest: &mut Guest,
-    before: &Guest,
+    before: &[Guest; 2],
 ) -> Result<[Told; 4], Fail> {
     let mut frames: [Told; 4] = [(0, None); 4];
     for frame in frames.iter_mut() {
@@ -83,19 +84,35 @@ fn frames_of(
     Ok(frames)
 }
 
+/// The guest of a program, before it runs, and before its first store to a shared page, which is so many instructions on.
+fn stands_before(alloc: Global, program: &[u32], count: u32) -> Result<[Guest; 2], Fail> {
+    let start = started(alloc, program)?;
+    let mut later = started(alloc, program)?;
+    if count != 0 {
+        let frame = Frame {
+            tid: 1,
+            count,
+            end: End::Preempt,
+        };
+        follow(alloc, &mut later, &frame)?;
+    }
+    Ok([start, later])
+}
+
 /// Runs the guest of a program to its end, over pages that a snapshot shares, and another over its own. Both come to the same end
-/// after this many instructions, the first by such frames.
+/// after this many instructions, the first by such frames. Its first store is so many instructions from its start.
 fn ends_the_same(
     rt: &impl Abort,
     alloc: Global,
     program: &[u32],
+    store: u32,
     count: u64,
     runs: &[[Told; 4]],
 ) -> Result<(), Fail> {
-    let before = started(alloc, program)?;
     let mut own = started(alloc, program)?;
     let mut shared = started(alloc, program)?;
     let _snapshot = shared.snapshot()?;
+    let before = stands_before(alloc, program, store)?;
     let frames = frames_of(rt, alloc, &mut shared, &before)?;
     same(rt, &frames, runs.contains(&frames), true);
     frames_of(rt, alloc, &mut own, &before)?;
@@ -104,7 +121,7 @@ fn ends_the_same(
     Ok(())
 }
 
-// Undisturbed, cut before its fourth instruction, and cut before its eighth.
+// Undisturbed, cut before its fourth instruction, also where the slice from there on finds none at first, and cut before its eighth.
 #[test]
 fn a_slice_to_a_shared_page_finds_no_memory(rt: HostRuntime) -> Result<(), Fail> {
     let runs = [
@@ -112,7 +129,7 @@ fn a_slice_to_a_shared_page_finds_no_memory(rt: HostRuntime) -> Result<(), Fail>
         [(3, None), (5, Some(3)), (3, Some(0)), (0, None)],
         [(7, None), (1, Some(3)), (3, Some(0)), (0, None)],
     ];
-    ends_the_same(&rt, rt.alloc(), &HELLO, 11, &runs)
+    ends_the_same(&rt, rt.alloc(), &HELLO, 3, 11, &runs)
 }
 
 // Undisturbed, also where the slice is made again, and cut before its sixth instruction.
@@ -122,5 +139,5 @@ fn a_first_store_to_a_shared_page_finds_no_memory(rt: HostRuntime) -> Result<(),
         [(6, Some(4)), (3, Some(0)), (0, None), (0, None)],
         [(5, None), (1, Some(4)), (3, Some(0)), (0, None)],
     ];
-    ends_the_same(&rt, rt.alloc(), &STORE_FIRST, 9, &runs)
+    ends_the_same(&rt, rt.alloc(), &STORE_FIRST, 0, 9, &runs)
 }
