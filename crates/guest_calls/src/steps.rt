@@ -47,8 +47,8 @@ impl Guest {
         run
     }
 
-    /// Runs up to `limit` instructions of a running thread as [`Guest::run_thread`] does, and tells how many plain steps there are up
-    /// to the last that changes the byte at an address; 0 if none does.
+    /// Runs up to `limit` instructions of a running thread as [`Guest::run_thread`] does. If it gets to the limit, it returns how many
+    /// plain steps there are up to the last that changes the byte at an address; 0 if none does.
     pub fn watch_thread(&mut self, tid: u32, limit: u32, address: u32) -> WatchedRun
         requires { IsRunning (thread_at (state_of self.old) tid) }
         ensures runs { Runs limit tid (state_of self.old) result.run (state_of self.new) }

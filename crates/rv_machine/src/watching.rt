@@ -35,7 +35,8 @@ pub(crate) struct Watch {
     changed: u32,
 }
 
-/// How many instructions ran, why they stopped, and how many of them ran up to the last that changed a byte; 0 if none did.
+/// How many instructions ran, why they stopped, and how many of them ran up to the last that changed a byte. The last is 0 if none did,
+/// and says nothing if they stopped before the limit.
 #[derive(Clone, Copy, Debug, PartialEq, Eq)]
 pub struct WatchedRun {
     pub run: Run,
@@ -256,8 +257,8 @@ impl CodeSpace {
     }
 }
 
-/// Does up to `limit` instructions from `pc` on, as [`crate::run_hart`] does, and tells of the last that changed the byte at an
-/// address, or whether there is one.
+/// Does up to `limit` instructions from `pc` on, as [`crate::run_hart`] does. If it gets to the limit, it returns how many ran up to the
+/// last that changed the byte at an address; 0 if none did.
 pub fn run_watched(
     regs: &mut Regs,
     space: &mut CodeSpace,

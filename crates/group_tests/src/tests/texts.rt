@@ -1,4 +1,4 @@
-//! What the refusals say, as docs/FORMATS.md has it.
+//! What the refusals say.
 
 use super::same;
 use commit_group::{FlushFault, SubmitFault};
