@@ -1,5 +1,5 @@
-//! Tests of the call that does a line, and of what no line of the built program comes to: refusals that no store or guest brings about, clocks and streams that are made up,
-//! and a want of memory. They stand apart from its crates, so that these are proved without them.
+//! Tests of the call that does a line, and of what no line of the built program comes to: refusals that no store or guest brings about, clocks
+//! and streams that are made up, and a want of memory. They stand apart from its crates, so that these are proved without them.
 //!
 //! # What they show
 //!
