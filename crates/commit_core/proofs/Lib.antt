@@ -1,5 +1,6 @@
 pub mod Lists
 pub mod Events
+pub mod Holders
 pub mod Runs
 mod Stages
 mod Invariant

@@ -13,7 +13,7 @@ use Rattle.commit_core.proofs.Invariant.{Invariant}
 use Rattle.commit_core.proofs.Schedules.{invariant_at_start, invariant_of_run, facts}
 use Rattle.commit_core.proofs.Recovery.{recovers}
 
-safe_after : (start : World) (old : List Record) (events : List Event) → IsStart start old → IsSchedule start events →
+pub safe_after : (start : World) (old : List Record) (events : List Event) → IsStart start old → IsSchedule start events →
     IsSafe (run start events) old
 safe_after start old events is schedule =
     let w = run start events in

@@ -4,6 +4,7 @@ pub mod Events
 pub mod Facts
 pub mod Sessions
 pub mod Headline
+pub mod Holders
 pub mod FailedCalls
 pub mod Example
 pub mod ExampleFailures

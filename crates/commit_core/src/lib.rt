@@ -6,6 +6,9 @@
 //! # Contracts
 //!
 //! - `safe_always`: over every list of events and every crash. README has it in words.
+//! - `in_any_order`: events of all holders are a schedule, in whatever order they come, if each holder by itself may do its own, and each
+//!   event finds what it needs in the queue. What calls of the seats and of a recorder come to, their holders may do by themselves
+//!   (`turns_are_events` in commit_group, `steps_are_events` in recorder, and the laws beside them).
 //! - `sessions_always`: over any list of sessions, each stopped anywhere, within its opening too, with the machine or the
 //!   process alone. No reported record is lost, and a body that was there and was not reported does not come back: what each
 //!   later report adds, and the disk at the end, was sent by guests of sessions since then. Of each session that ran they have
@@ -47,6 +50,7 @@
 //! | Runs | the output and the states of the records of one guest, as StateAt and Output have them |
 //! | World | what each recorder, the queue, the words, the flusher and the disk hold, and how it begins |
 //! | Events | what may happen, one event at a time, when, and what it does: each effect is a function of its holder's part |
+//! | Holders | whose each event is, what a holder may do by itself, and what an event finds in the queue |
 //! | Facts | the six facts that hold after every event, and what recovery gives of any content that a crash leaves |
 //! | Sessions | sessions one after another: each opens the store, commits the Mark or doesn't, runs events or none, and is stopped anywhere, within its opening too; how what one `open` reported grows |
 //! | Headline | what each session that ran has at each of its moments, and what later sessions find of it |
@@ -61,8 +65,8 @@
 //! until it returns, a sync has synced nothing. So a crash inside a write is one after it, a crash inside a sync one before it,
 //! and "wherever the machine stops" is "after any list of events".
 //!
-//! What the theorems don't say: that any event ever happens; that running threads perform just these events (each call of the
-//! group is tied to its events, and no theorem composes them: docs/PROOFS.md, "The headline"); anything of a disk that is not
+//! What the theorems don't say: that any event ever happens; that running threads make just the calls that are tied to events
+//! (docs/PROOFS.md, "The headline"); anything of a disk that is not
 //! as the crash model; that a digest tells all damage (nothing rests on digests but their length). In the examples one or two
 //! guests write a byte, one exits, and a later session finds what the first left. Checkpoints, frames that end otherwise than
 //! by a call, and a session that records after what another left stand in none, so that their guards can be met is seen by
@@ -85,6 +89,7 @@ ghost use Rattle.rrv_model.specs.State.{State};
 ghost use Rattle.store_model.specs.StoreText.{IsStore};
 ghost use Rattle.commit_core.specs.World.{World, IsStart, IsAtRest, closed_store};
 ghost use Rattle.commit_core.specs.Events.{Event, IsSchedule, run};
+ghost use Rattle.commit_core.specs.Holders.{BeginningsAreOwnRuns, OwnRunsAreSafe, OwnRunsAreSchedules, PopsAreReceived, RowsAreOwnRuns};
 ghost use Rattle.commit_core.specs.Facts.{Facts, Recovers};
 ghost use Rattle.commit_core.specs.Sessions.{Session, AreSessions, AreGrowing, CanOpen, fresh_disk, opened_disk};
 ghost use Rattle.commit_core.specs.Headline.{AreKept, IsSafeThroughout};
@@ -104,6 +109,19 @@ pub fn safe_always()
     ensures crash { (start : World) (old : List Record) (events : List Event) (content : List ℕ) → IsStart start old
         → IsSchedule start events → IsCrash (run start events).disk.pending content
         → Recovers (run start events) old content }
+{}
+
+/// Whatever order the events of all holders come in, they are a schedule, if each holder by itself may do what it does there, and each event
+/// finds room in the queue, or the record that it takes. By itself means: before each of its events there are some queue, words and parts of
+/// others with which the event may happen, and a word that it loads is the one that stands in the whole. Each holder's part is then what it
+/// is by itself. If a session began so, it is safe after each beginning of the events. What a holder may do by itself, and after that, it
+/// may do in a row, and so it may do a beginning of that: what it did as it was stopped. Of what it pops, the flusher knows the records.
+pub fn in_any_order()
+    ensures schedule { OwnRunsAreSchedules }
+    ensures safe { OwnRunsAreSafe }
+    ensures rows { RowsAreOwnRuns }
+    ensures beginnings { BeginningsAreOwnRuns }
+    ensures received { PopsAreReceived }
 {}
 
 /// Over any list of sessions, each of which opens the store, may commit the Mark, records or records nothing, and is stopped anywhere,

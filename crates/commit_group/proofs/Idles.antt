@@ -9,53 +9,65 @@ use Rattle.rrv_model.specs.Recovered.{of_guest}
 use Rattle.trace_log.specs.Kept.{LogValue}
 use Rattle.commit_core.specs.World.{World, committed_count}
 use Rattle.commit_core.specs.World.Stage.{Idle}
-use Rattle.commit_core.specs.Events.{Event, IsSchedule, run, after, left_place}
+use Rattle.commit_core.specs.Events.{after}
 use Rattle.commit_core.specs.Events.Event.{LookLeft}
+use Rattle.commit_core.specs.Holders.{Act, IsOwnRun, IsSameForFlusher, loading}
+use Rattle.commit_core.specs.Holders.Holder.{TheFlusher}
+use Rattle.commit_core.proofs.Holders.{own_to}
 use Rattle.commit_core.proofs.Lists.{put_same, put_other}
 use Rattle.commit_group.specs.Numbers.{base}
 use Rattle.commit_group.specs.Seats.{FlusherValue, committed_of}
 use Rattle.commit_group.specs.Turns.{AllCommitted, TurnFindsNone}
-use Rattle.commit_group.specs.Worlds.{StandsFor, ComesBy, HaveLeft, WordsStand, IdleTurnsAreEvents, LastTurnsAreEvents, left_looks}
-use Rattle.commit_group.proofs.Refusals.{comes_by, of_same}
-use Rattle.commit_group.proofs.WorldSteps.{stands_again}
+use Rattle.commit_group.specs.Worlds.{StandsFor, HaveLeft, WordsStand, IdleTurnsAreEvents, LastTurnsAreEvents, left_looks}
+use Rattle.commit_group.proofs.Refusals.{of_same}
+use Rattle.commit_group.proofs.WorldSteps.{seat_stays, stands_again}
 
 -- ---- looks at the words of n guests, from a on
 
 abbrev with_totals : World → (ℕ → ℕ) → World
 with_totals w totals = record w { flusher = record w.flusher { totals = totals } }
 
-record HasLooked (a n : ℕ) (w : World) (events : List Event) : Type 0 where
+-- what it loads of these guests is this
+abbrev looks : (ℕ → ℕ) → ℕ → ℕ → List Act
+looks known a n = map (λ g. loading (LookLeft g) (known g)) (range_with_len a n)
+
+record HasLooked (known : ℕ → ℕ) (a n : ℕ) (w : World) : Type 0 where
   totals : ℕ → ℕ
-  schedule : IsSchedule w events
-  ends : run w events ≡ with_totals w totals
-  seen : (g : ℕ) → a ≤ g → g < a + n → totals g ≡ w.words (left_place w g)
+  own : IsOwnRun TheFlusher w (looks known a n) (with_totals w totals)
+  seen : (g : ℕ) → a ≤ g → g < a + n → totals g ≡ known g
   below : (g : ℕ) → g < a → totals g ≡ w.flusher.totals g
   above : (g : ℕ) → a + n ≤ g → totals g ≡ w.flusher.totals g
 
-looks_from : (n a : ℕ) (w : World) → a + n ≤ w.guests → HasLooked a n w (map LookLeft (range_with_len a n))
-looks_from zero a w le =
-    record {
-      totals = w.flusher.totals;
-      schedule = tt;
-      ends = refl;
-      seen = λ g lo hi. absurd (omega arith);
-      below = λ g l. refl;
-      above = λ g l. refl;
-    }
-looks_from (suc n) a w le =
-    let word = w.words (left_place w a) in
-    let later = looks_from n (a + 1) (after w (LookLeft a)) (omega arith) in
+looks_from : (known : ℕ → ℕ) (n a : ℕ) (w : World) → a + n ≤ w.guests → HasLooked known a n w
+looks_from known zero a w le = record {
+  totals = w.flusher.totals;
+  own = record { guests = refl; first_guest = refl; bodies = refl; flusher = refl; disk = refl };
+  seen = λ g lo hi. absurd (omega arith);
+  below = λ g l. refl;
+  above = λ g l. refl;
+}
+looks_from known (suc n) a w le =
+    let v : World = record w { words = λ k. known a } in
+    let next = after v (LookLeft a) in
+    let later = looks_from known n (a + 1) next (omega arith) in
     let low : a < w.guests = omega arith in
+    let same : IsSameForFlusher w v = record { guests = refl; first_guest = refl; bodies = refl; flusher = refl; disk = refl } in
+    let last : IsSameForFlusher (with_totals next later.totals) (with_totals w later.totals) =
+    record { guests = refl; first_guest = refl; bodies = refl; flusher = refl; disk = refl } in
     record {
       totals = later.totals;
-      schedule = (low, later.schedule);
-      ends = later.ends;
+      own = (
+        v,
+        same,
+        low,
+        refl,
+        own_to TheFlusher next (looks known (a + 1) n) (with_totals next later.totals) (with_totals w later.totals) later.own last,
+      );
       seen = λ g lo hi. dite (ℕ_discrete g a)
-          (λ e. later.below g (omega arith) ∙ ap (λ (k : ℕ). (after w (LookLeft a)).flusher.totals k) e ∙ put_same w.flusher.totals a word
-          ∙ ap (λ (k : ℕ). w.words (left_place w k)) (sym e))
+          (λ e. later.below g (omega arith) ∙ ap next.flusher.totals e ∙ put_same w.flusher.totals a (known a) ∙ ap known (sym e))
           (λ ne. later.seen g (omega arith) (omega arith));
-      below = λ g l. later.below g (omega arith) ∙ put_other w.flusher.totals a word g (λ e. absurd (omega arith));
-      above = λ g l. later.above g (omega arith) ∙ put_other w.flusher.totals a word g (λ e. absurd (omega arith));
+      below = λ g l. later.below g (omega arith) ∙ put_other w.flusher.totals a (known a) g (λ e. absurd (omega arith));
+      above = λ g l. later.above g (omega arith) ∙ put_other w.flusher.totals a (known a) g (λ e. absurd (omega arith));
     }
 
 -- ---- what the seat knows then
@@ -78,41 +90,25 @@ looked_stands state old new log log' w totals turn h same =
     })
 
 module _ {D : Type 0} (state : D → DiskState) (old new : FlusherValue) (log log' : LogValue D) (w : World)
-    (turn : TurnFindsNone old new log log')
-    (before : StandsFor state (base new.first_guest) old log w) (stand : WordsStand w new turn.last) where
+    (turn : TurnFindsNone old new log log') (before : StandsFor state (base new.first_guest) old log w) where
   guests : w.guests ≡ new.group.guests
   guests = before.stands.guests ∙ ap (λ (f : FlusherValue). f.group.guests) (sym turn.seat)
 
-  count_is : (g : ℕ) → committed_count (w.first_guest + g) w.flusher ≡ committed_of new g
-  count_is g =
-      λ i. length (of_guest (before.stands.first_is i + g)
-      ((before.stands.finished ∙ ap (λ (f : FlusherValue). f.committed) (sym turn.seat)) i))
-
-  looked : HasLooked 0 (turn.last + 1) w (left_looks (turn.last + 1))
-  looked = looks_from (turn.last + 1) 0 w (let there = turn.loads.there in let e = guests in omega arith)
+  looked : HasLooked (slice_index new.totals) 0 (turn.last + 1) w
+  looked = looks_from (slice_index new.totals) (turn.last + 1) 0 w (let there = turn.loads.there in let e = guests in omega arith)
 
   total_is : (g : ℕ) → g < w.guests → looked.totals g ≡ slice_index new.totals g
   total_is g low = dite (dec_le g turn.last)
-      (λ upto. looked.seen g (omega arith) (omega arith) ∙ stand g upto)
+      (λ upto. looked.seen g (omega arith) (omega arith))
       (λ past. looked.above g (omega arith) ∙ before.stands.totals g low ∙ sym (turn.loads.behind g (omega arith)))
 
   abbrev end : World
   end = with_totals w looked.totals
 
-  stands : StandsFor state (base new.first_guest) new log' end
-  stands = looked_stands state old new log log' w looked.totals turn before total_is
-
-  -- what is committed of a guest is what its word says, or not, in both
-  known : (g : ℕ) → g ≤ turn.last → HaveLeft end → slice_index new.totals g ≡ committed_of new g + 1
-  known g upto all =
-      sym (stand g upto) ∙ all g (let there = turn.loads.there in let e = guests in omega arith) ∙ ap (λ (n : ℕ). n + 1) (count_is g)
-
-  not_all : (AllCommitted new → ⊥) → HaveLeft end → ⊥
-  not_all none all =
-      let there = turn.loads.there in
-      dite (dec_le (turn.last + 2) new.group.guests)
-      (λ more. turn.loads.stops (omega arith) (known turn.last (omega arith) all))
-      (λ last. none (λ g low. known g (omega arith) all))
+  stands : (v : World) → IsSameForFlusher end v → StandsFor state (base new.first_guest) new log' v
+  stands v same =
+      seat_stays state (base new.first_guest) new log' end v (looked_stands state old new log log' w looked.totals turn before total_is)
+      same
 
   is_last : AllCommitted new → turn.last + 1 ≡ w.guests
   is_last all =
@@ -122,25 +118,46 @@ module _ {D : Type 0} (state : D → DiskState) (old new : FlusherValue) (log lo
       (λ more. absurd (turn.loads.stops (omega arith) (all turn.last there)))
       (λ last. omega arith)
 
-  have_left : AllCommitted new → HaveLeft end
-  have_left all g low =
-      let last = is_last all in
-      let e = guests in
-      stand g (omega arith) ∙ all g (omega arith) ∙ ap (λ (n : ℕ). n + 1) (sym (count_is g))
+  -- in a world for whose flusher they stand, and where the words that were loaded stand still
+  module _ (v : World) (h : StandsFor state (base new.first_guest) new log' v) (stand : WordsStand v new turn.last) where
+    count_is : (g : ℕ) → committed_count (v.first_guest + g) v.flusher ≡ committed_of new g
+    count_is g = λ i. length (of_guest (h.stands.first_is i + g) (h.stands.finished i))
+
+    -- what is committed of a guest is what its word says, or not, in both
+    known : (g : ℕ) → g ≤ turn.last → HaveLeft v → slice_index new.totals g ≡ committed_of new g + 1
+    known g upto all =
+        sym (stand g upto) ∙ all g (let there = turn.loads.there in let e = h.stands.guests in omega arith)
+        ∙ ap (λ (n : ℕ). n + 1) (count_is g)
+
+    not_all : (AllCommitted new → ⊥) → HaveLeft v → ⊥
+    not_all none all =
+        let there = turn.loads.there in
+        dite (dec_le (turn.last + 2) new.group.guests)
+        (λ more. turn.loads.stops (omega arith) (known turn.last (omega arith) all))
+        (λ last. none (λ g low. known g (omega arith) all))
+
+    have_left : AllCommitted new → HaveLeft v
+    have_left all g low =
+        let last = is_last all in
+        let e = guests in
+        let f = h.stands.guests in
+        stand g (omega arith) ∙ all g (omega arith) ∙ ap (λ (n : ℕ). n + 1) (sym (count_is g))
 
 pub idle_turns_are_events : {D : Type 0} (state : D → DiskState) → IdleTurnsAreEvents state
-idle_turns_are_events state old new log log' w turn none before stand =
-    let h = looked state old new log log' w turn before stand in
-    comes_by (λ end. StandsFor state (base new.first_guest) new log' end × (HaveLeft end → ⊥)) w
-    (end state old new log log' w turn before stand)
-    (left_looks (turn.last + 1)) w.queue h.schedule h.ends
-    (stands state old new log log' w turn before stand, not_all state old new log log' w turn before stand none) refl refl
+idle_turns_are_events state old new log log' w turn none before = (
+  end state old new log log' w turn before,
+  (looked state old new log log' w turn before).own,
+  λ v same.
+      let h = stands state old new log log' w turn before v same in
+      (h, λ stand. not_all state old new log log' w turn before v h stand none),
+)
 
 pub last_turns_are_events : {D : Type 0} (state : D → DiskState) → LastTurnsAreEvents state
-last_turns_are_events state old new log log' w turn all before stand =
-    let h = looked state old new log log' w turn before stand in
-    subst (λ (n : ℕ). ComesBy (left_looks n) (λ end. StandsFor state (base new.first_guest) new log' end × HaveLeft end) w w.queue)
-    (is_last state old new log log' w turn before stand all)
-    (comes_by (λ end. StandsFor state (base new.first_guest) new log' end × HaveLeft end) w (end state old new log log' w turn before stand)
-    (left_looks (turn.last + 1)) w.queue h.schedule h.ends
-    (stands state old new log log' w turn before stand, have_left state old new log log' w turn before stand all) refl refl)
+last_turns_are_events state old new log log' w turn all before = (
+  end state old new log log' w turn before,
+  subst (λ (n : ℕ). IsOwnRun TheFlusher w (left_looks new n) (end state old new log log' w turn before))
+      (is_last state old new log log' w turn before all) (looked state old new log log' w turn before).own,
+  λ v same.
+      let h = stands state old new log log' w turn before v same in
+      (h, λ stand. have_left state old new log log' w turn before v h stand all),
+)

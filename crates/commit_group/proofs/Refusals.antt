@@ -1,4 +1,4 @@
--- Turns that were refused, and wrote nothing, are lists of the world's events.
+-- Turns that were refused, and wrote nothing, are what the flusher of a world does.
 use Rattle.std.proofs.Common.{◌≡◌, ℕ, List, [], ◌∷◌, ◌++◌, length, take, refl, sym, ap, ◌∙◌, subst, arith, append_assoc, inl, inr, ⊎_elim}
 use Rattle.std.specs.Prelude.{Option, Contains}
 use Rattle.rrv_model.specs.declared.record.Record.{Record}
@@ -8,36 +8,27 @@ use Rattle.trace_disk.specs.Devices.{Device}
 use Rattle.trace_log.specs.Kept.{LogValue, IsPastLimit}
 use Rattle.commit_core.specs.World.{World, store_text, stored_bodies}
 use Rattle.commit_core.specs.World.Stage.{Idle}
-use Rattle.commit_core.specs.Events.{Event, IsSchedule, run, after, gate_place, CanWrite}
+use Rattle.commit_core.specs.Events.{after, gate_place, CanWrite}
 use Rattle.commit_core.specs.Events.Event.{Halt}
-use Rattle.commit_core.proofs.Events.{run-append, schedule-append}
+use Rattle.commit_core.specs.Holders.{IsOwnRun, IsSameForFlusher, plain, receives}
+use Rattle.commit_core.specs.Holders.Holder.{TheFlusher}
+use Rattle.commit_core.proofs.Holders.{rows, same_here}
 use Rattle.commit_group.specs.Bodies.{next_body}
 use Rattle.commit_group.specs.Flushes.{after_halt}
 use Rattle.commit_group.specs.Numbers.{base}
 use Rattle.commit_group.specs.Seats.{FlusherValue}
 use Rattle.commit_group.specs.Turns.{after_receive}
-use Rattle.commit_group.specs.Worlds.{StandsFor, StandsAt, ComesBy, ShortagesAreEvents, LimitsAreEvents, UnmarkedTurnsAreEvents, HaltedTurnsAreNoEvents, pops}
-use Rattle.commit_group.proofs.Worlds.{received, received_by, with_waiting, pops_schedule}
-use Rattle.commit_group.proofs.WorldSteps.{halts_are_events}
-
--- the events end in this world
-pub comes_by : (Holds : World → Type 0) (w end : World) (events : List Event) (rest : List Record) → IsSchedule w events →
-    run w events ≡ end
-    → Holds end → end.queue ≡ rest → end.recorders ≡ w.recorders → ComesBy events Holds w rest
-comes_by Holds w end events rest schedule ends holds queue recorders = record {
-  schedule = schedule;
-  holds = subst Holds (sym ends) holds;
-  queue = ap (λ (v : World). v.queue) ends ∙ queue;
-  recorders = ap (λ (v : World). v.recorders) ends ∙ recorders;
-}
+use Rattle.commit_group.specs.Worlds.{StandsFor, StandsAt, ShortagesAreEvents, LimitsAreEvents, UnmarkedTurnsAreEvents, HaltedTurnsAreNoEvents}
+use Rattle.commit_group.proofs.Worlds.{received, receives_own, with_waiting}
+use Rattle.commit_group.proofs.WorldSteps.{halted_stands, seat_stays}
 
 -- ---- what was received, and a halt
 
 received_stands : {D : Type 0} (state : D → DiskState) (b : Option ℕ) (old : FlusherValue) (log : LogValue D) (w : World)
-    (more rest : List Record)
-    → StandsFor state (base b) old log w → StandsFor state (base b) (after_receive old b more) log (received w more rest)
+    (more : List Record)
+    → StandsFor state (base b) old log w → StandsFor state (base b) (after_receive old b more) log (received w more)
 unfolding received with_waiting
-received_stands state b old log w more rest h =
+received_stands state b old log w more h =
     let s = h.stands in
     record {
       stands = record {
@@ -56,10 +47,10 @@ received_stands state b old log w more rest h =
       marked = h.marked;
     }
 
-halted_stands : {D : Type 0} (state : D → DiskState) (first : ℕ) (f : FlusherValue) (log : LogValue D) (w : World)
+halted_for : {D : Type 0} (state : D → DiskState) (first : ℕ) (f : FlusherValue) (log : LogValue D) (w : World)
     → StandsFor state first f log w → StandsFor state first (after_halt f) log (after w Halt)
-halted_stands state first f log w h =
-    record { stands = (halts_are_events state Idle first f log w h.stands).1; hand = h.hand; keeps = h.keeps; marked = h.marked }
+halted_for state first f log w h =
+    record { stands = halted_stands state Idle first f log w h.stands; hand = h.hand; keeps = h.keeps; marked = h.marked }
 
 -- all that waits waits there too
 waiting_is : {D : Type 0} (state : D → DiskState) (first : ℕ) (f : FlusherValue) (log : LogValue D) (w : World)
@@ -97,56 +88,62 @@ of_same {D = D} Holds old new log log' seat same h =
 -- ---- the turns
 
 pub shortages_are_events : {D : Type 0} (device : Device D) → ShortagesAreEvents device
-unfolding received with_waiting
-shortages_are_events {D = D} device old new log log' w rest turn before queue =
+shortages_are_events {D = D} device old new log log' w turn before =
     let b = new.first_guest in
-    let u = received w turn.more rest in
-    let stands = received_stands device.state b old log w turn.more rest before in
+    let u = received w turn.more in
+    let stands = received_stands device.state b old log w turn.more before in
     let both = of_same (λ f l. StandsFor device.state (base b) f l u) (after_receive old b turn.more) new log log' turn.seat turn.refused
     stands in
-    comes_by (StandsFor device.state (base b) new log') w (received w turn.more rest) (pops turn.more rest) rest
-    (pops_schedule w turn.more rest queue) (received_by w turn.more rest queue) both refl refl
+    (u, receives_own turn.more w, λ v same. seat_stays device.state (base b) new log' u v both same)
 
 -- what stood for a world stands for it once the records are received, and then the halt
 receives_and_halts : {D : Type 0} (state : D → DiskState) (b : Option ℕ) (old : FlusherValue) (log : LogValue D) (w : World)
-    (more rest : List Record)
+    (more : List Record)
     → StandsFor state (base b) old log w →
-    StandsFor state (base b) (after_halt (after_receive old b more)) log (after (received w more rest) Halt)
-receives_and_halts state b old log w more rest before =
-    halted_stands state (base b) (after_receive old b more) log (received w more rest) (received_stands state b old log w more rest before)
+    StandsFor state (base b) (after_halt (after_receive old b more)) log (after (received w more) Halt)
+receives_and_halts state b old log w more before =
+    halted_for state (base b) (after_receive old b more) log (received w more) (received_stands state b old log w more before)
 
--- and these are events, behind which this holds
-comes_by_halt : (Holds : World → Type 0) (w : World) (more rest : List Record) → w.queue ≡ more ++ rest →
-    Holds (after (received w more rest) Halt) → ComesBy (pops more rest ++ Halt ∷ []) Holds w rest
-unfolding received with_waiting
-comes_by_halt Holds w more rest queue holds =
-    comes_by Holds w (after (received w more rest) Halt) (pops more rest ++ Halt ∷ []) rest
-    (schedule-append w (pops more rest) (Halt ∷ []) (pops_schedule w more rest queue) (tt, tt))
-    (run-append w (pops more rest) (Halt ∷ []) ∙ ap (λ (x : World). after x Halt) (received_by w more rest queue))
-    holds refl refl
+-- and this is what the flusher does
+halt_own : (w : World) (more : List Record) → IsOwnRun TheFlusher w (receives more ++ plain Halt ∷ []) (after (received w more) Halt)
+halt_own w more =
+    let u = received w more in
+    rows TheFlusher w u (after u Halt) (receives more) (plain Halt ∷ []) (receives_own more w)
+    (u, same_here TheFlusher u, tt, refl, same_here TheFlusher (after u Halt))
 
 pub limits_are_events : {D : Type 0} (device : Device D) → LimitsAreEvents device
-limits_are_events {D = D} device old new log log' w rest turn before queue =
+limits_are_events {D = D} device old new log log' w turn before =
     let b = new.first_guest in
-    let v = after (received w turn.more rest) Halt in
+    let end = after (received w turn.more) Halt in
     let count = turn.refused.count in
     let f = after_halt (after_receive old b turn.more) in
-    let stands = receives_and_halts device.state b old log w turn.more rest before in
-    let never = past_limit device.state (base b) f log v count stands turn.refused.past in
-    let both = of_same (λ g l. StandsFor device.state (base b) g l v) f new log log' turn.seat turn.refused.same stands in
-    comes_by_halt (λ end. StandsFor device.state (base b) new log' end × (CanWrite end count → ⊥)) w turn.more rest queue (both, never)
+    let stands = receives_and_halts device.state b old log w turn.more before in
+    let there : (v : World) → IsSameForFlusher end v → StandsFor device.state (base b) f log v =
+    λ v same. seat_stays device.state (base b) f log end v stands same in (
+      end,
+      halt_own w turn.more,
+      λ v same. (
+        of_same (λ g l. StandsFor device.state (base b) g l v) f new log log' turn.seat turn.refused.same (there v same),
+        past_limit device.state (base b) f log v count (there v same) turn.refused.past,
+      ),
+    )
 
 pub unmarked_turns_are_events : {D : Type 0} (device : Device D) → UnmarkedTurnsAreEvents device
-unmarked_turns_are_events {D = D} device old new log log' w rest turn before queue =
+unmarked_turns_are_events {D = D} device old new log log' w turn before =
     let b = new.first_guest in
-    let v = after (received w turn.more rest) Halt in
+    let end = after (received w turn.more) Halt in
     let count = turn.refused.count in
     let f = after_halt (after_receive old b turn.more) in
-    let stands = receives_and_halts device.state b old log w turn.more rest before in
-    let never = needs_mark device.state (base b) f log v count stands turn.refused.new in
-    let both = of_same (λ g l. StandsFor device.state (base b) g l v) f new log log' turn.seat turn.refused.same stands in
-    comes_by_halt (λ end. StandsFor device.state (base b) new log' end
-    × ((Contains (stored_bodies end) mark → ⊥) → CanWrite end count → ⊥)) w turn.more rest queue (both, never)
+    let stands = receives_and_halts device.state b old log w turn.more before in
+    let there : (v : World) → IsSameForFlusher end v → StandsFor device.state (base b) f log v =
+    λ v same. seat_stays device.state (base b) f log end v stands same in (
+      end,
+      halt_own w turn.more,
+      λ v same. (
+        of_same (λ g l. StandsFor device.state (base b) g l v) f new log log' turn.seat turn.refused.same (there v same),
+        needs_mark device.state (base b) f log v count (there v same) turn.refused.new,
+      ),
+    )
 
 pub halted_turns_are_no_events : {D : Type 0} (device : Device D) → HaltedTurnsAreNoEvents device
 halted_turns_are_no_events {D = D} device stage first old new log log' w refused stands = (

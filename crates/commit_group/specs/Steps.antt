@@ -1,22 +1,18 @@
--- What single calls of the seats are in the world of a recording: one event of their holder's.
-use Rattle.std.specs.Prelude.{◌≡◌, ℕ, ◌<◌, Bool, true, false, List, ◌∷◌, length, slice_index}
-use Rattle.rrv_model.specs.declared.limits.TheConstants.{QUEUE_ITEMS}
+-- What single calls of the seats are in the world of a recording: one act of their holder's.
+use Rattle.std.specs.Prelude.{◌≡◌, ℕ, ◌<◌, Bool, true, false, List, [], ◌∷◌, slice_index}
 use Rattle.rrv_model.specs.declared.record.Item.{Item}
 use Rattle.rrv_model.specs.declared.record.Record.{Record}
 use Rattle.store_model.specs.CrashModel.{DiskState}
 use Rattle.trace_log.specs.Kept.{LogValue}
 use Rattle.commit_core.specs.World.{World, Stage, flag}
-use Rattle.commit_core.specs.Events.{Event, May, after, left_place}
 use Rattle.commit_core.specs.Events.Event.{Push, Look, LookHalt, Leave, Publish, Halt, LookLeft}
+use Rattle.commit_core.specs.Holders.{Does, loading, plain}
+use Rattle.commit_core.specs.Holders.Holder.{TheFlusher, TheRecorder}
 use Rattle.commit_group.specs.Flushes.{after_publish, after_halt, after_look_left}
 use Rattle.commit_group.specs.Numbers.{numbered, renumbered, base}
 use Rattle.commit_group.specs.Seats.{RecorderValue, FlusherValue, committed_of, next_record}
 use Rattle.commit_group.specs.Submits.{after_look, after_look_halt, after_send}
 use Rattle.commit_group.specs.Worlds.{StandsAt}
-
--- the event may happen, and this holds behind it
-abbrev pub Happens : World → Event → (World → Type 0) → Type 0
-Happens w e Holds = May w e × Holds (after w e)
 
 -- ---- a recorder's seat
 
@@ -28,27 +24,27 @@ pub record StandsForRecorder (r : RecorderValue) (w : World) : Type 0 where
   pub knows_halt : (w.recorders r.guest).knows_halt ≡ r.knows_halt
   pub left : (w.recorders r.guest).left ≡ r.has_left
 
--- it loads the word that stands there
+-- it loads this word
 abbrev pub LooksAreEvents : Type 0
-LooksAreEvents = (r : RecorderValue) (w : World) → StandsForRecorder r w
-    → Happens w (Look r.guest) (StandsForRecorder (after_look r (w.words r.guest)))
+LooksAreEvents = (r : RecorderValue) (w : World) (word : ℕ) → StandsForRecorder r w
+    → Does (TheRecorder r.guest) (loading (Look r.guest) word ∷ []) (StandsForRecorder (after_look r word)) w
 
 abbrev pub HaltLooksAreEvents : Type 0
-HaltLooksAreEvents = (r : RecorderValue) (w : World) (found : Bool)
-    → StandsForRecorder r w → w.words w.guests ≡ flag found
-    → Happens w (LookHalt r.guest) (StandsForRecorder (after_look_halt r found))
+HaltLooksAreEvents = (r : RecorderValue) (w : World) (found : Bool) → StandsForRecorder r w
+    → Does (TheRecorder r.guest) (loading (LookHalt r.guest) (flag found) ∷ [])
+    (StandsForRecorder (after_look_halt r found)) w
 
 abbrev pub LeavesAreEvents : Type 0
 LeavesAreEvents = (r : RecorderValue) (w : World) → StandsForRecorder r w
-    → Happens w (Leave r.guest) (StandsForRecorder (record r { has_left = true }))
+    → Does (TheRecorder r.guest) (plain (Leave r.guest) ∷ []) (StandsForRecorder (record r { has_left = true })) w
 
--- the recorder's next record is sent where the queue has room
+-- the recorder's next record is sent, and the rest still waits
 abbrev pub SendsAreEvents : Type 0
 SendsAreEvents = (r : RecorderValue) (item : Item) (rest : List Record) (w : World)
     → StandsForRecorder r w → r.has_left ≡ false
-    → (w.recorders r.guest).backlog ≡ numbered w.first_guest (next_record r item) ∷ rest → length w.queue < QUEUE_ITEMS
-    → Happens w (Push r.guest (numbered w.first_guest (next_record r item)) rest)
-    (StandsForRecorder (after_send r (next_record r item)))
+    → (w.recorders r.guest).backlog ≡ numbered w.first_guest (next_record r item) ∷ rest
+    → Does (TheRecorder r.guest) (plain (Push r.guest (numbered w.first_guest (next_record r item)) rest) ∷ [])
+    (λ end. StandsForRecorder (after_send r (next_record r item)) end × ((end.recorders r.guest).backlog ≡ rest)) w
 
 pub record RecorderCallsAreEvents : Type 0 where
   pub looks : LooksAreEvents
@@ -63,19 +59,20 @@ abbrev pub PublishesAreEvents : {D : Type 0} → (D → DiskState) → Type 0
 PublishesAreEvents {D = D} state = (stage : Stage) (old new : FlusherValue) (log : LogValue D) (w : World) (g : ℕ)
     → g < old.group.guests → new ≡ after_publish old g → slice_index new.told g ≡ committed_of old g
     → StandsAt state stage (base old.first_guest) old log w
-    → Happens w (Publish g) (StandsAt state stage (base old.first_guest) new log)
+    → Does TheFlusher (plain (Publish g) ∷ []) (StandsAt state stage (base old.first_guest) new log) w
 
 abbrev pub HaltsAreEvents : {D : Type 0} → (D → DiskState) → Type 0
 HaltsAreEvents {D = D} state = (stage : Stage) (first : ℕ) (f : FlusherValue) (log : LogValue D) (w : World)
-    → StandsAt state stage first f log w → Happens w Halt (StandsAt state stage first (after_halt f) log)
+    → StandsAt state stage first f log w
+    → Does TheFlusher (plain Halt ∷ []) (StandsAt state stage first (after_halt f) log) w
 
--- it loads the word that stands there
+-- it loads this word
 abbrev pub LeftLooksAreEvents : {D : Type 0} → (D → DiskState) → Type 0
 LeftLooksAreEvents {D = D} state =
-    (stage : Stage) (first : ℕ) (old new : FlusherValue) (log : LogValue D) (w : World) (g : ℕ)
-    → let word = w.words (left_place w g) in
-    g < old.group.guests → new ≡ after_look_left old g word → slice_index new.totals g ≡ word
-    → StandsAt state stage first old log w → Happens w (LookLeft g) (StandsAt state stage first new log)
+    (stage : Stage) (first : ℕ) (old new : FlusherValue) (log : LogValue D) (w : World) (g word : ℕ)
+    → g < old.group.guests → new ≡ after_look_left old g word → slice_index new.totals g ≡ word
+    → StandsAt state stage first old log w
+    → Does TheFlusher (loading (LookLeft g) word ∷ []) (StandsAt state stage first new log) w
 
 pub record FlusherCallsAreEvents {D : Type 0} (state : D → DiskState) : Type 0 where
   pub publishes : PublishesAreEvents state

@@ -42,19 +42,23 @@
 //!   committed, where the Mark is one of the bodies before, or each of them may stand before it.
 //! - `end`: what each recorder sent and saw, and how many of its records were committed; seen is at most committed, and
 //!   committed at most sent. What is committed is the first of what was sent, also with what waits after it.
-//! - `turns_are_events`, by the answer of a turn. Let seat and log stand for the flusher of a world of `commit_core`, before a turn
-//!   that commits. Then some schedule of its events, guards included, leads to a world for whose flusher they stand after the turn.
-//!   Its queue has lost just what was received.
-//!   - The same of a turn that a failed call of the disk stopped. The flusher is then at its broken stage and has halted.
-//!   - One that returns `Memory` is just the receiving of its records. The seat and the log stand for the flusher after it.
-//!   - One that returns `TooLong` receives its records and halts. The refused batch may not be written in that world either.
-//!   - So does one that returns `NeedsMark`. The refused batch may not be written in that world if its bodies don't have the
-//!     Mark.
+//! - `turns_are_events`, by the answer of a turn. Let seat and log stand for the flusher's part of a world of `commit_core` before
+//!   a turn. What the turn came to, the flusher may then do there by itself, guards included, and seat and log stand for its part of
+//!   every world that this leaves:
+//!   - One that commits receives its records one by one, commits a body, and publishes all counts.
+//!   - One that a failed call of the disk stopped receives, and makes the calls of a commit up to the one that fails. The flusher is
+//!     then at its broken stage and halts.
+//!   - One that returns `Memory` receives. One that returns `TooLong` receives and halts. The refused batch may not be written in
+//!     that world either. So does one that returns `NeedsMark`. The refused batch may not be written in that world if its bodies
+//!     don't have the Mark.
 //!   - One that returns `Halted` is no event. The world's flusher has halted, and all stands as before.
-//!   - One that returns `Idle` or `Done` looks at leave words, one guest after another, and the totals of the seat are then the
-//!     world's. After `Done` all guests were looked at, and each word is one more than what is committed. After `Idle` that isn't
-//!     so. The words that were loaded are taken to stand in the world as the turn begins.
-//! - `recorder_calls_are_events`, `flusher_calls_are_events`: so is each other call of a seat, as one event.
+//!   - One that returns `Idle` or `Done` loads leave words, one guest after another, and the totals of the seat are then the
+//!     world's. After `Done` all guests' were loaded, and each word is one more than what is committed. After `Idle` that isn't
+//!     so. Both are said of the words as they were loaded.
+//! - `recorder_calls_are_events`, `flusher_calls_are_events`: a look, a look for the halt, a leave, a push, a publish, a halt and a look
+//!   at a leave word are one act each.
+//!
+//! What holders do in any order is `commit_core::in_any_order`.
 //!
 //! That a turn receives anything is in no contract: a body that always returns `Idle` or `Memory` fails the tests alone.
 //!

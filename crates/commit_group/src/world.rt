@@ -5,9 +5,10 @@ ghost use Rattle.commit_group.specs.Worlds.{FailuresAreEvents, HaltedTurnsAreNoE
 
 use trace_disk::Disk;
 
-/// What a turn of the flusher is there, by its answer.
+/// What a turn of the flusher is there, by its answer: acts that the flusher may do by itself.
 pub fn turns_are_events<D: Disk>()
-    // One that commits is a list of the world's events, and so is one that a failed call of the disk stopped.
+    // One that commits receives, commits a body and publishes. One that a failed call of the disk stopped receives, makes calls of a
+    // commit, the last of which fails, and halts.
     ensures commits { TurnsAreEvents D.Disk }
     ensures fails { FailuresAreEvents D.Disk }
 
@@ -20,18 +21,19 @@ pub fn turns_are_events<D: Disk>()
     // One of a group that was halted earlier did nothing.
     ensures halted { HaltedTurnsAreNoEvents D.Disk }
 
-    // One that answered `Idle` looked at leave words, and in the world not all guests have left with all committed. One that
-    // answered `Done` looked at those of all guests, and there all have.
+    // One that answered `Idle` loaded leave words, by which not all guests have left with all committed. One that answered `Done`
+    // loaded those of all guests, by which all have.
     ensures idle { IdleTurnsAreEvents D.state }
     ensures done { LastTurnsAreEvents D.state }
 {}
 
-/// Each call of a recorder's seat is one event, or a look for the halt and a push.
+/// A look, a look for the halt, a leave and a push are one act each of the recorder. So `try_submit` is a look for the halt, and then a push
+/// if it sent.
 pub fn recorder_calls_are_events()
     ensures { RecorderCallsAreEvents }
 {}
 
-/// Each other call of the flusher's seat is one event.
+/// Each other call of the flusher's seat is one act of the flusher.
 pub fn flusher_calls_are_events<D: Disk>()
     ensures { FlusherCallsAreEvents D.state }
 {}

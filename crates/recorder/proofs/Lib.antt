@@ -2,10 +2,12 @@ pub mod Sizes
 pub mod Puts
 pub mod Leaving
 pub mod Made
+pub mod Rounds
 pub mod Released
 pub mod Stepped
 pub mod Opened
 pub mod RecorderWorlds
+pub mod Settles
 pub mod Sliced
 pub mod PutMore
 pub mod Parted

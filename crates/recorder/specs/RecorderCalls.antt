@@ -1,5 +1,5 @@
 -- What the calls of a guest's recorder do.
-use Rattle.std.specs.Prelude.{◌≡◌, ◌≢◌, ◌↔◌, ◌⊎◌, ℕ, ◌+◌, ◌<◌, ◌≤◌, true, false, IsSome, IfErr, MatchOption, Result, List, [], ◌∷◌, ◌++◌, length, map, Option, None, Some}
+use Rattle.std.specs.Prelude.{◌≡◌, ◌≢◌, ◌↔◌, ◌⊎◌, ℕ, ◌+◌, ◌<◌, ◌≤◌, true, false, IsSome, IfErr, MatchOption, Result, List, [], ◌∷◌, ◌++◌, flat_map, length, map, Option, None, Some}
 use Rattle.std.specs.Option.{unwrap_or}
 use Rattle.std.specs.List.{AllByRecursion}
 use Rattle.rrv_model.specs.declared.limits.TheConstants.{MAX_NUMBER}
@@ -321,6 +321,20 @@ pub record OnlyReleases (old new : GuestRecorder) : Type 0 where
 abbrev pub RefusesRelease : RecorderFault → ℕ → ℕ → Type 0
 RefusesRelease (faults.SinkFailed taken) old new = HasFailed old new
 RefusesRelease _ old new = ⊥
+
+-- Rounds, one behind the other, in which these bytes left: in each some of the backlog was sent, and then output released.
+abbrev pub AreRounds : GuestRecorder → List (List (ℕ × ℕ)) → GuestRecorder → Type 0
+AreRounds old [] new = old ≡ new
+AreRounds old (put ∷ later) new =
+    (sent next : GuestRecorder) × SendsSome old sent × OnlyReleases sent next
+    × ((out : List (ℕ × ℕ)) → HasPut sent out → HasPut next (out ++ put)) × AreRounds next later new
+
+-- It went in rounds, and of a sink that tells it the bytes were taken that left in them.
+pub record GoesInRounds {S : Type 0} (tells : S → Type 0) (taken : S → List (ℕ × ℕ)) (old new : GuestRecorder)
+    (sink sink' : S) : Type 0 where
+  pub puts : List (List (ℕ × ℕ))
+  pub rounds : AreRounds old puts new
+  pub takes : tells sink → taken sink' ≡ taken sink ++ flat_map (λ put. put) puts
 
 -- why a settling recorder isn't settled: it knows of a halt, or the sink refused; the sink's failures rise by that alone
 abbrev pub RefusesSettle : GuestRecorder → RecorderFault → ℕ → ℕ → Type 0

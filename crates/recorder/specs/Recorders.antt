@@ -1,15 +1,17 @@
 -- What contracts see of a guest's recorder.
-use Rattle.std.specs.Prelude.{◌≡◌, ℕ, ◌+◌, ◌≤◌, false, List, [], ◌∷◌, ◌++◌, length, take, Option}
+use Rattle.std.specs.Prelude.{◌≡◌, ℕ, ◌+◌, ◌≤◌, true, false, List, [], ◌∷◌, ◌++◌, length, take, Option}
 use Rattle.std.specs.List.{AllByRecursion}
 use Rattle.rrv_model.specs.declared.limits.TheConstants.{MAX_NUMBER}
 use Rattle.rrv_model.specs.declared.record.Item.{Item}
 use Rattle.rrv_model.specs.declared.record.Record.{Record}
 use Rattle.rrv_model.specs.Output.{Chunk, spread}
 use Rattle.rrv_model.specs.Recording.{items_of}
-use Rattle.rrv_model.specs.Recovered.{OpensAtZero}
+use Rattle.rrv_model.specs.Recovered.{OpensAtZero, of_guest}
 use Rattle.guest_calls.specs.Guest.{GuestValue, state_of}
 use Rattle.commit_core.specs.Runs.{IsOutput, ItemsPut}
-use Rattle.commit_group.specs.Seats.{RecorderValue}
+use Rattle.commit_group.specs.Numbers.{base}
+use Rattle.commit_group.specs.Reports.{HasEnded}
+use Rattle.commit_group.specs.Seats.{FlusherValue, RecorderValue}
 use Rattle.recorder.specs.declared.checkpoints.Checkpoints.{Checkpoints}
 use Rattle.recorder.specs.Checkpoints.{KeepsBase, every_of, last_of}
 use Rattle.recorder.specs.Deadlines.{AreDeadlinesOf}
@@ -98,3 +100,9 @@ OutputIsDurable = (r : GuestRecorder) (out : List (ℕ × ℕ))
 abbrev pub SettledHasPutAll : Type 0
 SettledHasPutAll = (r : GuestRecorder) (out : List (ℕ × ℕ)) → IsSettled r → HasPut r out
     → (chunks : List Chunk) × ItemsPut (items_of (made r)) chunks × (out ≡ spread chunks)
+
+-- Once its group has ended, it is a beginning of the output of its guest's committed records.
+abbrev pub OutputIsCommitted : Type 0
+OutputIsCommitted = (r : GuestRecorder) (out : List (ℕ × ℕ)) (f : FlusherValue) (sent committed seen : ℕ)
+    → HasRecorded r → HasPut r out → HasEnded f sent committed seen (record r.seat { has_left = true })
+    → IsOutput out (of_guest (base f.first_guest + r.seat.guest) f.committed)

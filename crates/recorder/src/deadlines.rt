@@ -1,6 +1,6 @@
 //! The deadlines of a guest's waits.
 
-ghost use Rattle.std.specs.Prelude.{◌≡◌, ◌↔◌, ◌⊎◌, ◌<◌, ◌≤◌, nat_lt, Some, [], length, count_by, IfOk, IfSome, IsNone, IsTrue, vec_capacity};
+ghost use Rattle.std.specs.Prelude.{◌≡◌, ◌↔◌, ◌⊎◌, ℕ, ◌<◌, ◌≤◌, nat_lt, List, Some, [], length, count_by, IfOk, IfSome, IsNone, IsTrue, vec_capacity};
 ghost use Rattle.std.specs.List.{AllByRecursion};
 ghost use Rattle.rrv_model.specs.State.{thread_at};
 ghost use Rattle.guest_calls.specs.Guest.{state_of};
@@ -64,8 +64,8 @@ impl Deadlines {
         earliest(&self.list)
     }
 
-    /// Who is due at a moment.
-    fn find_due(&self, now: u128) -> Option<u32>
+    /// The thread whose deadline is the earliest, of equal ones the least tid, if that is at or before now.
+    pub(crate) fn due(&self, now: u128) -> Option<u32>
         ensures { result ≡ due self.now (Some now) }
     {
         let Some((tid, at)) = self.earliest() else {
@@ -75,15 +75,6 @@ impl Deadlines {
             return Some(tid);
         }
         None
-    }
-
-    /// The thread whose deadline is the earliest, of equal ones the least tid, if that is at or before now.
-    pub(crate) fn due(&self, now: u128) -> Option<u32>
-        ensures is { result ≡ due self.now (Some now) }
-        ensures some { IfSome result (IsDueNow self.now now) }
-        ensures none { IsNone result ↔ AllByRecursion (λ d. now < d.1) self.now }
-    {
-        self.find_due(now)
     }
 
     /// How many nanoseconds are left from now to the earliest: 0 where it has passed, and 2^64 - 1 at most.
@@ -203,3 +194,10 @@ pub(crate) fn timeout_of(guest: &Guest, tid: u32) -> Option<Timeout>
         None => None,
     }
 }
+
+/// Who is due at a moment, as `Recorder::step` has it: the thread of the earliest deadline, of equal ones the least tid, if that is at or
+/// before the moment. None is due exactly if all are after it.
+pub fn due_is_earliest()
+    ensures some { (ds : List (ℕ × ℕ)) (now : ℕ) → IfSome (due ds (Some now)) (IsDueNow ds now) }
+    ensures none { (ds : List (ℕ × ℕ)) (now : ℕ) → IsNone (due ds (Some now)) ↔ AllByRecursion (λ d. now < d.1) ds }
+{}

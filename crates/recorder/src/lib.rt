@@ -12,7 +12,7 @@
 //! - `Recorder::new`, of any opening: its only record is that opening. `BadOpening` comes only if no guest starts so. `Memory`
 //!   comes only if the name is a guest's, the file is within its limit, and none of the first twelve refusals applies to it.
 //! - `Deadlines`: of each wait with a timeout its tid and a moment, by rising tid, 64 at most, in room that is taken at the start.
-//!   `due` is the thread of the earliest, of equal ones the least tid, if that isn't after now.
+//!   `due` is the thread of the earliest, of equal ones the least tid, if that isn't after now: `due_is_earliest`.
 //! - `step`: one record more, and after it the parts of a checkpoint or none. The frame is the expiry of the thread that is due
 //!   by the monotonic clock, which is asked once if there is a deadline, else the slice of the choice. After a frame by which
 //!   a thread began a wait with a timeout the clock is asked once more. There is a deadline of each such wait, and no other.
@@ -30,12 +30,14 @@
 //!   if nothing waits: `Halted` comes only if one was seen, and Ok only if none was.
 //! - `release`: what the sink took is, after what had left before, a beginning of the output of the records that are seen to be
 //!   durable. `SinkFailed` says how many bytes left, and the next call goes on at the first byte that wasn't taken.
-//! - `settle`: after Ok all that was made is sent and durable, and all its output has left. Its refusals are those of `send`
+//! - `settle`: it sends and releases, round by round. After Ok all that was made is sent and durable, and all its output has left. Its refusals are those of `send`
 //!   and `release`; at `Halted` the output of all that it saw to be durable has left.
 //! - `finish`: the seat, which has left, and the guest, as it is after all records. `leave`: the seat alone.
-//! - `output_is_of_durable_records`, `steps_are_events`, `releases_are_events`: what has left is output of durable records. A
-//!   step is as many slices of the world of `commit_core` as it makes records, guards included, and a release is a look and
-//!   what the sink takes.
+//! - `output_is_of_durable_records`: what has left is output of durable records, and of committed ones once the group has ended.
+//! - `steps_are_events`, `sends_are_events`, `releases_are_events`, `settles_are_events`: what a call came to, the recorder of a world of
+//!   `commit_core` may do by itself, guards included. A step that made a frame is as many slices as it makes records; one that was
+//!   refused is no event. Sending is looks for the halt, and pushes of what waits, in order. A release is a look, and then
+//!   what the sink takes, in any parts. Settling is both, round by round. How many looks there were is in no contract.
 #![tactic(auto)]
 
 mod checkpoints;
@@ -47,8 +49,12 @@ mod recorder;
 mod world;
 
 pub use checkpoints::Parts;
+pub use deadlines::due_is_earliest;
 pub use fault::RecorderFault;
 pub use mem_sink::MemSink;
 pub use outputs::Outputs;
 pub use recorder::Recorder;
-pub use world::{output_is_of_durable_records, releases_are_events, steps_are_events};
+pub use world::{
+    output_is_of_durable_records, releases_are_events, sends_are_events, settles_are_events,
+    steps_are_events,
+};

@@ -13,3 +13,4 @@ pub mod Refusals
 pub mod Chosen
 pub mod Told
 pub mod Opens
+pub mod Starts

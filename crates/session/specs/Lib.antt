@@ -6,6 +6,7 @@ pub mod Tasks
 pub mod Workers
 pub mod Drives
 pub mod Sessions
+pub mod Starts
 pub mod Rooms
 pub mod Openings
 pub mod Chosen

@@ -10,9 +10,17 @@ ghost use Rattle.store_model.specs.CrashModel.{LeavesOnly};
 ghost use Rattle.commit_core.specs.Sessions.{CanOpen};
 ghost use Rattle.trace_log.specs.Kept.{LogValue};
 ghost use Rattle.session.specs.Gains.{HasGained};
+ghost use Rattle.session.specs.Starts.{StartsAreWorlds};
 
 use serial_sched::Chooser;
 use trace_disk::Disk;
+
+/// A session starts as the lists of events of `commit_core` do: a log that keeps bodies, a new group's seats, and the new recorders, which
+/// made an Opening each, stand for a world at its start. The first guest has the log's next number, which is one above the greatest that has
+/// records, as `open` leaves it. If there is no memory for a recorder, its seat alone stands.
+pub fn starts_are_worlds<D: Disk>()
+    ensures { StartsAreWorlds D.Disk }
+{}
 
 /// Whatever a session came to, the next one can open what it left: a crash at any moment since it began leaves a store whose bodies
 /// hold records in order, also with the body that stands whole behind a torn gate. That is where a session of
