@@ -26,6 +26,9 @@ use std::thread::Threads;
 use std::time::Clock;
 use stored_guests::{Refusal, Shows, Terminals, make_store, open_store, print_whole, verified_of};
 
+/// What the version says of the text that the program was built from, where that isn't known.
+const UNKNOWN_TEXT: &str = "unknown text";
+
 /// Does what a line of words asks for, which are those after the program's name, and returns the exit status: 0 done (also for
 /// a call of help), 1 refused, 2 an invalid line, 3 done, but a guest failed, if the line is to tell that. What is asked for
 /// goes to `out`. A refusal's text, after `rrv: `, and the text of a bad line go to `err`, each in one write.
@@ -38,22 +41,23 @@ pub fn run<
     ensures some { 1 ≤ length words.now → IsStatus (map S.text words.now) result }
     ensures none { length words.now ≡ 0 → result ≤ 1 }
 {
-    run_on(rt, words, Terminals::none(), out, err)
+    run_on(rt, words, UNKNOWN_TEXT, Terminals::none(), out, err)
 }
 
-/// The same, where standard output or standard error may be a terminal.
+/// The same, where standard output or standard error may be a terminal. The version is printed with `text_sum`, which names the
+/// text that the program was built from.
 pub fn run_on<
     R: Files<File = File> + AllocGlobal + Input + Threads + Wait + Sync + Clock,
     S: AsStr,
     O: Write + Drop + Send,
     E: Write + Drop + Send,
->(rt: &R, words: &[S], terminals: Terminals, out: &mut O, err: &mut E) -> u8
+>(rt: &R, words: &[S], text_sum: &str, terminals: Terminals, out: &mut O, err: &mut E) -> u8
     ensures some { 1 ≤ length words.now → IsStatus (map S.text words.now) result }
     ensures none { length words.now ≡ 0 → result ≤ 1 }
 {
     match line(rt.alloc(), words) {
         Ok(request) => run_request(rt, request, terminals, out, err),
-        Err(error) => report(rt.alloc(), &error, out, err),
+        Err(error) => report(rt.alloc(), &error, text_sum, out, err),
     }
 }
 
@@ -70,10 +74,24 @@ pub fn report_unread<E: Write>(alloc: Global, error: &io::Error, err: &mut E) ->
     2
 }
 
-/// Tells what the parser of the line says, where that belongs, and answers the status: 1 also where help can't be printed.
+/// Prints the version as the parser has it, and in brackets what names the text that the program was built from.
+fn print_version<O: Write>(
+    alloc: Global,
+    version: &clap::Error,
+    text_sum: &str,
+    out: &mut O,
+) -> Result<(), Refusal> {
+    let version = format!(in alloc; "{version}")?;
+    let line = format_args!("{} ({text_sum})\n", version.trim_end());
+    Ok(print_whole(alloc, &line, out)?)
+}
+
+/// Prints what the parser of the line says, where that belongs, and returns the status: 1 also if help or the version can't be
+/// printed. The version is printed with `text_sum` after it.
 pub fn report<O: Write, E: Write>(
     alloc: Global,
     error: &clap::Error,
+    text_sum: &str,
     out: &mut O,
     err: &mut E,
 ) -> u8
@@ -81,8 +99,12 @@ pub fn report<O: Write, E: Write>(
 {
     match error.kind() {
         LineFault::OutOfMemory => report_refusal(alloc, &Refusal::Memory, err),
-        LineFault::DisplayHelp | LineFault::DisplayVersion => {
+        LineFault::DisplayHelp => {
             let printed = print_whole(alloc, error, out).map_err(Refusal::from);
+            report_result(alloc, printed, err)
+        }
+        LineFault::DisplayVersion => {
+            let printed = print_version(alloc, error, text_sum, out);
             report_result(alloc, printed, err)
         }
         _ => {

@@ -9,6 +9,9 @@ use std::io::IsTerminal;
 use std::process::ExitCode;
 use std::{env, io};
 use stored_guests::Terminals;
+use text_sum::TEXT_SUM;
+
+mod text_sum;
 
 /// The words after the program's name.
 fn words_of(rt: &HostRuntime) -> io::Result<Vec<String>> {
@@ -28,5 +31,13 @@ fn main(rt: HostRuntime) -> ExitCode {
         Ok(words) => words,
         Err(error) => return ExitCode::from(report_unread(rt.alloc(), &error, &mut err)),
     };
-    ExitCode::from(run_on(&rt, words.as_slice(), terminals, &mut out, &mut err))
+    let status = run_on(
+        &rt,
+        words.as_slice(),
+        TEXT_SUM,
+        terminals,
+        &mut out,
+        &mut err,
+    );
+    ExitCode::from(status)
 }

@@ -237,6 +237,7 @@ fn a_parser_that_is_out_of_memory_is_told(rt: HostRuntime) {
     let status = report(
         rt.alloc(),
         &clap::Error::from(AllocError),
+        "0123456789ab",
         &mut out,
         &mut err,
     );
