@@ -1,0 +1,1 @@
+"""The tests and tools of rrv. tools/README.md lists the modules."""

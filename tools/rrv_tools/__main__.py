@@ -1,0 +1,35 @@
+"""The words of tools/run: the name of a tool, and the words that it takes."""
+import importlib
+import sys
+from collections.abc import Sequence
+
+# The modules with `main(words) -> int`, by the name of the tool, and what each does.
+TOOLS: dict[str, tuple[str, str]] = {
+    "records": ("rrv_tools.records", "prints the records of a store"),
+    "core_file": ("rrv_tools.core_file", "prints what a core file has of the state"),
+}
+
+
+def usage() -> str:
+    """The usage, with a line for each tool."""
+    width = max(map(len, TOOLS))
+    lines = [f"  {name:{width}}  {what}" for name, (_, what) in sorted(TOOLS.items())]
+    return "\n".join(["usage: tools/run NAME [WORD ..]", "", *lines, ""])
+
+
+def main(words: Sequence[str]) -> int:
+    """Runs a tool; the status is the tool's, or 2 if there is none of that name."""
+    if not words or words[0] not in TOOLS:
+        is_asked = list(words) in ([], ["-h"], ["--help"])
+        print(usage(), end="", file=sys.stdout if is_asked else sys.stderr)
+        return 0 if is_asked else 2
+    module = importlib.import_module(TOOLS[words[0]][0])
+    status: int = module.main(words[1:])
+    return status
+
+
+if __name__ == "__main__":
+    try:
+        sys.exit(main(sys.argv[1:]))
+    except KeyboardInterrupt:
+        sys.exit(130)

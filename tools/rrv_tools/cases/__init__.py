@@ -1,0 +1,1 @@
+"""Cases of the program: each module has classes of `testing.Case`."""
