@@ -94,16 +94,24 @@ class Program:
                                 preexec_fn=limits.before())
 
 
+def at(path: str | pathlib.Path) -> Program | None:
+    """The program at a path, which is relative to the root of the repository; None if there is none that can be run."""
+    whole = (ROOT / path).resolve()
+    return Program(whole) if whole.is_file() and os.access(whole, os.X_OK) else None
+
+
+def started() -> Program | None:
+    """The program that ./rrv starts, or None if there is none."""
+    launcher = [ROOT / "tools" / "program"]
+    done = subprocess.run(launcher, stdin=subprocess.DEVNULL, stdout=subprocess.PIPE, text=True, check=False)
+    return at(done.stdout.strip()) if done.returncode == 0 else None
+
+
 @functools.cache
 def found() -> Program | None:
     """The program under test, or None if there is none."""
     path = os.environ.get("RRV_PROGRAM")
-    if not path:
-        launcher = [ROOT / "tools" / "program"]
-        done = subprocess.run(launcher, stdin=subprocess.DEVNULL, stdout=subprocess.PIPE, text=True, check=False)
-        path = done.stdout.strip() if done.returncode == 0 else ""
-    whole = (ROOT / path).resolve()
-    return Program(whole) if path and whole.is_file() and os.access(whole, os.X_OK) else None
+    return at(path) if path else started()
 
 
 def needed() -> Program:

@@ -56,7 +56,3 @@ class Files(unittest.TestCase):
         self.assertEqual(elf.program_headers(elf.file_of([segment], 0x10000))[0][:5], (1, 84, 0x10000, 0x10000, 4))
         with_headers = elf.file_of([dataclasses.replace(segment, has_headers=True)], 0x10054)
         self.assertEqual(elf.program_headers(with_headers)[0][:5], (1, 0, 0x10000, 0x10000, 88))
-
-
-if __name__ == "__main__":
-    unittest.main()

@@ -92,7 +92,3 @@ class Sequences(unittest.TestCase):
         for offset in (-4098, 4096, 3):
             with self.assertRaises(ValueError):
                 riscv.bne(riscv.A0, riscv.ZERO, offset)
-
-
-if __name__ == "__main__":
-    unittest.main()

@@ -92,7 +92,3 @@ class Stores(unittest.TestCase):
                 store.bodies_in(wrong)
         torn = data[:-1] + b"\x37torn"
         self.assertEqual(store.scanned(torn), (store.bodies_in(data), b"\x37", False))
-
-
-if __name__ == "__main__":
-    unittest.main()
