@@ -1,5 +1,5 @@
 """Guests of version 2, which wait for a time, in words: what they do stands in the comments. Tools of slice_cases and
-replay_cases take them, and tools/scenes."""
+replay_cases take them."""
 
 ZERO, SP, TEMPORARY, A0, A1, A2, A3, A7 = 0, 2, 5, 10, 11, 12, 13, 17
 ECALL = 0x73

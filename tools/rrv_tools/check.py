@@ -70,8 +70,6 @@ LOOKS = (
     look("case_files", 25),
     # lines of the program, and the guests that it records
     look("program_lines", 200),
-    # lines over files that are written and changed
-    look("scenes", 3),
     # stores that lie
     look("lying_stores", 8),
     # stores made to be slow
@@ -117,7 +115,7 @@ LOOKS = (
 OF_PROOFS = (look("refused_growths", 60),)
 # How the names begin of what is compared on the release and on the program that the gate built, if these are not the
 # same bytes.
-OF_BOTH = ("tools/program_lines", "tools/scenes")
+OF_BOTH = ("tools/program_lines", "cases.scenes")
 
 
 # ---- finding cases

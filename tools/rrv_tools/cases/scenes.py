@@ -1,183 +1,88 @@
-#!/usr/bin/env python3
-"""Plays scenes of the built program: files are written, lines are done over them, and what these answer and leave is compared.
+"""Lines over files that are written, cut and changed: what they print, and what they leave.
 
-usage: tools/scenes
-
-It runs RRV_PROGRAM, or else crates/rrv/out/rrv. Each scene is played by each build that there is, in a folder of its own. Its steps write,
-cut and change files, do lines, and look at what files hold. Of a line the status, the output and the errors are wanted; of some bad lines,
-whose text is the parser's, only the status. Standard input has bytes that no line may read. Each difference is printed, and a scene counts as
-failed where there is one, or a line doesn't end within a minute.
-
-In some scenes stores are marked, by recordings and by hand, and guests wait for a time: what these leave, and which copies are refused.
+Each scene is a case. Of a line the status, the output and the errors are wanted; of some bad lines, whose text is the
+parser's, only the status. Standard input has bytes that no line may read. In some scenes stores are marked, by
+recordings and by hand, and guests wait for a time: what these leave, and which copies are refused. What guests print
+follows from their instructions; the bytes of stores are those of docs/FORMATS.md.
 """
-import collections
-import contextlib
-import fcntl
-import importlib.machinery
-import importlib.util
-import os
-import subprocess
-import sys
-import tempfile
+from collections.abc import Mapping, Sequence
 
-ROOT = os.path.dirname(os.path.dirname(os.path.realpath(__file__)))
-# A line may run for so many seconds.
-PATIENCE = 60
-# What stands in standard input: no guest reads it, since its input is a file or nothing.
-UNREAD = b"not to be read\n"
+from rrv_tools import guests
+from rrv_tools.elf import changed, executable
+from rrv_tools.guests import BUFFER, CLOCK, EXIT, RANDOM, READ, exits, writes
+from rrv_tools.known import (
+    BEFORE_START, BREAKS, CANNOT_OPEN, CANNOT_READ, DAMAGED, EXITED, FIVE, FIVE_DIGEST, FIVE_DUMPED, FIVE_LISTED,
+    FIVE_VERIFIED, HI, HI_DIGEST, HI_DUMPED, HI_LISTED, HI_TO_ERRORS, HI_VERIFIED, NEEDS_MARK, NO_GUEST, NOT_A_STORE,
+    PAST_END, SAME_STORE, TOO_MANY_GUESTS, Known,
+)  # fmt: skip
+from rrv_tools.records import (
+    NOT_MAPPED, Call, Expire, Fault, Item, Opening, OpeningTwo, Page, Part, Preempt, Rest, bodies_of, records_of,
+)  # fmt: skip
+from rrv_tools.riscv import A0, A1, A2, S0, SP, T0, ZERO, addi, call, counted_down, lui, lw, srli, sw
+from rrv_tools.steps import (
+    Begins, Change, Cut, Holds, HoldsOnce, Line, Link, Lock, Step, SymbolicLink, Write, bad, done, ends, play, refused,
+)  # fmt: skip
+from rrv_tools.store import EMPTY, MARK, MARK_ADDS, segment, store_of
+from rrv_tools.testing import Case, rows
 
+# Programs
 
-def tool(name):
-    """A tool beside this one, as a module."""
-    loader = importlib.machinery.SourceFileLoader(name, f"{ROOT}/tools/{name}")
-    found = importlib.util.module_from_spec(importlib.util.spec_from_loader(name, loader))
-    sys.modules[name] = found
-    loader.exec_module(found)
-    return found
-
-
-LINES, KILL_TEST, TEXT, WAITS = tool("program_lines"), tool("kill_test"), tool("store_text"), tool("guests/timed.py")
-
-# Steps
-
-# A file is written, cut to so many bytes, has a byte changed at a place, or has to hold these bytes.
-Write = collections.namedtuple("Write", "name data")
-Cut = collections.namedtuple("Cut", "name length")
-Change = collections.namedtuple("Change", "name place byte")
-Holds = collections.namedtuple("Holds", "name data")
-# A file has to begin with these bytes, or to hold these once somewhere.
-Begins = collections.namedtuple("Begins", "name data")
-HoldsOnce = collections.namedtuple("HoldsOnce", "name part")
-# A file, which is made if it isn't there, is locked until the scene is over.
-Lock = collections.namedtuple("Lock", "name")
-# A file gets another name, or a symbolic link leads to it.
-Link = collections.namedtuple("Link", "name target")
-Points = collections.namedtuple("Points", "name target")
-# A line is done, with this status, this output and these errors, of which None leaves open what they are.
-Line = collections.namedtuple("Line", "words status out err")
-
-
-def done(words, out=b"", err=b""):
-    """A line that is done."""
-    return Line(words, 0, out, err)
-
-
-def refused(words, err):
-    """A line that is refused, and puts nothing out."""
-    return Line(words, 1, b"", err)
-
-
-def bad(words, message, usage="<COMMAND>"):
-    """A line that is none."""
-    return Line(words, 2, b"", f"error: {message}\n\nUsage: rrv {usage}\n\nFor more information, try '--help'.\n".encode())
-
-
-def ends(words, status):
-    """A line of which just the status is wanted."""
-    return Line(words, status, None, None)
-
-
-# Programs. Each is recorded alone with this output and this report.
-Known = collections.namedtuple("Known", "file out report")
-
-
-def program(*words):
-    """The file of a small program."""
-    return KILL_TEST.elf_of(words)
-
-
-def changed(data, place, byte):
-    """Bytes with another one at a place."""
-    found = bytearray(data)
-    found[place] = byte
-    return bytes(found)
-
-
-# li a0, 5; li a7, 93; ecall: it exits with 5.
-FIVE = Known(program(0x00500513, 0x05D00893, 0x00000073), b"", b"g0: end exited 5, records 2\n")
-# It stores `hi` and a newline below the stack pointer by its fourth instruction, writes these three bytes by its eighth, and exits with 0 by
-# its eleventh.
-HI = Known(
-    program(
-        *(0xFF010593, 0x000A7537, 0x96850513, 0x00A5A023, 0x00100513, 0x00300613, 0x04000893, 0x00000073),
-        *(0x00000513, 0x05D00893, 0x00000073),
-    ),
-    b"hi\n",
-    b"g0: end exited 0, records 3\n",
-)
-# It does so to descriptor 2.
-HI_TO_ERRORS = Known(
-    program(
-        *(0xFF010593, 0x000A7537, 0x96850513, 0x00A5A023, 0x00200513, 0x00300613, 0x04000893, 0x00000073),
-        *(0x00000513, 0x05D00893, 0x00000073),
-    ),
-    b"",
-    b"hi\ng0: end exited 0, records 3\n",
-)
-# EBREAK, at the entry 0x10054.
-BREAKS = Known(
-    program(0x00100073), b"", b"g0: end faulted 2, records 2\nfault breakpoint at 1 thread 1 pc 00010054 word 00100073\n"
-)
-# It writes the 16 random bytes of its opening, at 0x7FFFFFF0, and exits with 16.
-OPENING_RANDOM = program(0x800005B7, 0xFF058593, 0x00100513, 0x01000613, 0x04000893, 0x00000073, 0x05D00893, 0x00000073)
-# It fills 24 bytes with ones. Then it reads up to ten bytes of input to them, and takes three random bytes to the same place; writes the 24
-# bytes, and exits with 0.
-READ_THEN_RANDOM = program(
-    *(0x7FF00437, 0xFFF00293, 0x00542023, 0x00542223, 0x00542423, 0x00542623, 0x00542823, 0x00542A23),
-    *(0x00000513, 0x00840593, 0x00A00613, 0x03F00893, 0x00000073, 0x00040513, 0x00300593, 0x00000613),
-    *(0x11600893, 0x00000073, 0x00100513, 0x00040593, 0x01800613, 0x04000893, 0x00000073, 0x00000513),
-    *(0x05D00893, 0x00000073),
-)
+# It writes the 16 random bytes of its opening, at 0x7FFFFFF0, and exits with 16, which the call returns.
+WRITE_RANDOM = [lui(A1, 0x80000), addi(A1, A1, -16), addi(A0, ZERO, 1), addi(A2, ZERO, 16), *call(guests.WRITE)]
+OPENING_RANDOM = executable([*WRITE_RANDOM, *call(EXIT)])
+# It fills 24 bytes with ones. Then it reads up to ten bytes of input to them, and takes three random bytes to the same
+# place; writes the 24 bytes, and exits with 0.
+FILL = [lui(S0, 0x7FF00), addi(T0, ZERO, -1), *(sw(T0, S0, at) for at in range(0, 24, 4))]
+READ_TEN = [addi(A0, ZERO, 0), addi(A1, S0, 8), addi(A2, ZERO, 10), *call(READ)]
+TAKE_THREE = [addi(A0, S0, 0), addi(A1, ZERO, 3), addi(A2, ZERO, 0), *call(RANDOM)]
+READ_THEN_RANDOM = executable([*FILL, *READ_TEN, *TAKE_THREE, *writes(1, S0, 24), *exits(0)])
 # It counts down from 100, and exits with 0.
-LOOP = program(0x06400513, 0xFFF50513, 0xFE051EE3, 0x05D00893, 0x00000073)
-# It jumps to itself: `j .`.
-SPIN = program(0x0000006F)
+LOOP = executable([addi(A0, ZERO, 100), *counted_down(A0, []), *call(EXIT)])
+
+
+def tells_time(clock: int, shift: int) -> bytes:
+    """A program that exits with the seconds of a clock, shifted to the right."""
+    ask = [lui(S0, 0x7FF00), addi(A0, ZERO, clock), addi(A1, S0, 0), *call(CLOCK)]
+    return executable([*ask, lw(A0, S0, 0), srli(A0, A0, shift), *call(EXIT)])
+
+
 # They exit with the seconds since 1970 over 2^30, 1 from 2004 to 2038, and with those since the start over 2^8.
-REAL_WORDS = [0x7FF00437, 0x00000513, 0x00040593, 0x19300893, 0x00000073, 0x00042503, 0x01E55513, 0x05D00893, 0x00000073]
-REAL, MONOTONIC = program(*REAL_WORDS), program(REAL_WORDS[0], 0x00100513, *REAL_WORDS[2:6], 0x00855513, *REAL_WORDS[7:])
+REAL, MONOTONIC = tells_time(0, 30), tells_time(1, 8)
 
 
-def exits_with_zero():
-    """The instructions that exit with 0."""
-    return [KILL_TEST.addi(KILL_TEST.FIRST, 0, 0), *KILL_TEST.call(93)]
-
-
-def taker(*counts):
-    """A program that takes so many random bytes by each of its calls, one behind the other, then writes them all, and exits with 0."""
-    it, words, place = KILL_TEST, [KILL_TEST.addi(KILL_TEST.BUFFER, KILL_TEST.STACK, -64)], 0
+def taker(*counts: int) -> bytes:
+    """A program that takes this many random bytes by each of its calls, one after the other, then writes them all, and
+    exits with 0."""
+    words, place = [addi(BUFFER, SP, -64)], 0
     for count in counts:
-        words += [it.addi(it.FIRST, it.BUFFER, place), it.addi(it.SECOND, 0, count), it.addi(it.THIRD, 0, 0), *it.call(278)]
+        words += [addi(A0, BUFFER, place), addi(A1, ZERO, count), addi(A2, ZERO, 0), *call(RANDOM)]
         place += count
-    words += [it.addi(it.FIRST, 0, 1), it.addi(it.SECOND, it.BUFFER, 0), it.addi(it.THIRD, 0, place), *it.call(64)]
-    return program(*words, *exits_with_zero())
+    return executable([*words, *writes(1, BUFFER, place), *exits(0)])
 
 
-def reader(times):
-    """A program that so many times reads four bytes of input at most, and writes what it read; it exits with 0."""
-    it, words = KILL_TEST, [KILL_TEST.addi(KILL_TEST.BUFFER, KILL_TEST.STACK, -64)]
-    for _ in range(times):
-        words += [it.addi(it.FIRST, 0, 0), it.addi(it.SECOND, it.BUFFER, 0), it.addi(it.THIRD, 0, 4), *it.call(63)]
-        words += [it.addi(it.THIRD, it.FIRST, 0), it.addi(it.FIRST, 0, 1), it.addi(it.SECOND, it.BUFFER, 0), *it.call(64)]
-    return program(*words, *exits_with_zero())
+def reader(times: int) -> bytes:
+    """A program that this many times reads four bytes of input at most, and writes what it read; it exits with 0."""
+    read = [addi(A0, ZERO, 0), addi(A1, BUFFER, 0), addi(A2, ZERO, 4), *call(READ)]
+    write = [addi(A2, A0, 0), addi(A0, ZERO, 1), addi(A1, BUFFER, 0), *call(guests.WRITE)]
+    return executable([addi(BUFFER, SP, -64), *times * [*read, *write], *exits(0)])
 
 
-# Scenes
+# The scenes, by their names.
+SCENES: dict[str, Sequence[Step]] = {}
 
-SCENES = {}
 
-
-def scene(name, *steps):
-    """Adds a scene. All its files are gone before and behind it."""
+def scene(name: str, *steps: Step) -> None:
+    """Adds a scene."""
     assert name not in SCENES, f"two scenes are named {name}"
     SCENES[name] = steps
 
 
-def in_store(name, files, *steps):
+def in_store(name: str, files: Mapping[str, bytes], *steps: Step) -> None:
     """Adds a scene that begins with these files and a new store `s`."""
     scene(name, *(Write(*it) for it in files.items()), done("new s"), *steps)
 
 
-def recorded(name, known, *steps):
+def recorded(name: str, known: Known, *steps: Step) -> None:
     """Adds a scene that begins with a program `f`, which is recorded in a new store."""
     in_store(name, {"f": known.file}, done("record s f", known.out, known.report), *steps)
 
@@ -208,11 +113,7 @@ scene(
 
 # Empty stores, damaged ones, and files that are none
 
-EMPTY = b"RRVTRC1\n\0\0\0\0\0\0\0\0\0"
-FIVE_LISTED = b"0 g0 records=2 frames=1 instructions=3\n"
 SIXTEEN = b"RRVTRC1\n\0\0\0\0\0\0\0\0"
-NOT_A_STORE, CANNOT_OPEN, DAMAGED = b"rrv: not a store\n", b"rrv: cannot open store\n", b"rrv: damaged segment 0\n"
-NO_GUEST, CANNOT_READ = b"rrv: no such guest\n", b"rrv: cannot read file\n"
 scene(
     "a new store is empty",
     done("new s"),
@@ -247,8 +148,8 @@ recorded(
     "a store that is cut is damaged",
     FIVE,
     Cut("s", 100),
-    *(refused(it, DAMAGED) for it in ("list s", "dump s 0", "verify s 0", "replay s 0", "back s 0 3 1", "last s 0 3 0", "record s f")),
-    *(refused(it, DAMAGED) for it in ("ask s 0", "elf s 0", "copy s 0 s")),
+    *(refused(it, DAMAGED) for it in ("list s", "dump s 0", "verify s 0", "replay s 0", "back s 0 3 1")),
+    *(refused(it, DAMAGED) for it in ("last s 0 3 0", "record s f", "ask s 0", "elf s 0", "copy s 0 s")),
     Cut("s", 17),
     refused("list s", DAMAGED),
     Cut("s", 16),
@@ -275,18 +176,15 @@ recorded(
     done("list s", FIVE_LISTED),
 )
 # It is looked at, and has no bytes yet.
-scene("a store of another program is left alone", Lock("s"), refused("record s f", CANNOT_OPEN), refused("list s", NOT_A_STORE))
+scene(
+    "a store of another program is left alone",
+    Lock("s"),
+    refused("record s f", CANNOT_OPEN),
+    refused("list s", NOT_A_STORE),
+)
 
 # Guests, and what the lines behind them tell
 
-FIVE_DUMPED = b"0 opening name=g0 elf=96\n1 call tid=1 count=3 result=00000000 written=0\n"
-FIVE_VERIFIED = b"ok records=2 instructions=3 end exited 5\n"
-HI_DUMPED = b"""\
-0 opening name=g0 elf=128
-1 call tid=1 count=8 result=00000003 written=0
-2 call tid=1 count=3 result=00000000 written=0
-"""
-HI_LISTED, HI_VERIFIED = b"0 g0 records=3 frames=2 instructions=11\n", b"ok records=3 instructions=11 end exited 0\n"
 recorded(
     "a recorded guest is told",
     FIVE,
@@ -332,7 +230,7 @@ in_store(
 in_store(
     "sixteen programs are recorded at once",
     {"E": FIVE.file},
-    done("record s E E E E E E E E E E E E E E E E", b"", b"".join(b"g%d: end exited 5, records 2\n" % it for it in range(16))),
+    done(f"record s{' E' * 16}", b"", "".join(f"g{it}: end exited 5, records 2\n" for it in range(16))),
     done("verify s 15", FIVE_VERIFIED),
     refused("verify s 16", NO_GUEST),
 )
@@ -353,7 +251,7 @@ in_store(
 CHOICES = {f"choices_{count}": b"1 64\n" * count for count in (1, 2, 4)}
 in_store(
     "a checkpoint follows each second frame",
-    {"spin": SPIN, **CHOICES},
+    {"spin": guests.SPIN, **CHOICES},
     done("record --choices choices_4 --then none --every 128 s spin", b"", b"g0: end none, records 7\n"),
     done(
         "dump s 0",
@@ -375,8 +273,12 @@ in_store(
     "a part has the lines that changed",
     {"F": HI.file, **CHOICES},
     done("record --choices choices_2 --then none --every 8 s F", HI.out, b"g0: end exited 0, records 4\n"),
-    # The payload has 235 bytes: behind its number of pages stand the number of a page, its permissions, its mask and its line.
-    HoldsOnce("s", bytes.fromhex("00000000 02000000 05 eb000000 01 01000000 ffff0700 06 0000000000000040") + bytes(16) + b"hi\n\0"),
+    # The payload has 235 bytes: behind its number of pages stand the number of a page, its permissions, its mask and
+    # its line.
+    HoldsOnce(
+        "s",
+        bytes.fromhex("00000000 02000000 05 eb000000 01 01000000 ffff0700 06 0000000000000040") + bytes(16) + b"hi\n\0",
+    ),
 )
 in_store(
     "slices are as long as asked",
@@ -406,26 +308,21 @@ in_store(
 
 # Copies
 
-SAME_STORE, MANY = b"rrv: same store\n", b"rrv: too many guests\n"
 # The records of the program that exits with 5, of the guest of a number; and its line.
-FIVE_ITEMS = [TEXT.Opening(FIVE.file, b"g0", bytes(16)), TEXT.Call(1, 3, 0, [])]
+FIVE_ITEMS = [Opening(FIVE.file, b"g0", bytes(16)), Call(1, 3, 0, [])]
 
 
-def records_of_five(guest):
-    return [TEXT.Record(guest, index, item) for index, item in enumerate(FIVE_ITEMS)]
+def five_in(*numbers: int) -> bytes:
+    """A store with such guests of these numbers, each in a body of its own."""
+    return store_of([body for it in numbers for body in bodies_of(records_of(it, FIVE_ITEMS))])
 
 
-def five_in(*guests):
-    """A store with so many such guests, each in a body of its own."""
-    return TEXT.store_of([body for it in guests for body in TEXT.bodies_of(records_of_five(it))])
-
-
-def five_line(guest):
+def five_line(guest: int) -> bytes:
     return b"%d g0 records=2 frames=1 instructions=3\n" % guest
 
 
 # A guest that goes round, whose records stand in two bodies of the other store.
-ROUNDS = [TEXT.Opening(SPIN, b"round", bytes(16)), *[TEXT.Preempt(1, 64)] * 100]
+ROUNDS = [Opening(guests.SPIN, b"round", bytes(16)), *[Preempt(1, 64)] * 100]
 scene(
     "a guest is copied",
     Write("s", five_in(0, 1)),
@@ -442,11 +339,11 @@ scene(
 )
 scene(
     "as many records as may be stand in each body of a copy",
-    Write("s", TEXT.store_of(TEXT.bodies_of([TEXT.Record(3, index, item) for index, item in enumerate(ROUNDS)], 7))),
+    Write("s", store_of(bodies_of(records_of(3, ROUNDS), 7))),
     Write("t", five_in(8)),
     done("copy s 3 t", b"9 round records=101 frames=100 instructions=6400\n"),
     Holds(
-        "t", TEXT.store_of(TEXT.bodies_of(records_of_five(8)) + TEXT.bodies_of([TEXT.Record(9, at, item) for at, item in enumerate(ROUNDS)]))
+        "t", store_of(bodies_of(records_of(8, FIVE_ITEMS)) + bodies_of(records_of(9, ROUNDS)))
     ),
     done("verify t 9", b"ok records=101 instructions=6400 end none\n"),
 )
@@ -471,7 +368,7 @@ scene(
     Write("text", b"a text"),
     Write("cut", five_in(0)[:100]),
     Link("other", "s"),
-    Points("symbolic", "other"),
+    SymbolicLink("symbolic", "other"),
     *(refused(f"copy s 0 {it}", SAME_STORE) for it in ("s", "./s", "other", "symbolic")),
     refused("copy symbolic 0 s", SAME_STORE),
     refused("copy s 1 s", NO_GUEST),
@@ -500,15 +397,15 @@ scene(
     Write("t", five_in(4_294_967_293)),
     done("copy s 0 t", five_line(4_294_967_294)),
     Holds("t", five_in(4_294_967_293, 4_294_967_294)),
-    refused("copy s 0 t", MANY),
+    refused("copy s 0 t", TOO_MANY_GUESTS),
     Holds("t", five_in(4_294_967_293, 4_294_967_294)),
     done("copy t 4294967294 s", five_line(1)),
 )
 # A record that doesn't follow, and so a guest that verify refuses.
-LYING = [TEXT.Opening(FIVE.file, b"g0", bytes(16)), TEXT.Call(1, 4, 0, [])]
+LYING = [Opening(FIVE.file, b"g0", bytes(16)), Call(1, 4, 0, [])]
 scene(
     "a guest that isn't a recording is copied as it is, and not asked about",
-    Write("s", TEXT.store_of(TEXT.bodies_of([TEXT.Record(0, index, item) for index, item in enumerate(LYING)]))),
+    Write("s", store_of(bodies_of(records_of(0, LYING)))),
     Write("t", EMPTY),
     refused("verify s 0", b"rrv: record 1 does not replay\n"),
     refused("ask s 0", b"rrv: record 1 does not replay\n"),
@@ -593,17 +490,10 @@ in_store(
 
 # States at places of a recording
 
-# The digests are those of a script that lays the pages out as the ELF file and the opening state have them: for a file of these words and
-# the name `g0`, the file's page, then those of the stack with the 16 random bytes, the name and the 18 words. The first is that of the program
-# that exits with 5: it stores nothing. The second is that of the program that writes `hi`, before it stores these bytes.
-FIVE_DIGEST = "264b47cf315dfe4dd83a8600fba4e21c0a7584e6274d426b4cfe0acbc0a34d52"
-HI_DIGEST = "a8a1e2b56b2fabb81c015ea4866289720e09d6f1edd74c5d0d0a9d5540f0a843"
-EXITED = f"at 3 of 3\nend exited 5\nbreak 00011000\nreservation none\npages 257 digest {FIVE_DIGEST}\n".encode()
 
-
-def state_of(place, pc, a0, a1, a7, digest):
-    """The state of a program of one thread that hasn't ended: at a place, with these words in `pc`, `a0`, `a1` and `a7`, and with this digest
-    of its memory."""
+def state_of(place: str, pc: str, a0: str, a1: str, a7: str, digest: str) -> bytes:
+    """The state of a program of one thread that hasn't ended: at a place, with these words in `pc`, `a0`, `a1` and
+    `a7`, and with this digest of its memory."""
     return f"""\
 at {place}
 end none
@@ -624,7 +514,6 @@ pages 257 digest {digest}
 
 BEFORE_EXIT = state_of("2 of 3", "0001005c", "00000005", "00000000", "0000005d", FIVE_DIGEST)
 BEFORE_STORE = state_of("3 of 11", "00010060", "000a6968", "7fffff90", "00000000", HI_DIGEST)
-BEFORE_START, PAST_END = b"rrv: before the start\n", b"rrv: past the end\n"
 recorded(
     "the state at a place is printed",
     FIVE,
@@ -642,12 +531,13 @@ recorded(
     "the last change of a byte is found",
     HI,
     *(done(it, BEFORE_STORE) for it in ("last s 0 11 7FFFFF90", "last s 0 4 7fffff91")),
-    *(done(it, b"unchanged\n") for it in ("last s 0 3 7FFFFF90", "last s 0 11 7FFFFF93", "last s 0 11 0", "last s 0 0 7FFFFF90")),
+    *(done(it, b"unchanged\n") for it in ("last s 0 3 7FFFFF90", "last s 0 11 7FFFFF93")),
+    *(done(it, b"unchanged\n") for it in ("last s 0 11 0", "last s 0 0 7FFFFF90")),
 )
 
 # Programs that are none, and which of several faults is told
 
-COMPRESSED = changed(FIVE.file, 36, 1)
+COMPRESSED = changed(FIVE.file, 36, b"\x01")
 A_TEXT = b"This is a text and no program, though it has more than the 52 bytes of a header.\n"
 scene(
     "bad files are refused by name",
@@ -694,31 +584,34 @@ recorded(
 
 # Records that are made by hand
 
-UNMAPPED = [TEXT.Page(it, TEXT.NOT_MAPPED, {}) for it in range(3)]
-BY_HAND = TEXT.Opening(FIVE.file, b"g0", bytes(16))
-OF_0 = [
-    *(BY_HAND, TEXT.Preempt(1, 1), TEXT.Call(3, 9, 0xFFFFFFEA, [(0x12000, bytes(16)), (0x12000, bytes(4))]), TEXT.Preempt(1, 1)),
-    *(TEXT.Part(UNMAPPED, None), TEXT.Part(UNMAPPED, TEXT.Rest(0x11000, 2, [], [])), TEXT.Preempt(1, 1), TEXT.Preempt(1, 64)),
+UNMAPPED = [Page(it, NOT_MAPPED, {}) for it in range(3)]
+BY_HAND = Opening(FIVE.file, b"g0", bytes(16))
+TWO_RANGES = [(0x12000, bytes(16)), (0x12000, bytes(4))]
+OF_0: list[Item] = [
+    *(BY_HAND, Preempt(1, 1), Call(3, 9, 0xFFFFFFEA, TWO_RANGES), Preempt(1, 1), Part(UNMAPPED, None)),
+    *(Part(UNMAPPED, Rest(0x11000, 2, [], [])), Preempt(1, 1), Preempt(1, 64)),
 ]
-OF_1 = [BY_HAND, TEXT.Fault(1, 1, 2)]
-MADE = [TEXT.Record(guest, index, item) for guest, items in enumerate((OF_0, OF_1)) for index, item in enumerate(items)]
+MADE = [*records_of(0, OF_0), *records_of(1, [BY_HAND, Fault(1, 1, 2)])]
 scene(
     "records are told by their lines",
-    Write("s", TEXT.store_of(TEXT.bodies_of(MADE))),
+    Write("s", store_of(bodies_of(MADE))),
     done(
         "dump s 0",
         b"0 opening name=g0 elf=96\n1 preempt tid=1 count=1\n2 call tid=3 count=9 result=ffffffea written=20\n"
-        b"3 preempt tid=1 count=1\n4 part pages=3 last=no\n5 part pages=3 last=yes\n6 preempt tid=1 count=1\n7 preempt tid=1 count=64\n",
+        b"3 preempt tid=1 count=1\n4 part pages=3 last=no\n5 part pages=3 last=yes\n"
+        b"6 preempt tid=1 count=1\n7 preempt tid=1 count=64\n",
     ),
     done("dump s 1", b"0 opening name=g0 elf=96\n1 fault tid=1 count=1 kind=2\n"),
 )
 
-# Stores that hold the Mark, and guests that wait for a time
+# Stores that have the Mark, and guests that wait for a time
 
-# It waits for 5 milliseconds at a word that nobody wakes, and exits with the low byte of what the call returned: ETIMEDOUT, or ENOSYS where
-# the wait is refused.
-TIMED, TIMED_REPORT, UNTIMED_REPORT = program(*WAITS.ONE_WAIT), b"g0: end exited 146, records 4\n", b"g0: end exited 218, records 3\n"
-TIMED_VERIFIED, UNTIMED_VERIFIED = b"ok records=4 instructions=12 end exited 146\n", b"ok records=3 instructions=12 end exited 218\n"
+# It waits for 5 milliseconds at a word that nobody wakes, and exits with the low byte of what the call returned:
+# ETIMEDOUT, or ENOSYS if the wait is refused.
+TIMED = executable(guests.ONE_WAIT)
+TIMED_REPORT, UNTIMED_REPORT = b"g0: end exited 146, records 4\n", b"g0: end exited 218, records 3\n"
+TIMED_VERIFIED = b"ok records=4 instructions=12 end exited 146\n"
+UNTIMED_VERIFIED = b"ok records=3 instructions=12 end exited 218\n"
 TIMED_DUMPED = b"""\
 0 opening name=g0 elf=132
 1 call tid=1 count=10 result=00000000 written=0
@@ -730,21 +623,21 @@ UNTIMED_DUMPED = b"""\
 1 call tid=1 count=10 result=ffffffda written=0
 2 call tid=1 count=2 result=00000000 written=0
 """
-UNTIMED_LINE, NEEDS_MARK = b"1 g0 records=3 frames=2 instructions=12\n", b"rrv: store needs the mark\n"
-TIMED_ITEMS = [TEXT.OpeningTwo(TIMED, b"g0", bytes(16)), TEXT.Call(1, 10, 0, []), TEXT.Expire(1), TEXT.Call(1, 2, 0, [])]
+UNTIMED_LINE = b"1 g0 records=3 frames=2 instructions=12\n"
+TIMED_ITEMS = [OpeningTwo(TIMED, b"g0", bytes(16)), Call(1, 10, 0, []), Expire(1), Call(1, 2, 0, [])]
 # The program that exits with 5 as guest 0, and the Mark behind it: 41 bytes of a segment and the 17 of the Mark.
-FIVE_BODIES = TEXT.bodies_of(records_of_five(0))
-FIVE_MARKED = TEXT.store_of([*FIVE_BODIES, TEXT.MARK])
-assert len(FIVE_MARKED) == len(five_in(0)) + KILL_TEST.MARK_ADDS == len(five_in(0)) + 41 + 17
+FIVE_BODIES = bodies_of(records_of(0, FIVE_ITEMS))
+FIVE_MARKED = store_of([*FIVE_BODIES, MARK])
+assert len(FIVE_MARKED) == len(five_in(0)) + MARK_ADDS == len(five_in(0)) + 41 + 17
 
 
-def timed_line(guest):
+def timed_line(guest: int) -> bytes:
     return b"%d g0 records=4 frames=3 instructions=12\n" % guest
 
 
-def timed_bodies(guest):
+def timed_bodies(guest: int) -> list[bytes]:
     """The bodies of that guest as one of version 2."""
-    return TEXT.bodies_of([TEXT.Record(guest, index, item) for index, item in enumerate(TIMED_ITEMS)])
+    return bodies_of(records_of(guest, TIMED_ITEMS))
 
 
 scene(
@@ -754,10 +647,10 @@ scene(
     Write("f", FIVE.file),
     done("record s timed", b"", UNTIMED_REPORT),
     done("record --upgrade s timed", b"", TIMED_REPORT),
-    HoldsOnce("s", TEXT.MARK),
+    HoldsOnce("s", MARK),
     done("record s timed", b"", TIMED_REPORT),
     done("record s timed --upgrade", b"", TIMED_REPORT),
-    HoldsOnce("s", TEXT.MARK),
+    HoldsOnce("s", MARK),
     Begins("s", five_in(0)[:-1]),
     done("record s f", FIVE.out, FIVE.report),
     done("list s", five_line(0) + UNTIMED_LINE + b"".join(map(timed_line, (2, 3, 4))) + five_line(5)),
@@ -771,7 +664,7 @@ scene(
 )
 in_store(
     "a checkpoint has what a wait waits for, and a wait without a timeout is stuck",
-    {"timed": TIMED, "without": program(*WAITS.WITHOUT)},
+    {"timed": TIMED, "without": executable(guests.WITHOUT_TIMEOUT)},
     done("record --upgrade --every 8 s timed", b"", b"g0: end exited 146, records 5\n"),
     done(
         "dump s 0",
@@ -802,9 +695,9 @@ scene(
     refused("record bad nothere --upgrade", NOT_A_STORE),
     Holds("t", EMPTY),
     refused("record --upgrade t bad", b"rrv: guest 0: elf refusal 7\n"),
-    Holds("t", TEXT.store_of([TEXT.MARK])),
+    Holds("t", store_of([MARK])),
     refused("record --upgrade --input nothere t bad", CANNOT_READ),
-    Holds("t", TEXT.store_of([TEXT.MARK])),
+    Holds("t", store_of([MARK])),
     done("list t"),
     refused("verify t 0", NO_GUEST),
     Write("u", EMPTY),
@@ -817,7 +710,7 @@ scene(
     Write("s", TORN),
     refused("record --upgrade s nothere", CANNOT_READ),
     Holds("s", FIVE_MARKED),
-    Write("s", five_in(0)[:-1] + b"\x37" + TEXT.segment(len(FIVE_BODIES), TEXT.MARK)),
+    Write("s", five_in(0)[:-1] + b"\x37" + segment(len(FIVE_BODIES), MARK)),
     Write("timed", TIMED),
     done("list s", five_line(0)),
     Holds("s", five_in(0)),
@@ -827,14 +720,14 @@ scene(
 )
 scene(
     "a guest that may wait for a time is copied to marked stores alone",
-    Write("s", TEXT.store_of([*FIVE_BODIES, TEXT.MARK, *timed_bodies(1)])),
+    Write("s", store_of([*FIVE_BODIES, MARK, *timed_bodies(1)])),
     Write("t", five_in(0)),
     done("verify s 1", TIMED_VERIFIED),
     refused("copy s 1 t", NEEDS_MARK),
     Holds("t", five_in(0)),
     refused("record --upgrade t nothere", CANNOT_READ),
     done("copy s 1 t", timed_line(1)),
-    Holds("t", TEXT.store_of([*FIVE_BODIES, TEXT.MARK, *timed_bodies(1)])),
+    Holds("t", store_of([*FIVE_BODIES, MARK, *timed_bodies(1)])),
     done("verify t 1", TIMED_VERIFIED),
     done("dump t 1", TIMED_DUMPED),
     # A guest of version 1 is copied from a marked store to any.
@@ -846,81 +739,12 @@ scene(
 )
 
 
-# Playing
+@rows(SCENES, "play")
+class Scenes(Case):
+    """Each scene begins in an empty folder."""
 
-def read(name):
-    with open(name, "rb") as file:
-        return file.read()
+    seconds = 4
 
-
-def write(name, data):
-    with open(name, "wb") as file:
-        file.write(data)
-
-
-def line_difference(build, line):
-    """In what a line does otherwise than it is wanted, or None."""
-    ran = subprocess.run([build, *line.words.split()], input=UNREAD, capture_output=True, timeout=PATIENCE, check=False)
-    found, wanted = (ran.returncode, ran.stdout, ran.stderr), line[1:]
-    wanted = tuple(one if other is None else other for one, other in zip(found, wanted))
-    return None if found == wanted else f"{line.words!r}: {found}, and not {wanted}"
-
-
-def play_step(build, step, locks):
-    """Takes a step. Tells what it finds otherwise than it is wanted, or None."""
-    match step:
-        case Write(name, data):
-            write(name, data)
-        case Cut(name, length):
-            write(name, read(name)[:length])
-        case Change(name, place, byte):
-            write(name, changed(read(name), place, byte))
-        case Link(name, target):
-            os.link(target, name)
-        case Points(name, target):
-            os.symlink(target, name)
-        case Lock(name):
-            fcntl.flock(locks.enter_context(open(name, "ab")), fcntl.LOCK_EX | fcntl.LOCK_NB)
-        case Holds(name, data):
-            return None if read(name) == data else f"{name} holds {read(name)[:100]}, and not {data[:100]}"
-        case Begins(name, data):
-            return None if read(name).startswith(data) else f"{name} begins with {read(name)[: len(data)][-100:]}, and not {data[-100:]}"
-        case HoldsOnce(name, part):
-            return None if read(name).count(part) == 1 else f"{name} holds {part} {read(name).count(part)} times"
-        case Line():
-            return line_difference(build, step)
-    return None
-
-
-def play(build, name, steps):
-    """Whether each step of a scene finds what is wanted. It ends at a step that can't be taken."""
-    found = []
-    with tempfile.TemporaryDirectory() as folder, contextlib.ExitStack() as locks:
-        os.chdir(folder)
-        try:
-            for step in steps:
-                found.append(play_step(build, step, locks))
-        except (OSError, IndexError, subprocess.TimeoutExpired) as fault:
-            found.append(f"{fault}")
-        os.chdir(ROOT)
-    wrong = [it for it in found if it]
-    for it in wrong:
-        print(f"scenes: {os.path.basename(build)}, {name}: {it}")
-    return not wrong
-
-
-def main():
-    if sys.argv[1:]:
-        print(__doc__, end="", file=sys.stderr)
-        return 2
-    builds = [it for it in (LINES.RRV, f"{LINES.RRV}.by-rattle") if os.path.isfile(it)]
-    if not builds:
-        print("scenes: rrv is not built\n0 passed, 1 failed")
-        return 1
-    good = [play(build, *it) for build in builds for it in SCENES.items()]
-    print(f"{sum(good)} passed, {len(good) - sum(good)} failed")
-    return 0 if all(good) else 1
-
-
-if __name__ == "__main__":
-    sys.exit(main())
+    def play(self, steps: Sequence[Step]) -> None:
+        """Takes the steps of a scene."""
+        play(self, steps)
