@@ -47,8 +47,8 @@ BREAKS = Known(
 
 # The digests are those of a script that lays the pages out as the ELF file and the opening state have them: for a file
 # of these words and the name `g0`, the file's page, then those of the stack with the 16 random bytes, the name and the
-# 18 words. The first is that of the program that exits with 5: it stores nothing. The second is that of the program that
-# writes `hi`, before it stores these bytes.
+# 18 words. The first is that of the program that exits with 5: it stores nothing. The second is that of the program
+# that writes `hi`, before it stores these bytes.
 FIVE_DIGEST = "264b47cf315dfe4dd83a8600fba4e21c0a7584e6274d426b4cfe0acbc0a34d52"
 HI_DIGEST = "a8a1e2b56b2fabb81c015ea4866289720e09d6f1edd74c5d0d0a9d5540f0a843"
 # The state at the end of the program that exits with 5.

@@ -1,29 +1,17 @@
-"""What stands between the program and the C library: it writes down the program's calls, and does otherwise with one of them.
-
-tools/failed_calls, tools/power_loss, tools/host_cases, tools/look_cases and tools/progress_cases start the program so. The calls are those of
-files and streams, and of the clocks.
-"""
-import collections
-import importlib.machinery
-import importlib.util
-import os
-import struct
-import subprocess
-import tempfile
-
-ROOT = os.path.dirname(os.path.dirname(os.path.realpath(__file__)))
-PATIENCE = 60
-# Each call is noted as it begins, and as it ends, in the order of these moments. It is written without headers, so that any compiler will do.
-# CHOSEN_CALLS has a letter for each kind of call of which CHOSEN_NTH is counted: w writes a file at a place, s is a sync, c cuts, l locks, o
-# writes to standard output, e to standard error, r reads a file at a place, and i reads on from where the last read ended. Of the chosen one
-# nothing is done, half of its bytes, or all (CHOSEN_DONE 0, 1, 2); then it fails with CHOSEN_ERROR, or with 0 tells what it did; and CHANGED_BY
-# makes its file longer or shorter once it is done. The file REPLACED_BY is then put in the place of REPLACED, and the bytes of OVERWRITTEN_BY
-# are written over those of OVERWRITTEN. A read at a place that is chosen is made whole after all that, or fails; one that reads on reads nothing. With
-# SKIPS_SYNCS no sync is passed on: what one does is not seen as long as the machine goes on, and a slow disk would leave too few commits.
-# READ_MOST is how many bytes a read takes that reads on, and OUTPUT_MOST how many standard output takes of a write; once it has OUTPUT_ROOM of
-# them there is no space left. REAL_LATER and MONOTONIC_LATER are seconds that a clock is later by; with MONOTONIC_STEP each reading of the
-# monotonic one is so many seconds more behind the one before.
-SOURCE = r"""
+// What stands between the program and the C library: it notes the program's calls of files and streams, and of the clocks, and
+// does otherwise with one of them. It has no headers, so that any compiler builds it. rrv_tools.preload runs the program so.
+//
+// Each call is noted as it begins, and as it ends, in the order of these moments, to the descriptor CALLS_LOG.
+// CHOSEN_CALLS has a letter for each kind of call of which CHOSEN_NTH is counted: w writes a file at a place, s is a sync, c
+// cuts, l locks, o writes to standard output, e to standard error, r reads a file at a place, and i reads on from where the
+// last read ended. Of the chosen one nothing is done, half of its bytes, or all (CHOSEN_DONE 0, 1, 2); then it fails with
+// CHOSEN_ERROR, or with 0 returns what it did; and CHANGED_BY makes its file longer or shorter once it is done. The file
+// REPLACED_BY is then put in the place of REPLACED, and the bytes of OVERWRITTEN_BY are written over those of OVERWRITTEN. A
+// read at a place that is chosen is made whole after all that, or fails; one that reads on reads nothing. With SKIPS_SYNCS
+// no sync is passed on: what one does is not seen as long as the machine goes on, and a slow disk would leave too few
+// commits. READ_MOST is how many bytes a read takes that reads on, and OUTPUT_MOST how many standard output takes of a
+// write; once it has OUTPUT_ROOM of them there is no space left. REAL_LATER and MONOTONIC_LATER are seconds that a clock is
+// later by; with MONOTONIC_STEP each reading of the monotonic one is this many seconds more after the one before.
 typedef __SIZE_TYPE__ size;
 typedef long long number;
 char *getenv(const char *);
@@ -219,46 +207,3 @@ int clock_gettime(int clock, struct time *time) {
     }
     return result;
 }
-"""
-NAMES = ["write", "pwrite", "ftruncate", "fsync", "fdatasync", "pread", "statx", "posix_fadvise", "flock", "close"]
-SYNCS = ("fsync", "fdatasync")
-# What changes a file or makes it safe.
-CHANGES = ("write", "pwrite", "ftruncate", *SYNCS)
-HEAD = struct.Struct("7q")
-# A moment of the program: a call begins, or has ended. `data` has its bytes, or of a sync the name of its file.
-Moment = collections.namedtuple("Moment", "call has_ended descriptor at result is_chosen data")
-Ended = collections.namedtuple("Ended", "status out err")
-
-
-def tool(name):
-    """A tool beside this one, as a module."""
-    loader = importlib.machinery.SourceFileLoader(name, f"{ROOT}/tools/{name}")
-    found = importlib.util.module_from_spec(importlib.util.spec_from_loader(name, loader))
-    loader.exec_module(found)
-    return found
-
-
-def build(folder):
-    """The library, in this folder; None if no C compiler is installed."""
-    return tool("refused_growths").build(folder, "preloaded", SOURCE)
-
-
-def moments_in(text):
-    """What was noted, in its order."""
-    found, place = [], 0
-    while place < len(text):
-        call, ended, descriptor, at, result, chosen, length = HEAD.unpack_from(text, place)
-        place += HEAD.size + length
-        found.append(Moment(NAMES[call], bool(ended), descriptor, at, result, bool(chosen), text[place - length : place]))
-    return found
-
-
-def run(shared, words, options=None, **how):
-    """How the program ended, and the moments that were noted. `options` are those of the library."""
-    with tempfile.TemporaryFile("a+b") as log:
-        given = {name: f"{value}" for name, value in (options or {}).items()}
-        named = {**os.environ, "LD_PRELOAD": shared, "CALLS_LOG": f"{log.fileno()}", **given}
-        how = {"stdin": subprocess.DEVNULL, "capture_output": True, "timeout": PATIENCE, "check": False, **how}
-        done = subprocess.run(words, env=named, pass_fds=[log.fileno()], **how)
-        log.seek(0)
-        return Ended(done.returncode, done.stdout, done.stderr), moments_in(log.read())
