@@ -1,15 +1,16 @@
 #!/usr/bin/env python3
 """Prints lines of ../stdin: what the guest of four_threads.S does under lists of choices, by a restatement of the guest's rules in Python
-(`threads.py` of tools/guests).
+(`threads` of tools/rrv_tools).
 """
 
 import pathlib
 import sys
 
 HERE = pathlib.Path(__file__).resolve().parent
-sys.path.insert(0, str(HERE.parents[2] / "tools" / "guests"))
+sys.dont_write_bytecode = True
+sys.path.insert(0, str(HERE.parents[2] / "tools"))
 
-from threads import MASK, Guest
+from rrv_tools.threads import MASK, Guest
 
 SEEDS = range(1, 201)
 

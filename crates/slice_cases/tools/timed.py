@@ -1,34 +1,27 @@
 #!/usr/bin/env python3
-"""Prints what ../stdin says of guests that wait for a time, by the restatement of a guest's rules in tools/guests. Run in this folder."""
+"""Prints what ../stdin says of guests that wait for a time, by the restatement of a guest's rules in tools/rrv_tools. Run in this folder."""
 
 import json
 import pathlib
 import re
-import struct
 import sys
 
-sys.path.insert(0, str(pathlib.Path(__file__).resolve().parents[3] / "tools" / "guests"))
+sys.dont_write_bytecode = True
+sys.path.insert(0, str(pathlib.Path(__file__).resolve().parents[3] / "tools"))
 
-import timed
-from threads import Guest
+from rrv_tools import guests as timed
+from rrv_tools.elf import executable
+from rrv_tools.threads import Guest
 
 WAITING = "all threads wait, and a wait has a timeout"
 NOT_TIMED, ENDED = "the thread has no timed wait", "the guest has ended"
-
-
-def file_of(words):
-    """A static program of these instructions: one LOAD, the whole file, to be read and run."""
-    length = 84 + 4 * len(words)
-    header = b"\x7fELF\1\1\1" + bytes(9)
-    header += struct.pack("<HHIIIIIHHHHHH", 2, 243, 1, 0x10054, 52, 0, 0, 52, 32, 1, 0, 0, 0)
-    return header + struct.pack("<8I", 1, 0, 0x10000, 0x10000, length, length, 5, 4) + struct.pack(f"<{len(words)}I", *words)
 
 
 class Case:
     """The lines of a guest, one after the other."""
 
     def __init__(self, words, version=2):
-        self.guest, self.stuck = Guest(file_of(words), b"a", version), False
+        self.guest, self.stuck = Guest(executable(words), b"a", version), False
         self.frames, self.start, self.ran = [], 0, 0
         print(f"guest {'two ' if version == 2 else ''}code {' '.join(f'{word:08x}' for word in words)}")
 
