@@ -299,6 +299,8 @@ class Part(Item):
 
 ITEMS: tuple[type[Item], ...] = (Opening, Preempt, Call, Fault, Stuck, Part, Expire, OpeningTwo)
 KINDS = {it.kind: it for it in ITEMS}
+# Those of frames that have no thread, and no payload.
+THREADLESS = (Stuck,)
 
 
 @dataclasses.dataclass
