@@ -6,6 +6,7 @@ from collections.abc import Sequence
 # The modules with `main(words) -> int`, by the name of the tool, and what each does.
 TOOLS: dict[str, tuple[str, str]] = {
     "records": ("rrv_tools.records", "prints the records of a store"),
+    "kills": ("rrv_tools.cases.kills", "ends recordings and copies at random moments"),
     "core_file": ("rrv_tools.core_file", "prints what a core file has of the state"),
 }
 

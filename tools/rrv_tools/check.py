@@ -84,8 +84,6 @@ LOOKS = (
     look("guide", 10),
     # the line that shows how far it is
     look("progress_cases", 50),
-    # ten recordings and ten copies that are ended at random moments
-    look("kill_test 10 --copies 10", 20),
     # recordings of which each call of files and streams fails in turn
     look("failed_calls", 35),
     # sessions that are stopped at each call of their store, and what a crash may then leave

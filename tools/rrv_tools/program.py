@@ -26,8 +26,12 @@ class Result(NamedTuple):
     err: bytes
 
 
-class Refused(AssertionError):
-    """A line that has to succeed ended with another status, or is otherwise than it has to be."""
+class Wrong(AssertionError):
+    """Something is not as it has to be."""
+
+
+class Refused(Wrong):
+    """A line that has to succeed ended with another status, or there is no program."""
 
 
 @dataclasses.dataclass(frozen=True)

@@ -22,7 +22,7 @@ import time
 import traceback
 import types
 import unittest
-from collections.abc import Callable, Iterable, Mapping
+from collections.abc import Callable, Iterable, Iterator, Mapping
 from typing import Any, ClassVar, TypeVar
 
 from rrv_tools import program as programs
@@ -248,8 +248,23 @@ def main(path: str) -> int:
     os.close(null)
     suite = unittest.defaultTestLoader.loadTestsFromNames(names)
     with open(path, "ab", buffering=0) as file:
-        suite.run(Results(file.fileno()))
+        classes = {type(case) for case in cases_in(suite)}
+        try:
+            suite.run(Results(file.fileno()))
+        finally:
+            # One that is stopped has not cleaned up after itself.
+            for it in classes:
+                it.doClassCleanups()
     return 0
+
+
+def cases_in(suite: unittest.TestSuite) -> Iterator[unittest.TestCase]:
+    """The cases of a suite and of those in it."""
+    for it in suite:
+        if isinstance(it, unittest.TestSuite):
+            yield from cases_in(it)
+        elif isinstance(it, unittest.TestCase):
+            yield it
 
 
 if __name__ == "__main__":
