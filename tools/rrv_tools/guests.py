@@ -5,8 +5,8 @@ import pathlib
 from rrv_tools import elf
 from rrv_tools.program import GUESTS
 from rrv_tools.riscv import (
-    A0, A1, A2, A3, ECALL, S0, S1, S2, S3, SP, T0, T1, T2, T3, T4, ZERO, add, addi, andi, beq, bge, call, counted_down,
-    li, lui, lw, or_, sb, srli, sw,
+    A0, A1, A2, A3, ECALL, S0, S1, S2, S3, SP, X5, X6, X7, X28, X29, ZERO, add, addi, andi, beq, bge, call,
+    counted_down, li, lui, lw, or_, sb, srli, sw,
 )  # fmt: skip
 
 # The numbers of calls, as Linux has them.
@@ -32,7 +32,7 @@ SPIN = elf.executable([0x0000006F])
 # ---- guests of version 2, which wait for a time
 
 # A timeout of 5,000,000 nanoseconds at the stack pointer, which is 64 lower then. The word 32 above it is 0.
-WITH_TIMEOUT = [addi(SP, SP, -64), lui(T0, 0x4C5), addi(T0, T0, -1216), sw(T0, SP, 8)]
+WITH_TIMEOUT = [addi(SP, SP, -64), lui(X5, 0x4C5), addi(X5, X5, -1216), sw(X5, SP, 8)]
 WAIT = [addi(A0, SP, 32), addi(A1, ZERO, 0), addi(A2, ZERO, 0), addi(A3, SP, 0), *call(FUTEX)]
 WAIT_WITHOUT = [addi(A0, SP, 32), addi(A1, ZERO, 0), addi(A2, ZERO, 0), addi(A3, ZERO, 0), *call(FUTEX)]
 WAKE_ONE = [addi(A0, SP, 32), addi(A1, ZERO, 1), addi(A2, ZERO, 1), *call(FUTEX)]
@@ -72,7 +72,7 @@ def timed_wait(buffer: int, word: int, timeout: int) -> list[int]:
 # ---- guests that print
 
 # The registers of a Printer: where it prints to, what counts its loops, and what it prints.
-PLACE, BLOCKS, REST, BUFFER, COUNT, WRITES, HALF, TURNS, DIGIT = T0, T1, T2, S0, S1, S2, S3, T3, T4
+PLACE, BLOCKS, REST, BUFFER, COUNT, WRITES, HALF, TURNS, DIGIT = X5, X6, X7, S0, S1, S2, S3, X28, X29
 
 
 @dataclasses.dataclass(frozen=True)

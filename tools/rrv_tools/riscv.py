@@ -2,16 +2,17 @@
 word.
 
 Operands stand in the order of the assembler's: the destination first, of a store and a branch the sources; an address
-is its base register and then the offset. Registers are numbers, by their ABI names. Of an immediate and an offset the
-low bits are taken, as many as the format has; branches and jumps refuse what they can't reach by a ValueError.
+is its base register and then the offset. Registers are numbers, by their ABI names; the temporary ones by X and their
+number. Of an immediate and an offset the low bits are taken, as many as the format has; branches and jumps refuse what
+they can't reach by a ValueError.
 """
 import struct
 from collections.abc import Callable, Sequence
 
-ZERO, RA, SP, GP, TP, T0, T1, T2, S0, S1 = range(10)
+ZERO, RA, SP, GP, TP, X5, X6, X7, S0, S1 = range(10)
 A0, A1, A2, A3, A4, A5, A6, A7 = range(10, 18)
 S2, S3, S4, S5, S6, S7, S8, S9, S10, S11 = range(18, 28)
-T3, T4, T5, T6 = range(28, 32)
+X28, X29, X30, X31 = range(28, 32)
 
 # An instruction of three operands; one of two.
 Three = Callable[[int, int, int], int]

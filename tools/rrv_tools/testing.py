@@ -142,7 +142,10 @@ def difference(what: str, wanted: object, came: object) -> str:
     if isinstance(wanted, str | bytes) and isinstance(came, str | bytes) and all(_is_long(it) for it in (wanted, came)):
         lines = difflib.unified_diff(_lines(wanted), _lines(came), "wanted", "came", lineterm="", n=2)
         return "\n".join([f"{what}:", *lines])
-    return f"{what}: wanted {_shown(wanted)}\n{' ' * len(what)}    came {_shown(came)}"
+    place = ""
+    if isinstance(wanted, bytes) and isinstance(came, bytes) and max(len(wanted), len(came)) > SHORT:
+        place = f", from byte {len(os.path.commonprefix([wanted, came]))} on"
+    return f"{what}{place}: wanted {_shown(wanted)}\n{' ' * len(what + place)}    came {_shown(came)}"
 
 
 def _is_long(text: str | bytes) -> bool:

@@ -18,7 +18,7 @@ from rrv_tools.known import (
 from rrv_tools.records import (
     NOT_MAPPED, Call, Expire, Fault, Item, Opening, OpeningTwo, Page, Part, Preempt, Rest, bodies_of, records_of,
 )  # fmt: skip
-from rrv_tools.riscv import A0, A1, A2, S0, SP, T0, ZERO, addi, call, counted_down, lui, lw, srli, sw
+from rrv_tools.riscv import A0, A1, A2, S0, SP, X5, ZERO, addi, call, counted_down, lui, lw, srli, sw
 from rrv_tools.steps import (
     Begins, Change, Cut, Holds, HoldsOnce, Line, Link, Lock, Step, SymbolicLink, Write, bad, done, ends, play, refused,
 )  # fmt: skip
@@ -32,7 +32,7 @@ WRITE_RANDOM = [lui(A1, 0x80000), addi(A1, A1, -16), addi(A0, ZERO, 1), addi(A2,
 OPENING_RANDOM = executable([*WRITE_RANDOM, *call(EXIT)])
 # It fills 24 bytes with ones. Then it reads up to ten bytes of input to them, and takes three random bytes to the same
 # place; writes the 24 bytes, and exits with 0.
-FILL = [lui(S0, 0x7FF00), addi(T0, ZERO, -1), *(sw(T0, S0, at) for at in range(0, 24, 4))]
+FILL = [lui(S0, 0x7FF00), addi(X5, ZERO, -1), *(sw(X5, S0, at) for at in range(0, 24, 4))]
 READ_TEN = [addi(A0, ZERO, 0), addi(A1, S0, 8), addi(A2, ZERO, 10), *call(READ)]
 TAKE_THREE = [addi(A0, S0, 0), addi(A1, ZERO, 3), addi(A2, ZERO, 0), *call(RANDOM)]
 READ_THEN_RANDOM = executable([*FILL, *READ_TEN, *TAKE_THREE, *writes(1, S0, 24), *exits(0)])

@@ -24,7 +24,8 @@ NOTE = struct.pack("<3I", 5, 204, 1) + b"CORE\0\0\0\0" + STATUS
 PAGE = b"\x13" * 4096
 
 
-def core_of(headers: Sequence[tuple[int, ...]], header: bytes = HEADER, note: bytes = NOTE, page: bytes = PAGE) -> bytes:
+def core_of(headers: Sequence[tuple[int, ...]], header: bytes = HEADER, note: bytes = NOTE,
+            page: bytes = PAGE) -> bytes:
     """A core file of these parts."""
     front = header + b"".join(struct.pack("<8I", *it) for it in headers) + note
     return front.ljust(PAGES, b"\0") + page
