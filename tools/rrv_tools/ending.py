@@ -40,7 +40,7 @@ class Moment:
         self.stalls = draw.random() < 0.15
 
     def is_near(self, readers: Sequence[Reader]) -> bool:
-        """Whether so many bytes were printed."""
+        """Whether that many bytes were printed."""
         return sum(len(it.text) for it in readers) >= self.length
 
 

@@ -125,8 +125,9 @@ class Store:
     def look_at(self, number: int, guest: Guest, printed: Texts, line: str) -> KnownGuest:
         """Verifies and replays a guest."""
         verified = self.program.run_well("verify", self.path, number).out.decode()
-        told = re.fullmatch(r"ok (records=\d+) (instructions=\d+) end .+\n", verified)
-        if not told or told[1] not in line.split() or told[2] not in line.split():
+        found_in = re.fullmatch(r"ok (records=\d+) (instructions=\d+) end .+\n", verified)
+        words = line.split()
+        if not found_in or found_in[1] not in words or found_in[2] not in words:
             raise Wrong(f"guest {number} is listed as {line!r}, and verified as {verified!r}")
         replayed = self.program.run_well("replay", self.path, number)
         found = KnownGuest(guest, printed, (replayed.out, replayed.err), line, verified)

@@ -23,7 +23,7 @@ With --copies it makes N copies of guests to another store, and ends each at a m
 limit on the length of files; of recordings it then ends none, unless their number is given. Copies that are left to
 themselves end well. After each the store from which it was copied has to have the same bytes, and the other one the
 guests that it had, and under the next number no guest, or one that verifies, whose records are the first of those that
-were copied, and whose end is told only if it has them all.
+were copied, and whose end is printed only if it has them all.
 
 S draws the same again, and is printed. If something is wrong, the store is kept as the recording left it, and its name
 printed.
@@ -53,8 +53,8 @@ from rrv_tools.store import MARK_ADDS
 from rrv_tools.testing import Case, rows
 
 IN_A_ROW, MILLION = 4, 1_000_000
-# So many of the stores are marked. A guest that waits for a time does that for so many nanoseconds each time, and for
-# so many in all.
+# What part of the stores is marked; and for how many nanoseconds a guest waits each time, at least and at most, and in
+# all.
 MARKED, SHORTEST, LONGEST, MOST_ASLEEP = 0.4, 200_000, 3_000_000, 60_000_000
 FAILED = 1, b"rrv: device failed\n"
 # How many recordings and copies there are if nobody says.
@@ -235,7 +235,7 @@ class Recordings(Drawn):
         return ended
 
     def end_full(self, mounted: pathlib.Path, words: Sequence[str], more: int) -> Result:
-        """A recording for which its file system has so many bytes more."""
+        """A recording for which its file system has only some bytes more."""
         pages = -(-self.store.size() // 4096) + more // 4096
         self.mount("-o", f"remount,size={4 * max(pages, 1)}k", mounted)
         ended = record(self.program, words)
@@ -281,12 +281,12 @@ class Recordings(Drawn):
         found = self.store.look(guests, ended)
         if len(found) != 2 or any(it.printed != it.replayed for it in found):
             raise Wrong(f"a recording that ran to its end is found as {[it.line for it in found]}")
-        told = bytes(it for it in ended.err if it < 0x80).decode()
+        report = bytes(it for it in ended.err if it < 0x80).decode()
         records = [re.findall(r"records=(\d+)", it.line)[0] for it in found]
         wanted = "".join(f"g{place}: {it.guest.end()}, records {records[place]}\n" for place, it in enumerate(found))
         # What these guests print ends in no newline, so one stands before the reports.
-        if told != f"\n{wanted}":
-            raise Wrong(f"a recording that ran to its end prints {told!r}, and not {wanted!r}")
+        if report != f"\n{wanted}":
+            raise Wrong(f"a recording that ran to its end prints {report!r}, and not {wanted!r}")
         self.store.look_for_mark(may_mark=False)
         self.look_at_waits(self.store.next - len(guests), guests[0].writes)
 

@@ -183,10 +183,10 @@ scene(
     refused("list s", NOT_A_STORE),
 )
 
-# Guests, and what the lines behind them tell
+# Guests, and what lines print of them
 
 recorded(
-    "a recorded guest is told",
+    "lines print a recorded guest",
     FIVE,
     done("list s", FIVE_LISTED),
     done("dump s 0", FIVE_DUMPED),
@@ -199,14 +199,14 @@ recorded(
     refused("verify s 18446744073709551615", NO_GUEST),
 )
 recorded(
-    "output is put out again",
+    "output is printed again",
     HI,
     done("replay s 0", b"hi\n"),
     done("dump s 0", HI_DUMPED),
     done("verify s 0", HI_VERIFIED),
     done("list s", HI_LISTED),
 )
-recorded("output to errors is put out again", HI_TO_ERRORS, done("replay s 0", b"", b"hi\n"))
+recorded("output to errors is printed again", HI_TO_ERRORS, done("replay s 0", b"", b"hi\n"))
 in_store(
     "programs are recorded at once",
     {"E": FIVE.file, "F": HI.file},
@@ -273,7 +273,7 @@ in_store(
     "a part has the lines that changed",
     {"F": HI.file, **CHOICES},
     done("record --choices choices_2 --then none --every 8 s F", HI.out, b"g0: end exited 0, records 4\n"),
-    # The payload has 235 bytes: behind its number of pages stand the number of a page, its permissions, its mask and
+    # The payload has 235 bytes: after its number of pages stand the number of a page, its permissions, its mask and
     # its line.
     HoldsOnce(
         "s",
@@ -284,7 +284,7 @@ in_store(
     "slices are as long as asked",
     {"loop": LOOP},
     done("record --quantum 64 s loop", b"", b"g0: end exited 0, records 5\n"),
-    # 100 turns of two instructions, one before them and two behind them.
+    # 100 turns of two instructions, one before them and two after them.
     done(
         "dump s 0",
         b"0 opening name=g0 elf=104\n1 preempt tid=1 count=64\n2 preempt tid=1 count=64\n3 preempt tid=1 count=64\n"
@@ -347,7 +347,7 @@ scene(
     ),
     done("verify t 9", b"ok records=101 instructions=6400 end none\n"),
 )
-# A gate that is torn, and what stands behind it.
+# A gate that is torn, and what stands after it.
 TORN = five_in(0)[:-1] + b"\x37torn"
 scene(
     "a store from which a guest is copied is only read, and the other is mended",
@@ -535,7 +535,7 @@ recorded(
     *(done(it, b"unchanged\n") for it in ("last s 0 11 0", "last s 0 0 7FFFFF90")),
 )
 
-# Programs that are none, and which of several faults is told
+# Programs that are none, and which of several faults is reported
 
 COMPRESSED = changed(FIVE.file, 36, b"\x01")
 A_TEXT = b"This is a text and no program, though it has more than the 52 bytes of a header.\n"
@@ -593,7 +593,7 @@ OF_0: list[Item] = [
 ]
 MADE = [*records_of(0, OF_0), *records_of(1, [BY_HAND, Fault(1, 1, 2)])]
 scene(
-    "records are told by their lines",
+    "dump prints the lines of records",
     Write("s", store_of(bodies_of(MADE))),
     done(
         "dump s 0",
@@ -625,7 +625,7 @@ UNTIMED_DUMPED = b"""\
 """
 UNTIMED_LINE = b"1 g0 records=3 frames=2 instructions=12\n"
 TIMED_ITEMS = [OpeningTwo(TIMED, b"g0", bytes(16)), Call(1, 10, 0, []), Expire(1), Call(1, 2, 0, [])]
-# The program that exits with 5 as guest 0, and the Mark behind it: 41 bytes of a segment and the 17 of the Mark.
+# The program that exits with 5 as guest 0, and the Mark after it: 41 bytes of a segment and the 17 of the Mark.
 FIVE_BODIES = bodies_of(records_of(0, FIVE_ITEMS))
 FIVE_MARKED = store_of([*FIVE_BODIES, MARK])
 assert len(FIVE_MARKED) == len(five_in(0)) + MARK_ADDS == len(five_in(0)) + 41 + 17
@@ -706,7 +706,7 @@ scene(
     Holds("u", EMPTY),
 )
 scene(
-    "a Mark behind a torn gate is none",
+    "a Mark after a torn gate is none",
     Write("s", TORN),
     refused("record --upgrade s nothere", CANNOT_READ),
     Holds("s", FIVE_MARKED),
