@@ -69,10 +69,10 @@ class Done:
 
     def case_lines(self) -> Iterator[str]:
         """The failures of its cases, each with how to run it again, and why some were left out."""
+        for reason in sorted({it.text for it in self.outcomes if it.kind == LEFT_OUT}):
+            yield f"left out: {reason}"
         for it in self.outcomes:
-            if it.kind == LEFT_OUT:
-                yield f"left out: {it.text}"
-            elif it.kind == FAILED:
+            if it.kind == FAILED:
                 yield it.name
                 yield from (f"    {line}" for line in [*it.text.splitlines(), f"run again: ./check -k {it.name}"])
         if self.text and self.counts[1]:
