@@ -8,6 +8,14 @@ TOOLS: dict[str, tuple[str, str]] = {
     "records": ("rrv_tools.records", "prints the records of a store"),
     "kills": ("rrv_tools.cases.kills", "ends recordings and copies at random moments"),
     "core_file": ("rrv_tools.core_file", "prints what a core file has of the state"),
+    "architecture": ("rrv_tools.prover.architecture", "compares docs/ARCHITECTURE.md, and what other pages have of it"),
+    "build": ("rrv_tools.prover.build", "builds rrv, which proves it"),
+    "crates_graph": ("rrv_tools.prover.crates_graph", "draws the crates that rrv is made of"),
+    "edits": ("rrv_tools.prover.edits", "tries the wrong bodies of crates"),
+    "places": ("rrv_tools.prover.places", "compares the lists of CONTRIBUTING.md with the tree"),
+    "proofs_page": ("rrv_tools.prover.proofs_page", "prints what is proved, crate by crate"),
+    "release": ("rrv_tools.prover.release", "writes the release, or compares it"),
+    "wrap_proofs": ("rrv_tools.prover.wrap_proofs", "wraps long lines of definitions and proofs"),
 }
 
 

@@ -13,9 +13,9 @@ follows, and how to run it again. What needs a compiler or a debugger says that 
 The gate first compares the logic of the kit in use with the one that release/FROM names. It runs `rt ci`, which proves
 every crate, tries the edits of must-fail/, and runs the tests and the programs. With some kits that takes over what an
 earlier run on this machine proved or refused, if no file of that crate or of one below it changed. If all that passes,
-./rrv starts the program that it built (tools/build --by), and tools/release compares that with the release. If they
-were built by different kits, the rows of two looks are run on both. Then come the looks at what the gate built, and
-all others.
+./rrv starts the program that it built (tools/run build --by), and tools/run release compares that with the release. If
+they were built by different kits, the rows of two looks are run on both. Then come the looks at what the gate built,
+and all others.
 
 With --times the gate also prints how many minutes of processor time each crate took: its proof, its tests, its edits.
 They are looked up twice a second while the checks run, so each may be some seconds short.
@@ -50,20 +50,22 @@ SHARD = 40
 
 
 def look(words: str, seconds: float, is_alone: bool = False) -> Job:
-    """A tool that is still a script, with its words."""
-    return Job(f"tools/{words.split()[0]}", seconds, is_alone, words=tuple(words.split()))
+    """A tool that is still a script, or `run` with one of the package, and its words."""
+    return Job(f"tools/{words.removeprefix('run ').split()[0]}", seconds, is_alone, words=tuple(words.split()))
 
 
-# The tools that are still scripts, with their words, and what each looks at.
+# The tools that count what they look at themselves, with their words, and what each looks at.
 LOOKS = (
     # that the wrong bodies of each crate were all refused at the text that the crate has now
-    look("edits --stale", 3),
+    look("run edits --stale", 3),
     # that no line of a definition or a proof is longer than 140 columns
-    look("wrap_proofs --check", 1),
+    look("run wrap_proofs --check", 1),
     # the files that CONTRIBUTING.md lists, for who adds a call, an instruction, a record kind or a command
-    look("places", 3),
+    look("run places", 3),
     # the picture, the table and the reading order of docs/ARCHITECTURE.md beside crates.txt
-    look("architecture", 2),
+    look("run architecture", 2),
+    # the minutes and the logic that docs/PROOFS.md has, beside tools/minutes.toml and release/FROM
+    look("run proofs_page --check", 1),
     # the picture of a race beside what the tool draws of a recording
     look("race_picture --check", 3),
     # the rows that the crates of cases read, as far as a line of the program shows them

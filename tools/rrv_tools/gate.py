@@ -132,7 +132,7 @@ def prove(with_times: bool) -> Counts:
     times = Times()
     if with_times:
         times.thread.start()
-    counts, _ = run(ROOT / "tools" / "build", "--by", "rt", "ci")
+    counts, _ = run(ROOT / "tools" / "run", "build", "--by", "rt", "ci")
     if with_times:
         times.end()
         times.print()
@@ -141,7 +141,7 @@ def prove(with_times: bool) -> Counts:
 
 def compare_release(look_at_both: LookAt) -> list[Counts]:
     """Compares the release with what the gate built; by some looks at both, if another kit built it."""
-    counts, printed = run(ROOT / "tools" / "release", "--check")
+    counts, printed = run(ROOT / "tools" / "run", "release", "--check")
     found = [counts]
     if "compare both" in printed.splitlines():
         for program in (RELEASE, PROGRAM):

@@ -1,30 +1,26 @@
-#!/usr/bin/env python3
 """Compares docs/ARCHITECTURE.md, and what other pages have of it, with the tree.
 
-usage: tools/architecture
+usage: tools/run architecture
 
 Six looks, each of which prints what is wrong:
 
-- picture: each crate that rrv is made of stands in it once, above those that it stands on, and on none across the line in the middle;
+- picture: each crate that rrv is made of stands in it once, above those that it stands on, and on none across the line
+  in the middle;
 - table: each of these, and `rates`, has one row, stands on rows above it alone, and on those that its row names;
 - reading order: each file is there, and has the names that stand in brackets after it;
-- graph: docs/crates.svg is what tools/crates_graph draws;
-- first screen: README.md has 150 lines at most, and uses no word of the glossary before its commands, but store, record, replay and place;
+- graph: docs/crates.svg is what tools/run crates_graph draws;
+- first screen: README.md has 150 lines at most, and uses no word of the glossary before its commands, but store,
+  record, replay and place;
 - links: each link of a page to a file of this repository leads to one that is there, and to a heading that it has.
 """
-
 import re
-import subprocess
-import sys
-from collections.abc import Iterator
+from collections.abc import Callable, Iterable, Iterator, Sequence
 
-sys.dont_write_bytecode = True
-from crates_list import ROOT, listed, product  # noqa: E402
+from rrv_tools.prover import crates_graph
+from rrv_tools.prover.crates import ROOT, Uses, listed, product, read, report, usage
 
-PAGE = ROOT / "docs" / "ARCHITECTURE.md"
-README = ROOT / "README.md"
 MEASURES = "rates"
-# what the first screen may use of the glossary, and where it ends
+# What the first screen may use of the glossary, and where it ends.
 ALLOWED, FIRST_SCREEN_ENDS, MOST_LINES = {"store", "record", "replay", "place"}, "## Commands", 150
 
 
@@ -42,14 +38,15 @@ def twice_and_missing(found: list[str], wanted: list[str], what: str) -> Iterato
         yield f"{name} stands in the {what}, and rrv isn't made of it"
 
 
-def picture_rows(text: str, uses: dict[str, list[str]]) -> list[list[list[str]]]:
+def picture_rows(text: str, uses: Uses) -> list[list[list[str]]]:
     """The crates of each row of the picture, by its columns."""
     rows = [line.strip() for line in part_of(text, "The layers").splitlines() if line.startswith("    |")]
     cells = [[it for it in re.split(r"[|+]", row)[1:-1] if not it.startswith("--")] for row in rows]
-    return [[[it for it in re.findall(r"(?:^ |  )(\w+)(?=  | \w)", cell) if it in uses] for cell in row] for row in cells]
+    names = re.compile(r"(?:^ |  )(\w+)(?=  | \w)")
+    return [[[it for it in names.findall(cell) if it in uses] for cell in row] for row in cells]
 
 
-def picture(text: str, uses: dict[str, list[str]]) -> Iterator[str]:
+def picture(text: str, uses: Uses) -> Iterator[str]:
     """What is wrong with the picture."""
     rows = picture_rows(text, uses)
     yield from twice_and_missing([it for row in rows for cell in row for it in cell], product(uses), "picture")
@@ -63,10 +60,10 @@ def picture(text: str, uses: dict[str, list[str]]) -> Iterator[str]:
                 yield f"{name} stands on {it} across the line"
 
 
-def table(text: str, uses: dict[str, list[str]]) -> Iterator[str]:
+def table(text: str, uses: Uses) -> Iterator[str]:
     """What is wrong with the table of crates."""
-    rows = [[it.strip() for it in line.split("|")[1:-1]] for line in part_of(text, "The crates").splitlines() if line.startswith("|")]
-    rows = [it for it in rows if len(it) == 4][2:]
+    cells = re.findall(r"(?m)^\|" + r"([^|\n]*)\|" * 4 + "$", part_of(text, "The crates"))
+    rows = [[cell.strip() for cell in row] for row in cells][2:]
     names = [it[0] for it in rows]
     yield from twice_and_missing(names, [*product(uses), MEASURES], "table")
     for number, (name, _, stands, _) in enumerate(rows):
@@ -78,11 +75,12 @@ def table(text: str, uses: dict[str, list[str]]) -> Iterator[str]:
                 yield f"{name} stands on {it}, whose row isn't above it"
 
 
-def reading_order(text: str, _: dict[str, list[str]]) -> Iterator[str]:
+def reading_order(text: str, _: Uses) -> Iterator[str]:
     """Which files or names of the reading order aren't there."""
     folder, found = ROOT, 0
-    for path, named in re.findall(r"`([\w/]+\.(?:rt|antt))`(?:\s\(((?:`\w+`(?:, )?)+))?", part_of(text, "An order to read in")):
-        file = folder / path if "/" not in path else ROOT / path if path.startswith("crates/") else ROOT / "crates" / path
+    order = part_of(text, "An order to read in")
+    for path, named in re.findall(r"`([\w/]+\.(?:rt|antt))`(?:\s\(((?:`\w+`(?:, )?)+))?", order):
+        file = folder / path if "/" not in path else ROOT / "crates" / path.removeprefix("crates/")
         folder, found = file.parent, found + 1
         content = file.read_text(encoding="utf-8") if file.is_file() else None
         if content is None:
@@ -95,19 +93,17 @@ def reading_order(text: str, _: dict[str, list[str]]) -> Iterator[str]:
         yield "there is no reading order"
 
 
-def graph(_: str, __: dict[str, list[str]]) -> Iterator[str]:
+def graph(_: str, __: Uses) -> Iterable[str]:
     """What is wrong with the graph."""
-    done = subprocess.run([ROOT / "tools" / "crates_graph", "--check"], stdout=subprocess.PIPE, text=True, check=False)
-    if done.returncode:
-        yield done.stdout.splitlines()[0] if done.stdout else f"tools/crates_graph: status {done.returncode}"
+    return crates_graph.wrong_with()
 
 
-def first_screen(text: str, _: dict[str, list[str]]) -> Iterator[str]:
+def first_screen(text: str, _: Uses) -> Iterator[str]:
     """Which words of the glossary README's first screen uses."""
     words = {it.lower() for it in re.findall(r"\*(\w[\w ]*?)\*", part_of(text, "Words"))} - ALLOWED
     if not words:
         yield "there is no glossary"
-    readme = README.read_text(encoding="utf-8")
+    readme = read("README.md")
     screen, ends, _rest = readme.partition(FIRST_SCREEN_ENDS)
     if not ends:
         yield f"README.md has no part {FIRST_SCREEN_ENDS!r}"
@@ -125,7 +121,7 @@ def anchors(text: str) -> set[str]:
     return {re.sub(r"[^\w\- ]", "", it.lower()).replace(" ", "-") for it in heads}
 
 
-def links(_: str, __: dict[str, list[str]]) -> Iterator[str]:
+def links(_: str, __: Uses) -> Iterator[str]:
     """Which links lead nowhere."""
     for page in sorted([*ROOT.glob("*.md"), *ROOT.glob("docs/*.md")]):
         text = page.read_text(encoding="utf-8")
@@ -140,21 +136,12 @@ def links(_: str, __: dict[str, list[str]]) -> Iterator[str]:
                 yield f"{page.relative_to(ROOT)}: {target} leads to no heading"
 
 
-def main() -> int:
+LOOKS: tuple[Callable[[str, Uses], Iterable[str]], ...] = (picture, table, reading_order, graph, first_screen, links)
+
+
+def main(words: Sequence[str]) -> int:
     """Looks at all, and counts."""
-    if sys.argv[1:]:
-        print(__doc__, end="", file=sys.stderr)
-        return 2
-    text, uses = PAGE.read_text(encoding="utf-8"), listed()
-    looks, failed = (picture, table, reading_order, graph, first_screen, links), 0
-    for look in looks:
-        wrong = [*look(text, uses)]
-        failed += bool(wrong)
-        for it in wrong:
-            print(f"architecture: {it}")
-    print(f"{len(looks) - failed} passed, {failed} failed")
-    return 1 if failed else 0
-
-
-if __name__ == "__main__":
-    sys.exit(main())
+    if words:
+        return usage(__doc__)
+    text, uses = read("docs/ARCHITECTURE.md"), listed()
+    return report({look.__name__: (f"architecture: {it}" for it in look(text, uses)) for look in LOOKS})

@@ -1,18 +1,17 @@
-#!/usr/bin/env python3
 """Draws the crates that rrv is made of, as crates.txt has them.
 
-usage: tools/crates_graph              writes docs/crates.svg
-       tools/crates_graph --check      prints what is wrong with that file, and counts it
+usage: tools/run crates_graph              writes docs/crates.svg
+       tools/run crates_graph --check      prints what is wrong with that file, and counts it
 
-A crate stands above those that it names in crates.txt, and right below the lowest that stands on it. A line leads to a crate that it names,
-unless it also stands on that one by another. The colour says which definitions a crate stands on: those of the machine and its records
-(rrv_model), those of disks and stores (store_model), both or neither.
+A crate stands above those that it names in crates.txt, and right below the lowest that stands on it. A line leads to a
+crate that it names, unless it also stands on that one by another. The colour says which definitions a crate stands on:
+those of the machine and its records (rrv_model), those of disks and stores (store_model), both or neither.
 """
-import dataclasses
-import sys
+from collections.abc import Sequence
+from dataclasses import dataclass, field
+from itertools import combinations, pairwise
 
-sys.dont_write_bytecode = True
-from crates_list import ROOT, below, listed, product, reduced  # noqa: E402
+from rrv_tools.prover.crates import ROOT, Uses, below, chains, listed, product, reduced, report, usage
 
 PICTURE = ROOT / "docs" / "crates.svg"
 MACHINE, STORES = "rrv_model", "store_model"
@@ -22,9 +21,10 @@ KINDS = {
     "stores": "on disks and stores (store_model)",
     "neither": "on neither",
 }
-# the width of a letter, the height of a crate, how far crates of a layer are apart, and layers, and the room around and for the key
+# The width of a letter, the height of a crate, how far crates of a layer and layers are apart, the room around and for
+# the key.
 LETTER, HEIGHT, APART, LAYER, MARGIN, KEY = 7.9, 26, 16, 62, 18, 30
-# how often the layers are put in order, and how often each is pulled to where its lines lead
+# How often the layers are put in order, and how often each is pulled to where its lines lead.
 SWEEPS, PULLS = 24, 60
 STYLE = """
   .ground { fill: #ffffff }
@@ -49,91 +49,71 @@ STYLE = """
 """
 
 
-@dataclasses.dataclass(eq=False, repr=False)
+@dataclass(eq=False, repr=False)
 class Spot:
     """A place in a layer: a crate's, or one by which a line passes through the layer."""
 
     name: str
     width: float
-    up: list["Spot"] = dataclasses.field(default_factory=list)
-    down: list["Spot"] = dataclasses.field(default_factory=list)
+    up: list["Spot"] = field(default_factory=list)
+    down: list["Spot"] = field(default_factory=list)
     x: float = 0.0
     y: float = 0.0
 
 
-def out_of_order(uses: dict[str, list[str]], names: list[str]) -> str:
+def out_of_order(uses: Uses, names: list[str]) -> str:
     """One of these crates that doesn't follow one on which it stands in crates.txt; nothing if there is none."""
-    known: set[str] = set()
-    for name in names:
-        for it in uses[name]:
-            if it not in known:
-                return f"{name} stands on {it}, and not after it"
-        known.add(name)
-    return ""
+    wrong = ((name, it) for at, name in enumerate(names) for it in uses[name] if it not in names[:at])
+    return next((f"{name} stands on {it}, and not after it" for name, it in wrong), "")
 
 
-def heights(edges: dict[str, list[str]]) -> dict[str, int]:
-    """The layer of each crate, from 0: as high as the crates allow that stand on it. These follow it in crates.txt."""
-    depth: dict[str, int] = {}
-    for name in reversed(edges):
-        depth[name] = max((depth[it] + 1 for it in depth if name in edges[it]), default=0)
-    most = max(depth.values())
-    return {it: most - depth[it] for it in edges}
-
-
-def layers_of(edges: dict[str, list[str]]) -> tuple[list[list[Spot]], dict[str, Spot]]:
-    """The layers from the lowest up, with a spot in each layer that a line passes."""
-    at = heights(edges)
+def layers_of(edges: Uses) -> tuple[list[list[Spot]], dict[str, Spot]]:
+    """The layers from the lowest up, with a spot in each that a line passes. Each crate is as high as can be."""
+    depth = {it: len(chain) for it, chain in chains(edges, dict.fromkeys(edges, 1.0)).items()}
+    at = {it: max(depth.values()) - depth[it] for it in edges}
     spots = {it: Spot(it, LETTER * len(it) + 18) for it in edges}
-    layers: list[list[Spot]] = [[] for _ in range(max(at.values()) + 1)]
-    for name in edges:
-        layers[at[name]].append(spots[name])
+    layers = [[spots[it] for it in edges if at[it] == layer] for layer in range(max(at.values()) + 1)]
     for name, names in edges.items():
         for it in names:
             last = spots[name]
-            for layer in range(at[name] - 1, at[it], -1):
-                passed = Spot("", 4)
-                layers[layer].append(passed)
-                join(last, passed)
+            for layer in range(at[name] - 1, at[it] - 1, -1):
+                passed = Spot("", 4) if layer > at[it] else spots[it]
+                layers[layer] += [passed] if layer > at[it] else []
+                last.down.append(passed)
+                passed.up.append(last)
                 last = passed
-            join(last, spots[it])
     return layers, spots
 
 
-def join(upper: Spot, lower: Spot) -> None:
-    """A line between two spots."""
-    upper.down.append(lower)
-    lower.up.append(upper)
-
-
 def order(layers: list[list[Spot]]) -> None:
-    """Puts the spots of each layer in the order of those that they are joined with, up and down in turn, and keeps the best order seen."""
+    """Puts the spots of each layer in the order of those that they are joined with, up and down in turn; keeps the best
+    order seen."""
     best, kept = crossings(layers), [[*it] for it in layers]
     for sweep in range(SWEEPS):
         is_up = sweep % 2 == 0
         for here in layers[1:] if is_up else layers[-2::-1]:
             ranks = {spot: rank for layer in layers for rank, spot in enumerate(layer)}
-            here.sort(key=lambda spot: mean([ranks[it] for it in (spot.down if is_up else spot.up)], ranks[spot]))
+            here.sort(key=lambda spot: mean([ranks[it] for it in (spot.down if is_up else spot.up)] or [ranks[spot]]))
         crossed = crossings(layers)
         if crossed < best:
             best, kept = crossed, [[*it] for it in layers]
-    for layer, spots in zip(layers, kept):
+    for layer, spots in zip(layers, kept, strict=True):
         layer[:] = spots
 
 
 def crossings(layers: list[list[Spot]]) -> int:
     """How many pairs of lines cross."""
     count = 0
-    for lower, upper in zip(layers, layers[1:]):
+    for lower, upper in pairwise(layers):
         rank = {spot: place for place, spot in enumerate(lower)}
         ends = [rank[it] for spot in upper for it in sorted(spot.down, key=rank.__getitem__)]
-        count += sum(ends[i] > ends[k] for i in range(len(ends)) for k in range(i + 1, len(ends)))
+        count += sum(left > right for left, right in combinations(ends, 2))
     return count
 
 
-def mean(numbers: list[float] | list[int], other: float) -> float:
-    """Their mean, or another number if there are none."""
-    return sum(numbers) / len(numbers) if numbers else other
+def mean(numbers: Sequence[float]) -> float:
+    """Their mean."""
+    return sum(numbers) / len(numbers)
 
 
 def place(layers: list[list[Spot]]) -> float:
@@ -142,7 +122,7 @@ def place(layers: list[list[Spot]]) -> float:
         spread(layer, [0.0] * len(layer))
     for pull in range(PULLS):
         for layer in layers if pull % 2 else reversed(layers):
-            spread(layer, [mean([it.x for it in (*spot.up, *spot.down)], spot.x) for spot in layer])
+            spread(layer, [mean([it.x for it in (*spot.up, *spot.down)] or [spot.x]) for spot in layer])
     left = min(it.x - it.width / 2 for layer in layers for it in layer)
     for number, layer in enumerate(layers):
         for spot in layer:
@@ -157,14 +137,14 @@ def spread(layer: list[Spot], wanted: list[float]) -> None:
         at += (layer[number - 1].width + spot.width) / 2 + APART if number else 0
         offsets.append(at)
     blocks: list[tuple[float, int]] = []
-    for want, offset in zip(wanted, offsets):
+    for want, offset in zip(wanted, offsets, strict=True):
         block = (want - offset, 1)
         while blocks and blocks[-1][0] > block[0]:
             value, many = blocks.pop()
             block = ((value * many + block[0] * block[1]) / (many + block[1]), many + block[1])
         blocks.append(block)
     values = [value for value, many in blocks for _ in range(many)]
-    for spot, value, offset in zip(layer, values, offsets):
+    for spot, value, offset in zip(layer, values, offsets, strict=True):
         spot.x = value + offset
 
 
@@ -181,9 +161,9 @@ def line_of(upper: Spot, lower: Spot) -> str:
         x, y, lower = lower.x, to, lower.down[0]
 
 
-def kind_of(uses: dict[str, list[str]], name: str) -> str:
+def kind_of(uses: Uses, name: str) -> str:
     """Which definitions a crate stands on."""
-    stands = below(uses, name) | {name}
+    stands = {*below(uses, name), name}
     return {(1, 1): "both", (1, 0): "machine", (0, 1): "stores"}.get((MACHINE in stands, STORES in stands), "neither")
 
 
@@ -205,34 +185,31 @@ def drawn() -> str:
     order(layers)
     width, height = place(layers), MARGIN * 2 + LAYER * (len(layers) - 1) + HEIGHT + KEY
     size = f'viewBox="0 0 {width:.0f} {height:.0f}" width="{width:.0f}" height="{height:.0f}"'
-    parts = [f'<svg xmlns="http://www.w3.org/2000/svg" {size} role="img">', "<title>The crates that rrv is made of</title>"]
-    parts += [f"<style>{STYLE}</style>", f'<rect class="ground" width="{width:.0f}" height="{height:.0f}" rx="8"/>']
+    parts = [f'<svg xmlns="http://www.w3.org/2000/svg" {size} role="img">']
+    parts += ["<title>The crates that rrv is made of</title>", f"<style>{STYLE}</style>"]
+    parts.append(f'<rect class="ground" width="{width:.0f}" height="{height:.0f}" rx="8"/>')
     parts += [line_of(spot, it) for spot in spots.values() for it in spot.down]
     for name, spot in spots.items():
-        corner = f'x="{spot.x - spot.width / 2:.1f}" y="{spot.y - HEIGHT / 2:.1f}"'
-        parts.append(f'<rect class="{kind_of(uses, name)}" {corner} width="{spot.width:.1f}" height="{HEIGHT}" rx="5"/>')
+        where = f'x="{spot.x - spot.width / 2:.1f}" y="{spot.y - HEIGHT / 2:.1f}" width="{spot.width:.1f}"'
+        parts.append(f'<rect class="{kind_of(uses, name)}" {where} height="{HEIGHT}" rx="5"/>')
         parts.append(f'<text x="{spot.x:.1f}" y="{spot.y + 4.5:.1f}" text-anchor="middle">{name}</text>')
     return "\n".join([*parts, *key(height - KEY), "</svg>"]) + "\n"
 
 
-def main() -> int:
-    """Writes the picture, or compares it."""
-    if sys.argv[1:] not in ([], ["--check"]):
-        print(__doc__, end="", file=sys.stderr)
-        return 2
+def wrong_with() -> list[str]:
+    """What is wrong with the order of crates.txt, or else with the picture."""
     if wrong := out_of_order(listed(), product(listed())):
-        print(f"crates.txt: {wrong}\n0 passed, 1 failed")
-        return 1
-    text = drawn()
-    if not sys.argv[1:]:
-        PICTURE.write_text(text, encoding="utf-8")
+        return [f"crates.txt: {wrong}"]
+    is_same = PICTURE.is_file() and PICTURE.read_text(encoding="utf-8") == drawn()
+    path = PICTURE.relative_to(ROOT)
+    return [] if is_same else [f"{path}: not what tools/run crates_graph draws of crates.txt"]
+
+
+def main(words: Sequence[str]) -> int:
+    """Writes the picture, or compares it."""
+    if [*words] not in ([], ["--check"]):
+        return usage(__doc__)
+    if not words and not out_of_order(listed(), product(listed())):
+        PICTURE.write_text(drawn(), encoding="utf-8")
         return 0
-    is_same = PICTURE.is_file() and PICTURE.read_text(encoding="utf-8") == text
-    if not is_same:
-        print(f"{PICTURE.relative_to(ROOT)}: not what tools/crates_graph draws of crates.txt")
-    print(f"{int(is_same)} passed, {int(not is_same)} failed")
-    return 0 if is_same else 1
-
-
-if __name__ == "__main__":
-    sys.exit(main())
+    return report({"picture": wrong_with()})
