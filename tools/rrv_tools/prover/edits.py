@@ -15,8 +15,9 @@ body of one function. Each check begins with the kept work of the crate as it st
 
 If all edits of a crate are refused, crates/NAME/wrong-bodies/tried gets a line: a sum of its code, specs, proofs and
 edits, and how many were refused. Comments and layout don't count, nor in which of the two folders an edit stands, nor
-how imports are grouped and which of this repository's crates they name: a definition may move to another crate as it
-is. The gate fails if a line is not that of the crate as it stands, or if a text of an edit no longer stands just once.
+how imports are grouped and from which of this repository's modules they bring a name: a definition may move to another
+module or crate as it is. The gate fails if a line is not that of the crate as it stands, or if a text of an edit no
+longer stands just once.
 """
 import argparse
 import collections

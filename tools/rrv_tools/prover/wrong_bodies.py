@@ -37,14 +37,15 @@ def edits_of(name: str) -> list[Path]:
 
 
 def tokens(path: Path, known: Mapping[str, object]) -> list[object]:
-    """The words of a text, without comments and layout, and then its imports, without the names of these crates."""
+    """The words of a text, without comments and layout, and then its imports; of what is from one of these crates, the
+    names alone."""
     pattern = {".rt": RUST_TOKEN, ".edit": EDIT_TOKEN}.get(path.suffix, ANTT_TOKEN)
     text = path.read_text(encoding="utf-8")
     imported: set[tuple[str, ...]] = set()
 
     def take(it: re.Match[str]) -> str:
-        crate = "" if it[2] in known else it[2]
-        imported.update((it[1], crate, it[3].strip(), name.strip()) for name in (it[4] or "").split(","))
+        crate, place = (it[2], it[3]) if it[2] not in known else ("", "" if it[4] else re.split(r"\.|::", it[3])[-1])
+        imported.update((it[1], crate, place.strip(), name.strip()) for name in (it[4] or "").split(","))
         return ""
 
     if path.suffix != ".edit":

@@ -77,6 +77,18 @@ class Edits(InRepository):
         edit.rename(edit.parents[1] / "wrong-bodies/one_is_wrong.edit")
         self.passes(1, "edits", "--stale")
 
+    def test_definition_that_moves(self) -> None:
+        self.change("crates/low/src/lib.rt", "// Returns one.", "use low::here::Thing;\nuse std::here::Thing;\n")
+        self.try_all()
+        self.change("crates/low/src/lib.rt", "low::here::Thing", "low::there::below::Thing")
+        self.passes(1, "edits", "--stale")
+        self.change("crates/low/src/lib.rt", "low::there::below::Thing", "low::there::below::Other")
+        self.fails("edits", "--stale", says=self.stale)
+        self.change("crates/low/src/lib.rt", "low::there::below::Other", "low::here::Thing")
+        self.passes(1, "edits", "--stale")
+        self.change("crates/low/src/lib.rt", "std::here::Thing", "std::there::Thing")
+        self.fails("edits", "--stale", says=self.stale)
+
     def test_changed_source(self) -> None:
         self.try_all()
         self.change("crates/low/src/lib.rt", "-> u64 {\n    2", "-> u32 {\n    2")
