@@ -6,16 +6,16 @@ use Rattle.command_line.specs.declared.asked.Inquiry.TheVariants as inquiries
 use Rattle.end_text.specs.Ends.{where_line}
 use Rattle.reverse_step.specs.Changes.{IsLastChange, IsNextChange}
 use Rattle.reverse_step.specs.Cursors.{CursorValue}
-use Rattle.reverse_step.specs.declared.fault.SeekFault.{SeekFault}
-use Rattle.reverse_step.specs.declared.fault.SeekFault.TheVariants as seek_faults
+use Rattle.faults.specs.declared.seek.SeekFault.{SeekFault}
+use Rattle.faults.specs.declared.seek.SeekFault.TheVariants as seek_faults
 use Rattle.rrv_model.specs.declared.record.Frame.{Frame}
 use Rattle.rrv_model.specs.declared.record.Opening.{Opening}
 use Rattle.rrv_model.specs.State.{State}
 use Rattle.rrv_model.specs.StateAt.{StateAt, total}
 use Rattle.trace_text.specs.MemoryText.{memory_lines}
 use Rattle.trace_text.specs.States.{newline, state_lines, threads_lines}
-use Rattle.asking.specs.declared.unanswered.Unanswered.{Unanswered}
-use Rattle.asking.specs.declared.unanswered.Unanswered.TheVariants as faults
+use Rattle.line_io.specs.declared.refusal.Refusal.{Refusal}
+use Rattle.line_io.specs.declared.refusal.Refusal.TheVariants as refusals
 use Rattle.asking.specs.Places.{RunsNext, place_in, shown_place}
 
 -- ---- where it leads
@@ -83,7 +83,10 @@ pub record Answers (inquiry : Inquiry) (old new : CursorValue) (before after : O
   pub none : total new.verified.frames ≡ 0 → tid ≡ 0
   pub printed : Appends before after (found_text is_found new.place (total new.verified.frames) tid state inquiry)
 
--- a question that leads nowhere leaves the cursor as it was
-abbrev pub Stays : Inquiry → (old new : CursorValue) → Unanswered → Type 0
-Stays inquiry old new (faults.Seek fault) = Refuses fault inquiry (total old.verified.frames) old.place × (new ≡ old)
-Stays inquiry old new faults.OutputFailed = Unit {0}
+-- why a question has no answer: it leads nowhere, or there was no memory, and the cursor stays; or there was no reader
+abbrev pub Stays : Inquiry → (old new : CursorValue) → Refusal → Type 0
+Stays inquiry old new (refusals.Seek seek_faults.Memory) = ⊥
+Stays inquiry old new (refusals.Seek fault) = Refuses fault inquiry (total old.verified.frames) old.place × (new ≡ old)
+Stays inquiry old new refusals.Memory = IsWithin inquiry (total old.verified.frames) old.place × (new ≡ old)
+Stays inquiry old new refusals.OutputFailed = Unit {0}
+Stays inquiry old new _ = ⊥

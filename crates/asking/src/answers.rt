@@ -1,14 +1,14 @@
 //! The answer to a question.
 
 ghost use Rattle.std.specs.Prelude.{◌≡◌, ◌≢◌, IfErr, OnOk};
-ghost use Rattle.asking.specs.declared.unanswered.Unanswered.{Unanswered};
+ghost use Rattle.line_io.specs.declared.refusal.Refusal.{Refusal};
 ghost use Rattle.asking.specs.Answers.{Answers, Stays};
 
 use crate::going::go;
 use crate::places::first_thread;
 use crate::printing::print_found;
-use crate::unanswered::Unanswered;
 use command_line::Inquiry;
+use line_io::Refusal;
 use reverse_step::{Cursor, SearchWatch};
 use std::alloc::Global;
 use std::io::Write;
@@ -24,12 +24,12 @@ pub fn answer<R: Threads + Sync, V: SearchWatch, W: Write>(
     inquiry: Inquiry,
     watch: &mut V,
     out: &mut W,
-) -> Result<(), Unanswered>
+) -> Result<(), Refusal>
     ensures verified { cursor.new.verified ≡ cursor.old.verified }
     ensures answered { OnOk result
         (Answers inquiry cursor.old cursor.new (W.contents out.old) (W.contents out.new)) }
     ensures stays { IfErr result (Stays inquiry cursor.old cursor.new) }
-    ensures quiet { IfErr result (λ e. e ≢ Unanswered.OutputFailed → out.new ≡ out.old) }
+    ensures quiet { IfErr result (λ e. e ≢ Refusal.OutputFailed → out.new ≡ out.old) }
 {
     let is_found = go(rt, alloc, workers, cursor, inquiry, watch)?;
     let tid = first_thread(cursor.verified(), cursor.place());

@@ -17,8 +17,6 @@ mod answers;
 mod going;
 mod places;
 mod printing;
-mod unanswered;
 
 pub use answers::answer;
 pub use places::{first_thread, place_in};
-pub use unanswered::Unanswered;

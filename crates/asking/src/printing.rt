@@ -1,26 +1,18 @@
 //! What is printed of a place.
 
-ghost use Rattle.std.specs.Prelude.{◌≡◌, IfSome, OnOk};
+ghost use Rattle.std.specs.Prelude.{◌≡◌, OnOk};
 ghost use Rattle.std.specs.Io.KnownBytes.{Appends};
 ghost use Rattle.guest_calls.specs.Guest.{state_of};
 ghost use Rattle.rrv_model.specs.StateAt.{StateAt, total};
 ghost use Rattle.asking.specs.Answers.{found_text, text_at};
 
-use crate::unanswered::OutputFailed;
 use command_line::Inquiry;
 use end_text::WhereLine;
 use guest_calls::Guest;
+use line_io::{OutputFailed, print_text};
 use reverse_step::Cursor;
-use std::fmt::Display;
 use std::io::Write;
 use trace_text::{MemoryLines, StateLines, ThreadLines};
-
-/// Prints a text.
-fn print<W: Write, T: Display>(out: &mut W, text: &T) -> Result<(), OutputFailed>
-    ensures { OnOk result (IfSome (T.output text.now) (Appends (W.contents out.old) (W.contents out.new))) }
-{
-    write!(out, "{text}").map_err(|_| OutputFailed)
-}
 
 /// Prints what is asked about a guest at a place, of so many, where the thread of this tid comes next.
 fn print_at<W: Write>(
@@ -37,11 +29,11 @@ fn print_at<W: Write>(
     match inquiry {
         Inquiry::Memory(range) => {
             let lines = MemoryLines::new(guest.space(), range.address, range.length);
-            print(out, &lines)
+            print_text(out, &lines)
         }
-        Inquiry::Threads => print(out, &ThreadLines::new(guest)),
-        Inquiry::Where => print(out, &WhereLine::new(guest, place, steps, tid)),
-        _ => print(out, &StateLines::new(guest, place, steps)),
+        Inquiry::Threads => print_text(out, &ThreadLines::new(guest)),
+        Inquiry::Where => print_text(out, &WhereLine::new(guest, place, steps, tid)),
+        _ => print_text(out, &StateLines::new(guest, place, steps)),
     }
 }
 
@@ -60,7 +52,7 @@ pub(crate) fn print_found<W: Write>(
 {
     let guest = cursor.guest();
     if !is_found {
-        return print(out, &"unchanged\n");
+        return print_text(out, &"unchanged\n");
     }
     let steps = cursor.verified().total();
     print_at(guest, cursor.place(), steps, tid, inquiry, out)

@@ -1,10 +1,13 @@
 -- What is printed of places and of changes.
-use Rattle.std.proofs.Common.{◌≡◌, ℕ, ◌+◌, ◌-◌, ◌<◌, Bool, if◌then◌else◌, lt-ltb, subst, List, ◌++◌, Option, arith, refl, ap, ◌∙◌}
-use Rattle.std.specs.Prelude.{OnOk, Result, Ok, Err}
+use Rattle.std.proofs.Common.{◌≡◌, inr, ℕ, ◌+◌, ◌-◌, ◌<◌, Bool, if◌then◌else◌, lt-ltb, subst, List, ◌++◌, Option, arith, refl, ap, ◌∙◌}
+use Rattle.std.specs.Prelude.{IfErr, OnOk, Result, Ok, Err}
 use Rattle.std.specs.Io.KnownBytes.{Appends}
 use Rattle.asking.specs.Places.{RunsNext, shown_place}
 use Rattle.command_line.specs.declared.request.MemoryRange.{MemoryRange}
 use Rattle.command_line.specs.declared.request.Watched.{Watched}
+use Rattle.line_io.specs.declared.refusal.Refusal.{Refusal}
+use Rattle.line_io.specs.declared.refusal.Refusal.TheVariants as refusals
+use Rattle.line_io.specs.Stores.{RefusesPrint}
 use Rattle.rrv_model.specs.declared.record.Frame.{Frame}
 use Rattle.rrv_model.specs.declared.record.Opening.{Opening}
 use Rattle.rrv_model.specs.State.{State, thread_at}
@@ -61,3 +64,8 @@ line_printed (Ok x) o frames w ranges before after place tid text a b c is_befor
       appends_on a b c _ _ _ first next refl,
     )
 line_printed (Err e) o frames w ranges before after place tid text a b c is_before is_after runs is first next = tt
+
+-- what isn't taken isn't printed
+pub output_refused : {T : Type 0} (r : Result T Refusal) → IfErr r (λ e. e ≡ refusals.OutputFailed) → IfErr r RefusesPrint
+output_refused (Ok x) refused = tt
+output_refused (Err e) refused = inr refused

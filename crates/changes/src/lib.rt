@@ -18,8 +18,6 @@ mod change_line;
 mod printing;
 mod searching;
 mod shown;
-mod unprinted;
 
 pub use printing::{print_changes, print_state};
 pub use shown::Shown;
-pub use unprinted::Unprinted;

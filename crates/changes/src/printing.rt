@@ -1,47 +1,36 @@
 //! What is printed of a place, and of changes.
 
-ghost use Rattle.std.specs.Prelude.{◌≡◌, ◌<◌, ◌+◌, IfErr, IfOk, IfSome, List, OnOk, string_bytes, ℕ};
+ghost use Rattle.std.specs.Prelude.{◌≡◌, ◌<◌, ◌+◌, IfErr, IfOk, List, OnOk, string_bytes, ℕ};
 ghost use Rattle.std.specs.Io.KnownBytes.{Appends};
 ghost use Rattle.guest_calls.specs.Guest.{state_of};
 ghost use Rattle.rrv_model.specs.StateAt.{total};
+ghost use Rattle.line_io.specs.Stores.{RefusesPrint};
 ghost use Rattle.changes.specs.Changes.{AfterIs};
 ghost use Rattle.changes.specs.Printed.{IsLineText, IsShownText, IsStateText, PrintsChanges, PrintsEach, ranges_lines};
 
 use crate::change_line::{ChangeLine, ValueText};
 use crate::searching::{go_to, previous, step_on};
 use crate::shown::Shown;
-use crate::unprinted::Unprinted;
 use asking::first_thread;
 use command_line::{MemoryRange, Watched};
 use guest_calls::Guest;
+use line_io::{Refusal, print_text};
 use reverse_step::{Cursor, SearchWatch};
+use rrv_model::refusal::Memory;
 use std::alloc::Global;
-use std::fmt::Display;
 use std::io::Write;
 use std::thread::Threads;
 use trace_text::{MemoryLines, StateLines};
 
-/// Prints a text.
-fn print<W: Write, T: Display>(out: &mut W, text: &T) -> Result<(), Unprinted>
-    ensures printed { OnOk result (IfSome (T.output text.now) (Appends (W.contents out.old) (W.contents out.new))) }
-    ensures refused { IfErr result (λ e. e ≡ Unprinted.OutputFailed) }
-{
-    write!(out, "{text}").map_err(|_| Unprinted::OutputFailed)
-}
-
 /// Prints the bytes of some ranges of a guest's memory.
-fn print_ranges<W: Write>(
-    guest: &Guest,
-    ranges: &[MemoryRange],
-    out: &mut W,
-) -> Result<(), Unprinted>
+fn print_ranges<W: Write>(guest: &Guest, ranges: &[MemoryRange], out: &mut W) -> Result<(), Refusal>
     ensures printed { OnOk result (Appends (W.contents out.old) (W.contents out.new)
         (ranges_lines (state_of guest.now).memory ranges.now)) }
-    ensures refused { IfErr result (λ e. e ≡ Unprinted.OutputFailed) }
+    ensures refused { IfErr result (λ e. e ≡ Refusal.OutputFailed) }
 {
     for range in ranges {
         let lines = MemoryLines::new(guest.space(), range.address, range.length);
-        print(out, &lines)?;
+        print_text(out, &lines)?;
     }
     Ok(())
 }
@@ -51,24 +40,20 @@ pub fn print_state<W: Write>(
     cursor: &Cursor<'_>,
     ranges: &[MemoryRange],
     out: &mut W,
-) -> Result<(), Unprinted>
+) -> Result<(), Refusal>
     ensures printed { OnOk result ((text : List ℕ)
         × IsStateText cursor.now.verified.opening cursor.now.verified.frames ranges.now cursor.now.place text
         × Appends (W.contents out.old) (W.contents out.new) text) }
-    ensures refused { IfErr result (λ e. e ≡ Unprinted.OutputFailed) }
+    ensures refused { IfErr result (λ e. e ≡ Refusal.OutputFailed) }
 {
     let guest = cursor.guest();
     let lines = StateLines::new(guest, cursor.place(), cursor.verified().total());
-    print(out, &lines)?;
+    print_text(out, &lines)?;
     print_ranges(guest, ranges, out)
 }
 
 /// The value of watched bytes after the next instruction. The cursor stays.
-fn value_after(
-    alloc: Global,
-    cursor: &mut Cursor<'_>,
-    watched: Watched,
-) -> Result<String, Unprinted>
+fn value_after(alloc: Global, cursor: &mut Cursor<'_>, watched: Watched) -> Result<String, Memory>
     requires { cursor.old.place < total cursor.old.verified.frames }
     ensures verified { cursor.new.verified ≡ cursor.old.verified }
     ensures at { OnOk result (cursor.new.place ≡ cursor.old.place) }
@@ -89,20 +74,21 @@ fn print_line<W: Write>(
     watched: Watched,
     ranges: &[MemoryRange],
     out: &mut W,
-) -> Result<(), Unprinted>
+) -> Result<(), Refusal>
     requires { cursor.old.place < total cursor.old.verified.frames }
     ensures verified { cursor.new.verified ≡ cursor.old.verified }
     ensures at { OnOk result (cursor.new.place ≡ cursor.old.place) }
     ensures printed { OnOk result ((text : List ℕ)
         × IsLineText cursor.old.verified.opening cursor.old.verified.frames watched ranges.now cursor.old.place text
         × Appends (W.contents out.old) (W.contents out.new) text) }
+    ensures refused { IfErr result RefusesPrint }
 {
     let after = value_after(alloc, cursor, watched)?;
     let place = cursor.place();
     let tid = first_thread(cursor.verified(), place);
     let guest = cursor.guest();
     let line = ChangeLine::new(guest, place, tid, watched, after.as_str());
-    print(out, &line)?;
+    print_text(out, &line)?;
     print_ranges(guest, ranges, out)
 }
 
@@ -112,12 +98,13 @@ fn print_change<W: Write>(
     cursor: &mut Cursor<'_>,
     shown: Shown<'_>,
     out: &mut W,
-) -> Result<(), Unprinted>
+) -> Result<(), Refusal>
     requires { cursor.old.place < total cursor.old.verified.frames }
     ensures verified { cursor.new.verified ≡ cursor.old.verified }
     ensures printed { OnOk result ((text : List ℕ)
         × IsShownText cursor.old.verified.opening cursor.old.verified.frames shown.entry cursor.old.place text
         × Appends (W.contents out.old) (W.contents out.new) text) }
+    ensures refused { IfErr result RefusesPrint }
 {
     if shown.is_short {
         return print_line(alloc, cursor, shown.watched, shown.ranges, out);
@@ -135,9 +122,10 @@ fn print_each<R: Threads + Sync, V: SearchWatch, W: Write>(
     times: u64,
     watch: &mut V,
     out: &mut W,
-) -> Result<u64, Unprinted>
+) -> Result<u64, Refusal>
     ensures printed { IfOk result (PrintsEach cursor.old.verified shown.entry times cursor.old.place
         (W.contents out.old) (W.contents out.new)) }
+    ensures refused { IfErr result RefusesPrint }
 {
     let watched = shown.watched;
     let mut place = cursor.place();
@@ -164,12 +152,13 @@ pub fn print_changes<R: Threads + Sync, V: SearchWatch, W: Write>(
     times: u64,
     watch: &mut V,
     out: &mut W,
-) -> Result<(), Unprinted>
+) -> Result<(), Refusal>
     ensures printed { OnOk result (PrintsChanges cursor.old.verified shown.entry times cursor.old.place
         (W.contents out.old) (W.contents out.new)) }
+    ensures refused { IfErr result RefusesPrint }
 {
     match print_each(rt, alloc, workers, cursor, shown, times, watch, out)? {
-        0 => print(out, &"unchanged\n"),
+        0 => Ok(print_text(out, &"unchanged\n")?),
         _ => Ok(()),
     }
 }

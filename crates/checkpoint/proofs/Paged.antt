@@ -5,7 +5,7 @@ use Rattle.std.specs.Int.{bit_at}
 use Rattle.std.specs.List.{AllByRecursion}
 use Rattle.std.proofs.lemmas.Bool.{cases_lt}
 use Rattle.std.proofs.lemmas.Bool.Decides.{eqb_tells}
-use Rattle.rrv_model.specs.declared.machine.Permissions.{Permissions}
+use Rattle.page_permissions.specs.declared.page.Permissions.{Permissions}
 use Rattle.rrv_model.specs.declared.record.PagePart.{PagePart}
 use Rattle.rrv_model.specs.Checkpoint.{entry_of, mapped_as, patched, patched_byte, patched_cell}
 use Rattle.rrv_model.specs.LineMask.{line_byte}

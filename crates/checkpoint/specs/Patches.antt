@@ -1,7 +1,7 @@
 -- Pages of a checkpoint, put into a memory one after the other: first those that it unmaps, then all others.
 use Rattle.std.specs.Prelude.{◌≡◌, ℕ, ◌/◌, ◌%◌, ◌<◌, ◌==◌, if◌then◌else◌, List, [], ◌∷◌, Option, Some, None, Result, OnOk, IfErr}
 use Rattle.rrv_model.specs.declared.limits.TheConstants.{MAX_PAGES}
-use Rattle.rrv_model.specs.declared.machine.Permissions.{Permissions}
+use Rattle.page_permissions.specs.declared.page.Permissions.{Permissions}
 use Rattle.rrv_model.specs.declared.record.PagePart.{PagePart}
 use Rattle.rrv_model.specs.declared.record.Part.{Part}
 use Rattle.rrv_model.specs.CallRows.{with_memory}

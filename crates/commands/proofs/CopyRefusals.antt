@@ -8,9 +8,9 @@ use Rattle.copying.specs.Copied.{IsFull}
 use Rattle.copying.specs.Reading.{IsUndamaged, NeedsMark}
 use Rattle.copying.specs.declared.fault.CopyFault.{CopyFault}
 use Rattle.copying.specs.declared.fault.CopyFault.TheVariants as faults
-use Rattle.stored_guests.specs.declared.refusal.Refusal.{Refusal}
-use Rattle.stored_guests.specs.Stores.{IsFailed}
-use Rattle.stored_guests.specs.Told.{copy_told}
+use Rattle.line_io.specs.declared.refusal.Refusal.{Refusal}
+use Rattle.line_io.specs.Stores.{IsFailed}
+use Rattle.line_io.specs.Told.{copy_told}
 use Rattle.commands.specs.CopyRefusals.{RefusesCopy}
 
 -- as the fault of the copy is told

@@ -6,8 +6,8 @@ use Rattle.rrv_model.specs.Recovered.{AreOld}
 use Rattle.trace_log.specs.Kept.{LogValue}
 use Rattle.copying.specs.Copied.{IsFull}
 use Rattle.copying.specs.declared.fault.CopyFault.TheVariants as copy_faults
-use Rattle.stored_guests.specs.declared.refusal.Refusal.{Refusal}
-use Rattle.stored_guests.specs.declared.refusal.Refusal.TheVariants as refusals
+use Rattle.line_io.specs.declared.refusal.Refusal.{Refusal}
+use Rattle.line_io.specs.declared.refusal.Refusal.TheVariants as refusals
 
 -- There is no next number, the store is full, it lacks the Mark that some of the copies want, a device failed, there
 -- was no memory, or its line was not taken.

@@ -3,18 +3,18 @@
 ghost use Rattle.std.specs.Prelude.{◌≡◌, IfErr, IfOk, OnOk, Some};
 ghost use Rattle.std.specs.Io.KnownBytes.{Appends};
 ghost use Rattle.commands.specs.Programs.{pages_at_start, program_line, program_text};
-ghost use Rattle.stored_guests.specs.Printed.{with_newline};
-ghost use Rattle.stored_guests.specs.Stores.{RefusesPrint};
+ghost use Rattle.line_io.specs.Printed.{with_newline};
+ghost use Rattle.line_io.specs.Stores.{RefusesPrint};
 
 use elf_load::Image;
 use guest_calls::Guest;
+use line_io::{Refusal, finish, image_in, in_blocks, print_line};
 use rrv_model::machine::Version;
 use rrv_model::refusal::Memory;
 use std::alloc::Global;
 use std::fmt;
 use std::io::Write;
 use std::rt::Files;
-use stored_guests::{Refusal, finish, image_in, in_blocks, print_line};
 use trace_text::write_word;
 
 /// The line of a program: the address of its first instruction, how many pages a guest of it has at its start, and its break there. As in

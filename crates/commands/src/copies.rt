@@ -8,20 +8,20 @@ ghost use Rattle.rrv_model.specs.Recovered.{of_guest};
 ghost use Rattle.recover.specs.Spots.{records_of, StandOn};
 ghost use Rattle.copying.specs.Copied.{copies_of, AreCopies, Copies, KeepsRecords};
 ghost use Rattle.commands.specs.CopyRefusals.{RefusesCopy};
-ghost use Rattle.showing.specs.Printed.{guest_line};
-ghost use Rattle.stored_guests.specs.Printed.{with_newline};
+ghost use Rattle.listings.specs.Printed.{guest_line};
+ghost use Rattle.line_io.specs.Printed.{with_newline};
 
 use command_line::GuestOf;
 use copying::copy_guest;
+use line_io::{Refusal, finish, guest_in, in_blocks, look_at, open_log};
+use listings::{name_of, print_guest};
 use recover::Lists;
-use showing::{name_of, print_guest};
 use std::alloc::Global;
 use std::fs;
 use std::fs::File;
 use std::io::Write;
 use std::os::unix::fs::MetadataExt;
 use std::rt::Files;
-use stored_guests::{Refusal, finish, guest_in, in_blocks, look_at, open_log};
 use trace_disk::Disk;
 use trace_log::Log;
 

@@ -1,13 +1,15 @@
 //! The line of no words: what `record`, `dump` and `verify` do, over a disk in memory.
 
+use answers::tell;
+use line_io::{Refusal, Store};
+use listings::dump;
 use recording::record_example;
 use replayer::VerifiedEnd;
-use showing::{dump, tell};
 use std::io::Write;
 use std::sync::Wait;
 use std::thread::Threads;
 use std::time::Clock;
-use stored_guests::{Refusal, Store, verified_in};
+use stored_guests::verified_in;
 use trace_disk::MemDisk;
 
 /// Prints a guest's records, and how it ends once they are verified.

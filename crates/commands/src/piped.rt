@@ -1,11 +1,11 @@
 //! Output whose reader may go away.
 
 ghost use Rattle.std.specs.Prelude.{◌≡◌, false, true};
-ghost use Rattle.stored_guests.specs.Told.{gone_told};
+ghost use Rattle.line_io.specs.Told.{gone_told};
 
+use line_io::Refusal;
 use std::io;
 use std::io::{ErrorKind, Write};
-use stored_guests::Refusal;
 
 /// A stream that keeps whether its reader went away.
 #[derive(Drop)]

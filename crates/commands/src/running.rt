@@ -10,11 +10,13 @@ use crate::checking::check;
 use crate::copies::copy;
 use crate::demonstration::demonstrate;
 use crate::piped::Piped;
+use answers::{answer, tell};
 use clap::error::ErrorKind as LineFault;
 use command_line::{DumpForm, GuestOf, Question, Request, help, line};
+use line_io::{Refusal, Shows, Terminals, make_store, open_store, print_whole};
+use listings::{dump, dump_turns, list, list_long, put_elf};
 use recording::{Outcome, record};
 use replayer::VerifiedEnd;
-use showing::{answer, dump, dump_turns, list, list_long, put_elf, tell};
 use std::alloc::Global;
 use std::convert::AsStr;
 use std::fs::File;
@@ -24,7 +26,7 @@ use std::rt::Files;
 use std::sync::Wait;
 use std::thread::Threads;
 use std::time::Clock;
-use stored_guests::{Refusal, Shows, Terminals, make_store, open_store, print_whole, verified_of};
+use stored_guests::verified_of;
 
 /// What the version says of the text that the program was built from, where that isn't known.
 const UNKNOWN_TEXT: &str = "unknown text";

@@ -5,7 +5,7 @@
 //!
 //! # Contracts
 //!
-//! - `safe_always`: over every list of events and every crash. README has it in words.
+//! - `safe_always`: over every list of events and every crash. docs/PROOFS.md has it in words.
 //! - `in_any_order`: events of all holders are a schedule, in whatever order they come, if each holder by itself may do its own, and each
 //!   event finds what it needs in the queue. What calls of the seats and of a recorder come to, their holders may do by themselves
 //!   (`turns_are_events` in commit_group, `steps_are_events` in recorder, and the laws beside them).

@@ -1,7 +1,7 @@
 -- Parts of an image: some of its loads, some of their pages.
 use Rattle.std.proofs.Common.{ℕ, ◌/◌, ◌&&◌, if◌then◌else◌, List, [], Some}
 use Rattle.std.specs.Prelude.{nat_le, nat_lt}
-use Rattle.rrv_model.specs.declared.machine.Permissions.{Permissions}
+use Rattle.page_permissions.specs.declared.page.Permissions.{Permissions}
 use Rattle.rrv_model.specs.Memory.{Memory, stored, page_bytes}
 use Rattle.rrv_model.specs.Elf.{Header, loads}
 use Rattle.guest_pages.specs.Mapping.{covered_cell}

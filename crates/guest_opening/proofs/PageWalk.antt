@@ -4,7 +4,7 @@ use Rattle.std.specs.Prelude.{nat_lt, nat_le}
 use Rattle.std.specs.List.{list_any}
 use Rattle.std.proofs.lemmas.Bool.Decides.{nat_tests}
 use Rattle.std.proofs.lemmas.Bool.{or_right}
-use Rattle.rrv_model.specs.declared.machine.Permissions.{Permissions}
+use Rattle.page_permissions.specs.declared.page.Permissions.{Permissions}
 use Rattle.rrv_model.specs.Memory.{Memory, Cell, is_within, is_mapped, page_count, pages_below, page_bytes}
 use Rattle.rrv_model.specs.Elf.{Header, touches, loads, touched_below, IsLoad}
 use Rattle.guest_pages.specs.declared.fault.PageFault.{PageFault}

@@ -1,6 +1,6 @@
 -- What the loading of an image does to a memory.
 use Rattle.std.specs.Prelude.{◌≡◌, ℕ, true, false, ◌/◌, ◌||◌, if◌then◌else◌, List, take, drop, Some, Result, OnOk}
-use Rattle.rrv_model.specs.declared.machine.Permissions.{Permissions}
+use Rattle.page_permissions.specs.declared.page.Permissions.{Permissions}
 use Rattle.rrv_model.specs.Memory.{Memory, mapped, page_bytes}
 use Rattle.rrv_model.specs.CallRows.{has_flag}
 use Rattle.rrv_model.specs.Elf.{Header, touches}

@@ -9,7 +9,7 @@ use Rattle.std.specs.Option.{option_map}
 use Rattle.std.specs.List.{AllByRecursion}
 use Rattle.rrv_model.specs.declared.limits.TheConstants.{MAX_PAGES}
 use Rattle.rrv_model.specs.Memory.{Memory, Cell, stored, is_within, with_byte, page_count}
-use Rattle.rrv_model.specs.declared.machine.Permissions.{Permissions}
+use Rattle.page_permissions.specs.declared.page.Permissions.{Permissions}
 use Rattle.page_tables.specs.Contents.{PageValue, contents_of}
 use Rattle.page_tables.specs.Changes.{written, with_bytes, IsWritten as IsWrittenInto}
 use Rattle.guest_pages.specs.Pages.{IsWritten}

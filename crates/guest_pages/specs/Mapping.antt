@@ -2,7 +2,7 @@
 use Rattle.std.specs.Prelude.{◌≡◌, ℕ, zero, suc, ◌+◌, ◌*◌, ◌<◌, ◌≤◌, ◌||◌, if◌then◌else◌, List, [], ◌∷◌, ◌++◌, Option, Some, None, is_some, Contains, replicate}
 use Rattle.std.specs.List.Sorted.{IsStrictlyIncreasing}
 use Rattle.rrv_model.specs.declared.limits.TheConstants.{MAX_PAGES}
-use Rattle.rrv_model.specs.declared.machine.Permissions.{Permissions}
+use Rattle.page_permissions.specs.declared.page.Permissions.{Permissions}
 use Rattle.rrv_model.specs.Memory.{Memory, Cell, is_within, page_bytes, page_count}
 use Rattle.page_tables.specs.Contents.{PageValue, contents_of}
 use Rattle.page_tables.specs.Changes.{IsOwn}

@@ -22,7 +22,7 @@ use Rattle.rrv_model.specs.declared.machine.Version.{Version}
 use Rattle.rrv_model.specs.State.{IsThread, IsWaiting, live_threads}
 use Rattle.guest_threads.specs.Threads.{thread_map}
 use Rattle.guest_threads.specs.ThreadParts.{entries_of, tids_rise, waits_in, order_fits, Fits, MakeThreads}
-use Rattle.rrv_model.proofs.Threads.{is_at_nat}
+use Rattle.page_permissions.proofs.Keys.{is_at_nat}
 use Rattle.rrv_model.proofs.ThreadRules.{same_tid, tied, by_cmp, unequal}
 use Rattle.guest_threads.proofs.ByTid.{entry_at, get_thread, none_later, counted}
 

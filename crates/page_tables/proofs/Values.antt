@@ -6,8 +6,8 @@ use Rattle.std.proofs.lemmas.List.{get_or_past}
 use Rattle.std.proofs.Math.Dec.{eqb}
 use Rattle.std.specs.Option.{option_map}
 use Rattle.slab.specs.Slab.{Slab, get as slab_get}
-use Rattle.rrv_model.proofs.Threads.{is_at_nat}
-use Rattle.rrv_model.specs.declared.machine.Permissions.{Permissions}
+use Rattle.page_permissions.proofs.Keys.{is_at_nat}
+use Rattle.page_permissions.specs.declared.page.Permissions.{Permissions}
 use Rattle.page_tables.specs.declared.table.TheConstants.{NO_PAGE}
 use Rattle.page_tables.specs.declared.table.Entry.{Entry}
 use Rattle.page_tables.specs.declared.table.Table.{Table}

@@ -1,6 +1,6 @@
 -- What bytes are asked for.
 use Rattle.std.specs.Prelude.{Bool}
-use Rattle.rrv_model.specs.declared.machine.Permissions.{Permissions}
+use Rattle.page_permissions.specs.declared.page.Permissions.{Permissions}
 use Rattle.page_tables.specs.declared.page_tables.Access.{Access}
 use Rattle.page_tables.specs.declared.page_tables.Access.TheVariants.{Read, Execute}
 

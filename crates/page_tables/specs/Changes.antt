@@ -2,7 +2,7 @@
 use Rattle.std.specs.Prelude.{◌≡◌, ◌≢◌, ℕ, ◌+◌, ◌<◌, ◌≤◌, ◌^◌, ◌==◌, Bool, true, false, if◌then◌else◌, List, [], ◌∷◌, Option, Some, None, IsSome, IfSome, IsSomeAnd, Result, OnOk, OnErr, IfErr, slice_set, replicate}
 use Rattle.std.specs.List.{list_any}
 use Rattle.std.specs.Option.{option_map}
-use Rattle.rrv_model.specs.declared.machine.Permissions.{Permissions}
+use Rattle.page_permissions.specs.declared.page.Permissions.{Permissions}
 use Rattle.page_tables.specs.declared.pool.Page.{Page}
 use Rattle.page_tables.specs.declared.page_tables.PageView.{PageView}
 use Rattle.page_tables.specs.declared.page_tables.PutFault.{PutFault}

@@ -9,7 +9,7 @@ ghost use Rattle.page_tables.specs.Table.{entry_at, has_leaf, SetsEntry};
 
 use crate::pool::{Page, add, fill_page, lower};
 use crate::table::{Entry, NO_PAGE, Table};
-use rrv_model::machine::Permissions;
+use page_permissions::Permissions;
 use slab::Slab;
 
 /// Takes the page at a number out of a table, where there is one.

@@ -11,7 +11,7 @@ ghost use Rattle.page_tables.specs.Table.{entry_at, has_leaf, Extends};
 use crate::entries::{attach, detach};
 use crate::pool::{Page, copy_bytes, reserve_pages};
 use crate::table::{NO_PAGE, Table};
-use rrv_model::machine::Permissions;
+use page_permissions::Permissions;
 use slab::Slab;
 use std::alloc::{AllocError, Global};
 

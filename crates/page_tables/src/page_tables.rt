@@ -16,7 +16,7 @@ use crate::pool::{
 };
 use crate::snapshots::{free_number, kept_under, store, take};
 use crate::table::{Entry, Table};
-use rrv_model::machine::Permissions;
+use page_permissions::Permissions;
 use slab::Slab;
 use std::alloc::{AllocError, Global};
 use std::marker::Model;

@@ -3,7 +3,7 @@
 ghost use Rattle.std.specs.Prelude.{◌≡◌, ◌<◌, length, slice_set};
 ghost use Rattle.page_tables.specs.Directory.{AreThere, AreApart, leaf_count};
 
-use rrv_model::machine::Permissions;
+use page_permissions::Permissions;
 use std::alloc::{AllocError, Global};
 
 /// What a table has at a page number.

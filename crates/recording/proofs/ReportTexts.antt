@@ -10,7 +10,7 @@ use Rattle.guest_calls.specs.Guest.{GuestValue, state_of}
 use Rattle.end_text.specs.Ends.{end_lines}
 use Rattle.session.specs.declared.report.GuestReport.{GuestReport}
 use Rattle.trace_text.specs.Lines.{report_line}
-use Rattle.stored_guests.specs.Printed.{with_newline}
+use Rattle.line_io.specs.Printed.{with_newline}
 use Rattle.recording.specs.Reports.{guest_told, guests_told, has_left}
 
 module _ (naming : ℕ → List ℕ) where

@@ -1,8 +1,8 @@
 -- The choices in a file.
 use Rattle.std.specs.Prelude.{ℕ, List}
 use Rattle.choices.specs.ChoiceText.{IsFirstBad}
-use Rattle.stored_guests.specs.declared.refusal.Refusal.{Refusal}
-use Rattle.stored_guests.specs.declared.refusal.Refusal.TheVariants as refusals
+use Rattle.line_io.specs.declared.refusal.Refusal.{Refusal}
+use Rattle.line_io.specs.declared.refusal.Refusal.TheVariants as refusals
 
 -- why a text of choices is refused: a line of it is none, and the first such is named
 abbrev pub RefusesChoices : List ℕ → Refusal → Type 0

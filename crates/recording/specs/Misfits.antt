@@ -5,7 +5,7 @@ use Rattle.choices.specs.declared.schedule.Misfit.{Misfit}
 use Rattle.session.specs.declared.job.Job.{Job}
 use Rattle.recording.specs.declared.misfits.GuestMisfit.{GuestMisfit}
 use Rattle.recording.specs.Limits.{Limit}
-use Rattle.stored_guests.specs.Printed.{with_newline}
+use Rattle.line_io.specs.Printed.{with_newline}
 
 -- as in `g0: choice 3 doesn't fit: thread 9 does not run`
 abbrev pub misfit_text : (name : List ℕ) → Misfit → List ℕ

@@ -8,7 +8,7 @@ use Rattle.guest_calls.specs.Guest.{GuestValue, state_of}
 use Rattle.session.specs.declared.report.GuestReport.{GuestReport}
 use Rattle.end_text.specs.Ends.{end_lines}
 use Rattle.trace_text.specs.Lines.{report_line}
-use Rattle.stored_guests.specs.Printed.{with_newline}
+use Rattle.line_io.specs.Printed.{with_newline}
 
 -- a guest with so many live threads exited when the last of them did, and not by `exit_group`
 abbrev pub has_left : Option GuestEnd → (live : ℕ) → Bool

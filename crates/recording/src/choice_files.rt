@@ -5,10 +5,10 @@ ghost use Rattle.choices.specs.ChoiceText.{text_says};
 ghost use Rattle.recording.specs.ChoiceFiles.{RefusesChoices};
 
 use choices::{BadChoices, choices_in};
+use line_io::{Refusal, read_file};
 use rrv_model::record::Choice;
 use std::alloc::Global;
 use std::rt::Files;
-use stored_guests::{Refusal, read_file};
 
 /// Bytes of a file of choices at most.
 const MAX_CHOICES: u32 = 16_777_216;

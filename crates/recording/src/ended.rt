@@ -3,6 +3,7 @@
 use crate::names::{Names, name_of};
 use crate::reports::print_report;
 use guest_calls::Outside;
+use line_io::{Refusal, Store, end_open_line, finish, in_blocks, opened};
 use replayer::VerifiedEnd;
 use rrv_model::sink::Sink;
 use serial_sched::Chooser;
@@ -12,9 +13,7 @@ use std::io;
 use std::io::Write;
 use std::thread::Threads;
 use std::time::Clock;
-use stored_guests::{
-    Refusal, Store, StoredGuest, end_open_line, finish, in_blocks, opened, verified,
-};
+use stored_guests::{StoredGuest, verified};
 use trace_disk::Disk;
 use trace_log::Log;
 

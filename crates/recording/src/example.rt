@@ -6,6 +6,7 @@ use crate::programs::record_images;
 use crate::shared::Shared;
 use command_line::Then;
 use elf_load::Image;
+use line_io::{Refusal, Store, image_of, opened};
 use rrv_model::machine::Version;
 use std::alloc::Global;
 use std::io::Write;
@@ -13,7 +14,6 @@ use std::sync::Wait;
 use std::sync::atomic::AtomicBool;
 use std::thread::Threads;
 use std::time::{Clock, Instant};
-use stored_guests::{Refusal, Store, image_of, opened};
 use trace_disk::MemDisk;
 use trace_log::Log;
 

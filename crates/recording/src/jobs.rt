@@ -2,7 +2,7 @@
 
 ghost use Rattle.std.specs.Prelude.{◌≡◌, ◌≢◌, ◌^◌, ◌≤◌, IfErr, IfOk, length};
 ghost use Rattle.recording.specs.Jobs.{AreJobs, IsJob, choices_at, limit_at, list_at, lists_of, plan_at, terms_of};
-ghost use Rattle.stored_guests.specs.Told.{session_told};
+ghost use Rattle.line_io.specs.Told.{session_told};
 
 use crate::limited::Limited;
 use crate::names::name_of;
@@ -11,6 +11,7 @@ use choices::Schedule;
 use command_line::Then;
 use elf_load::Image;
 use host::{HostOutside, StreamSink, Streams, opening_random};
+use line_io::Refusal;
 use rrv_model::record::Choice;
 use rrv_model::refusal::Memory;
 use session::{Job, SessionFault};
@@ -18,7 +19,6 @@ use std::alloc::Global;
 use std::io::Write;
 use std::sync::Mutex;
 use std::time::Clock;
-use stored_guests::Refusal;
 
 /// A guest whose threads run by choices and then in turns, with the host as its environment, and whose output goes to the two streams.
 pub(crate) type HostJob<'a, 's, R, O, E> = Job<

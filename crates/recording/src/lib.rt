@@ -19,7 +19,7 @@
 //! - `print_reports` (private): if it returns Ok, a writer that tells its bytes got just the line of each reported guest and,
 //!   unless its last thread exited, what ended it. What is reported of the guests beside one whose output failed is tested.
 //! - `upgraded` (private): the log holds the Mark if the line asks for that, and else it is as it was. It refuses only if that is
-//!   asked for, as `marked` of `stored_guests` does. What is recorded after `--upgrade` is recorded to such a log.
+//!   asked for, as `marked` of `line_io` does. What is recorded after `--upgrade` is recorded to such a log.
 //! - `Outcome::of_reports` (private): that a guest failed is told exactly if that is asked for, and one ended otherwise than by an
 //!   exit with 0.
 #![tactic(auto)]

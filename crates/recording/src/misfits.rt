@@ -4,19 +4,19 @@ ghost use Rattle.std.specs.Prelude.{◌≡◌, IfErr, IfOk, OnOk, Some};
 ghost use Rattle.std.specs.Io.KnownBytes.{Appends};
 ghost use Rattle.recording.specs.Misfits.{misfit_lines, misfit_text, misfits_from};
 ghost use Rattle.recording.specs.Names.{name_by};
-ghost use Rattle.stored_guests.specs.Printed.{with_newline};
-ghost use Rattle.stored_guests.specs.Stores.{RefusesPrint};
+ghost use Rattle.line_io.specs.Printed.{with_newline};
+ghost use Rattle.line_io.specs.Stores.{RefusesPrint};
 
 use crate::limited::Limited;
 use crate::names::{Names, name_of};
 use choices::Misfit;
 use guest_calls::Outside;
+use line_io::{Refusal, print_line};
 use rrv_model::sink::Sink;
 use session::Job;
 use std::alloc::Global;
 use std::fmt;
 use std::io::Write;
-use stored_guests::{Refusal, print_line};
 
 /// A choice that didn't fit, of the guest at this place of the line.
 #[derive(Clone, Copy)]

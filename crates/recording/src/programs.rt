@@ -6,7 +6,7 @@ ghost use Rattle.serial_sched.specs.Slices.{IsQuantum};
 ghost use Rattle.session.specs.Sessions.{IsLeft};
 ghost use Rattle.recording.specs.Jobs.{terms_of, version_in};
 ghost use Rattle.recording.specs.Recorded.{HasRecorded};
-ghost use Rattle.stored_guests.specs.Stores.{RefusesMark};
+ghost use Rattle.line_io.specs.Stores.{RefusesMark};
 ghost use Rattle.trace_log.specs.Committed.{HasMarked};
 
 use crate::choice_files::choices_in_files;
@@ -23,6 +23,9 @@ use command_line::{Recording, seed};
 use elf_load::Image;
 use guest_calls::Guest;
 use host::Streams;
+use line_io::{
+    Refusal, Terminals, end_open_line, finish, images_in, in_blocks, input_in, marked, open_log,
+};
 use progress::Clearing;
 use rrv_model::machine::Version;
 use rrv_model::record::Choice;
@@ -35,9 +38,6 @@ use std::sync::atomic::AtomicBool;
 use std::sync::{Mutex, Wait};
 use std::thread::Threads;
 use std::time::{Clock, Instant};
-use stored_guests::{
-    Refusal, Terminals, end_open_line, finish, images_in, in_blocks, input_in, marked, open_log,
-};
 use trace_disk::{Disk, FileDisk};
 use trace_log::Log;
 

@@ -6,18 +6,18 @@ ghost use Rattle.std.specs.Io.KnownBytes.{Appends};
 ghost use Rattle.guest_calls.specs.Guest.{state_of};
 ghost use Rattle.recording.specs.Names.{name_by};
 ghost use Rattle.recording.specs.Reports.{guest_told, guests_told, has_left};
-ghost use Rattle.stored_guests.specs.Stores.{RefusesPrint};
+ghost use Rattle.line_io.specs.Stores.{RefusesPrint};
 
 use crate::limited::Limited;
 use crate::names::{Names, name_of};
 use end_text::EndLines;
 use guest_calls::{Guest, Outside};
+use line_io::{OutputFailed, Refusal, print_line, print_text};
 use rrv_model::machine::GuestEnd;
 use rrv_model::sink::Sink;
 use session::{GuestReport, Job};
 use std::alloc::Global;
 use std::io::Write;
-use stored_guests::{OutputFailed, Refusal, print_line, print_text};
 use trace_text::ReportLine;
 
 /// The tids of the threads that the jobs' choosers chose last, in the jobs' order.

@@ -7,7 +7,7 @@ use Rattle.rrv_model.specs.Recording.{EndsIn, frames_of, items_of}
 use Rattle.rrv_model.specs.StateAt.{total}
 use Rattle.rrv_model.proofs.RunLaws.{items-append}
 use Rattle.serial_sched.specs.LastThread.{last_tid}
-use Rattle.replayer.specs.declared.fault.VerifyFault.{VerifyFault}
+use Rattle.faults.specs.declared.replay.VerifyFault.{VerifyFault}
 use Rattle.replayer.specs.Kept.{instructions_in}
 use Rattle.replayer.specs.LastThread.{thread_behind}
 use Rattle.replayer.specs.Refusals.{RefusesNext, RefusesVerify, TakesMemory}

@@ -16,8 +16,8 @@ use Rattle.rrv_model.specs.StateAt.{StateAtFrom, total}
 use Rattle.rrv_model.proofs.RunLaws.{at_total_append, frames-append, items-append}
 use Rattle.guest_calls.specs.Guest.{state_of}
 use Rattle.serial_sched.specs.LastThread.{last_from, last_tid, thread_after}
-use Rattle.replayer.specs.declared.fault.VerifyFault.{VerifyFault}
-use Rattle.replayer.specs.declared.fault.VerifyFault.TheVariants as faults
+use Rattle.faults.specs.declared.replay.VerifyFault.{VerifyFault}
+use Rattle.faults.specs.declared.replay.VerifyFault.TheVariants as faults
 use Rattle.replayer.specs.declared.recording.Mark.{Mark}
 use Rattle.replayer.specs.declared.verified_end.VerifiedEnd.{VerifiedEnd}
 use Rattle.replayer.specs.declared.walk.Walk.{Walk}

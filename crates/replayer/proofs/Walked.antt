@@ -15,8 +15,8 @@ use Rattle.rrv_model.specs.Recording.{EndsIn, IsNumbered, IsRecording, Starts, i
 use Rattle.elf_load.proofs.Accepted.{accepted, file_limit}
 use Rattle.rrv_model.proofs.RecordingLaws.{beginnings_are_recordings}
 use Rattle.rrv_model.proofs.RunLaws.{items-append, numbered-append}
-use Rattle.replayer.specs.declared.fault.VerifyFault.{VerifyFault}
-use Rattle.replayer.specs.declared.fault.VerifyFault.TheVariants as faults
+use Rattle.faults.specs.declared.replay.VerifyFault.{VerifyFault}
+use Rattle.faults.specs.declared.replay.VerifyFault.TheVariants as faults
 use Rattle.rrv_model.specs.Standing.{StandsBehind}
 use Rattle.rrv_model.proofs.Standing.{next_behind, opening_behind, starts_behind}
 use Rattle.replayer.specs.Walks.{LeadsOn, Stands}

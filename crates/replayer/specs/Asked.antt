@@ -1,6 +1,6 @@
 -- What asking a source for records leaves of it.
 use Rattle.std.specs.Prelude.{◌≡◌, ◌↔◌, ◌||◌, Result, IfErr}
-use Rattle.replayer.specs.declared.fault.VerifyFault.{VerifyFault}
+use Rattle.faults.specs.declared.replay.VerifyFault.{VerifyFault}
 use Rattle.replayer.specs.declared.source.Source.{Ghosts}
 use Rattle.replayer.specs.Sourced.{NamesWithheld, ends_withheld}
 

@@ -6,8 +6,8 @@ use Rattle.rrv_model.specs.declared.record.Frame.{Frame}
 use Rattle.rrv_model.specs.declared.record.Opening.{Opening}
 use Rattle.rrv_model.specs.declared.sink.Sink.{Ghosts}
 use Rattle.rrv_model.specs.State.{State}
-use Rattle.replayer.specs.declared.fault.OutputFault.{OutputFault}
-use Rattle.replayer.specs.declared.fault.OutputFault.TheVariants as faults
+use Rattle.faults.specs.declared.replay.OutputFault.{OutputFault}
+use Rattle.faults.specs.declared.replay.OutputFault.TheVariants as faults
 use Rattle.outcomes.specs.Failures.{HasFailed}
 use Rattle.rrv_model.specs.Output.{Chunk, Output, PutFrom, spread}
 

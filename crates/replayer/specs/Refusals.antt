@@ -14,8 +14,8 @@ use Rattle.serial_sched.specs.Follows.{FrameMeetsNoMemory}
 use Rattle.guest_calls.specs.Openings.{RefusesOpening}
 use Rattle.guest_calls.specs.declared.fault.OpeningFault.{OpeningFault}
 use Rattle.guest_calls.specs.declared.fault.OpeningFault.TheVariants as opening_faults
-use Rattle.replayer.specs.declared.fault.VerifyFault.{VerifyFault}
-use Rattle.replayer.specs.declared.fault.VerifyFault.TheVariants as faults
+use Rattle.faults.specs.declared.replay.VerifyFault.{VerifyFault}
+use Rattle.faults.specs.declared.replay.VerifyFault.TheVariants as faults
 
 -- what is told of an opening from which no guest starts
 abbrev pub opening_told : OpeningFault → VerifyFault

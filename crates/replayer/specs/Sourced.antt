@@ -7,8 +7,8 @@ use Rattle.rrv_model.specs.Recording.{EndsIn, IsRecording, frames_of, items_of}
 use Rattle.rrv_model.specs.StateAt.{total}
 use Rattle.guest_calls.specs.Guest.{state_of}
 use Rattle.serial_sched.specs.LastThread.{last_tid}
-use Rattle.replayer.specs.declared.fault.VerifyFault.{VerifyFault}
-use Rattle.replayer.specs.declared.fault.VerifyFault.TheVariants as faults
+use Rattle.faults.specs.declared.replay.VerifyFault.{VerifyFault}
+use Rattle.faults.specs.declared.replay.VerifyFault.TheVariants as faults
 use Rattle.recover.specs.declared.fault.ReadFault.{ReadFault}
 use Rattle.recover.specs.declared.fault.ReadFault.TheVariants as read_faults
 use Rattle.replayer.specs.declared.verified_end.VerifiedEnd.{VerifiedEnd}

@@ -1,7 +1,7 @@
 //! Asks a source for its records.
 
 ghost use Rattle.std.specs.Prelude.{◌≡◌, ◌⊎◌, ◌<◌, IfErr, IfOk, Some, length, slice_get};
-ghost use Rattle.replayer.specs.declared.fault.VerifyFault.TheVariants as verify_faults;
+ghost use Rattle.faults.specs.declared.replay.VerifyFault.TheVariants as verify_faults;
 ghost use Rattle.replayer.specs.Asked.{AsksSource};
 
 use crate::fault::VerifyFault;

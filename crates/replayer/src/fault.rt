@@ -2,121 +2,16 @@
 
 ghost use Rattle.std.specs.Prelude.{◌≡◌};
 ghost use Rattle.replayer.specs.Refusals.{opening_told};
-ghost use Rattle.replayer.specs.declared.fault.ClaimFault.TheVariants as claim_faults;
-ghost use Rattle.replayer.specs.declared.fault.OutputFault.TheVariants as output_faults;
-ghost use Rattle.replayer.specs.declared.fault.VerifyFault.TheVariants as verify_faults;
 
+pub use faults::{ClaimFault, OutputFault, VerifyFault};
 use guest_calls::OpeningFault;
-use rrv_model::refusal;
-use rrv_model::sink::SinkError;
-use std::alloc::{AllocError, AllocFailed};
-use thiserror::Error;
 
-/// Why records are no recording, by the first that is bad or isn't read.
-#[derive(Clone, Copy, Debug, PartialEq, Eq, Error)]
-pub enum VerifyFault {
-    /// A record doesn't follow from those before it.
-    #[error("record {index} does not replay")]
-    Mismatch { index: usize },
-    /// The parts of which this record is the last don't describe the state there.
-    #[error("checkpoint {index} is wrong")]
-    BadCheckpoint { index: usize },
-    /// The first record is no opening of a guest.
-    #[error("bad opening")]
-    BadOpening,
-    /// The source gave no record here.
-    #[error("record {index} unreadable")]
-    Unreadable { index: usize },
-    /// A growth was refused.
-    #[error("out of memory")]
-    Memory,
-}
-
-impl From<OpeningFault> for VerifyFault {
-    ghost from_gives = { λ fault e. e ≡ opening_told fault };
-
-    fn from(fault: OpeningFault) -> Self {
-        match fault {
-            OpeningFault::BadOpening => VerifyFault::BadOpening,
-            OpeningFault::Memory => VerifyFault::Memory,
-        }
-    }
-}
-
-impl From<AllocError> for VerifyFault {
-    ghost from_gives = { λ _ e. e ≡ verify_faults.Memory };
-
-    fn from(_: AllocError) -> Self {
-        VerifyFault::Memory
-    }
-}
-
-impl<T: Drop> From<AllocFailed<T>> for VerifyFault {
-    ghost from_gives = { λ _ e. e ≡ verify_faults.Memory };
-
-    fn from(_: AllocFailed<T>) -> Self {
-        VerifyFault::Memory
-    }
-}
-
-impl From<refusal::Memory> for VerifyFault {
-    ghost from_gives = { λ _ e. e ≡ verify_faults.Memory };
-
-    fn from(_: refusal::Memory) -> Self {
-        VerifyFault::Memory
-    }
-}
-
-/// Why checkpoints among records claim nothing of where a guest stands behind them.
-#[derive(Clone, Copy, Debug, PartialEq, Eq, Error)]
-pub enum ClaimFault {
-    /// A record can't lead on, whatever the state before it is.
-    #[error("record leads nowhere")]
-    LeadsNowhere,
-    /// A growth was refused.
-    #[error("out of memory")]
-    Memory,
-}
-
-impl<T: Drop> From<AllocFailed<T>> for ClaimFault {
-    ghost from_gives = { λ _ e. e ≡ claim_faults.Memory };
-
-    fn from(_: AllocFailed<T>) -> Self {
-        ClaimFault::Memory
-    }
-}
-
-impl From<refusal::Memory> for ClaimFault {
-    ghost from_gives = { λ _ e. e ≡ claim_faults.Memory };
-
-    fn from(_: refusal::Memory) -> Self {
-        ClaimFault::Memory
-    }
-}
-
-/// Why not all output was put out.
-#[derive(Clone, Copy, Debug, PartialEq, Eq, Error)]
-pub enum OutputFault {
-    /// The sink took no byte.
-    #[error("output failed")]
-    SinkFailed,
-    /// A growth was refused.
-    #[error("out of memory")]
-    Memory,
-}
-
-impl From<SinkError> for OutputFault {
-    ghost from_gives = { λ _ e. e ≡ output_faults.SinkFailed };
-
-    fn from(_: SinkError) -> Self {
-        OutputFault::SinkFailed
-    }
-}
-
-impl From<refusal::Memory> for OutputFault {
-    ghost from_gives = { λ _ e. e ≡ output_faults.Memory };
-
-    fn from(_: refusal::Memory) -> Self {
-        OutputFault::Memory
+/// Why records are no recording from whose first no guest starts.
+pub(crate) fn of_opening(fault: OpeningFault) -> VerifyFault
+    ensures { result ≡ opening_told fault }
+{
+    match fault {
+        OpeningFault::BadOpening => VerifyFault::BadOpening,
+        OpeningFault::Memory => VerifyFault::Memory,
     }
 }

@@ -30,8 +30,7 @@
 //!   withheld a record (`Source::withheld`), and those before it are a recording. It names that one, of a source that says
 //!   which (`Source::withheld_at`), as the program's own over a store does. So if none is withheld it returns what `verify`
 //!   returns, but that `Memory` may come for any record. Of a source that isn't honest, what it returns is of some recording of
-//!   as many records. `verify_source_watched` does the same; what it reports to its watch stands in no clause:
-//!   `tools/progress_cases` sees it at each record.
+//!   as many records. `verify_source_watched` does the same; what it reports to its watch stands in no clause.
 //! - `Source::ahead` reads a record before it is asked for: one that isn't given so is not withheld. `verify_source` doesn't call it;
 //!   `spans` reads with it ahead of the records that are followed.
 //! - `verify_source_end` verifies in the same way, with the same refusals, and returns how many records and instructions there

@@ -75,7 +75,9 @@ impl Track {
         let mut left = self.frames.as_slice();
         while let [frame, after @ ..] = left {
             follow_whole(alloc, &mut guest, frame)?;
-            put_frame(rt, sink, &guest, frame)?;
+            let Ok(()) = put_frame(rt, sink, &guest, frame) else {
+                return Err(OutputFault::SinkFailed);
+            };
             left = after;
         }
         Ok(())

@@ -3,7 +3,7 @@
 ghost use Rattle.std.specs.Prelude.{◌≡◌, ◌<◌, ◌≤◌, ◌^◌, ◌*◌, List, true, IfErr, IfOk, OnOk, Some, length, slice_get};
 ghost use Rattle.rrv_model.specs.declared.record.Record.{Record};
 ghost use Rattle.guest_calls.specs.Guest.{state_of};
-ghost use Rattle.replayer.specs.declared.fault.VerifyFault.TheVariants as faults;
+ghost use Rattle.faults.specs.declared.replay.VerifyFault.TheVariants as faults;
 ghost use Rattle.replayer.specs.Asked.{AsksSource, TellsSource};
 ghost use Rattle.replayer.specs.Sourced.{Followed, FollowsAll, FollowsGiven, IsEndOf, RefusesGiven, RefusesSource};
 ghost use Rattle.replayer.specs.Refusals.{RefusesVerify, TakesMemory};
@@ -38,7 +38,7 @@ impl Watch for Unwatched {
 /// checkpoint against the state there. `BadOpening` is a list that begins with no opening from which a guest starts.
 /// `Mismatch` names the first record that doesn't follow from those before it, and `BadCheckpoint` says so of one that
 /// ends a checkpoint. `Memory` is a growth that was refused, which comes only for an opening that takes memory.
-/// Tests call it; the program calls `verify_source_watched` and `verify_source_end`.
+/// Tests call it; the program verifies in spans.
 pub fn verify(alloc: Global, records: &[Record]) -> Result<Verified, VerifyFault>
     ensures keeps { IfOk result (λ verified. Keeps verified records.now) }
     ensures refused { IfErr result (λ e. RefusesVerify e records.now) }

@@ -2,7 +2,9 @@
 
 ghost use Rattle.std.specs.Prelude.{◌≡◌, ◌≤◌, ◌^◌, ◌*◌, ◌+◌, ◌++◌, ◌∷◌, [], true, IfErr, IfOk, IsErrOf, OnErr, OnOk, length};
 ghost use Rattle.rrv_model.specs.declared.record.Item.TheVariants as items;
+ghost use Rattle.rrv_model.specs.declared.record.Record.{Record};
 ghost use Rattle.rrv_model.specs.Checkpoint.{Describes};
+ghost use Rattle.rrv_model.specs.Opening.{Opens};
 ghost use Rattle.rrv_model.specs.Recording.{EndsIn};
 ghost use Rattle.rrv_model.specs.Standing.{Leads};
 ghost use Rattle.guest_calls.specs.Guest.{state_of};
@@ -12,7 +14,7 @@ ghost use Rattle.replayer.specs.Refusals.{CheckpointRefused, FrameRefused, PartR
 ghost use Rattle.replayer.specs.LastThread.{thread_behind};
 ghost use Rattle.replayer.specs.Walks.{LeadsOn, Stands};
 
-use crate::fault::VerifyFault;
+use crate::fault::{VerifyFault, of_opening};
 use crate::pair::Pair;
 use crate::recording::Mark;
 use guest_calls::Guest;
@@ -37,6 +39,18 @@ pub(crate) struct Walk {
     pub(crate) last: u32,
 }
 
+/// A guest that starts from an opening.
+fn started(alloc: Global, opening: &Opening) -> Result<Guest, VerifyFault>
+    ensures opens { IfOk result (λ guest. Opens opening.now (state_of guest)) }
+    ensures refused { IfErr result (λ e. (r : Record) → r.index ≡ 0 → r.item ≡ items.Opening opening.now
+        → RefusesFirst e r) }
+{
+    match Guest::start(alloc, opening) {
+        Ok(guest) => Ok(guest),
+        Err(fault) => Err(of_opening(fault)),
+    }
+}
+
 /// The walk behind a first record, which is an opening of index 0.
 pub(crate) fn open_first(alloc: Global, first: &Record, keeps: bool) -> Result<Walk, VerifyFault>
     ensures stands { IfOk result (λ w.
@@ -57,8 +71,8 @@ pub(crate) fn open_first(alloc: Global, first: &Record, keeps: bool) -> Result<W
     let Item::Opening(opening) = &first.item else {
         return Err(VerifyFault::BadOpening);
     };
-    let guest = Guest::start(alloc, opening)?;
-    let base = Guest::start(alloc, opening)?;
+    let guest = started(alloc, opening)?;
+    let base = started(alloc, opening)?;
     Ok(Walk {
         pair: Pair::of(guest, base),
         parts: Vec::new(alloc),

@@ -6,8 +6,8 @@ ghost use Rattle.guest_calls.specs.Guest.{state_of};
 ghost use Rattle.replayer.specs.Verified.{RanFromLast};
 ghost use Rattle.reverse_step.specs.Changes.{IsLastChange, IsNextChange};
 
-use crate::fault::SeekFault;
 use crate::searching::{SearchWatch, first_in, last_in, last_in_spans, spans_before};
+use faults::SeekFault;
 use guest_calls::Guest;
 use replayer::{Place, Verified};
 use rrv_model::refusal::Memory;

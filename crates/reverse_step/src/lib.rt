@@ -26,9 +26,8 @@
 #![tactic(auto)]
 
 mod cursor;
-mod fault;
 mod searching;
 
 pub use cursor::Cursor;
-pub use fault::SeekFault;
+pub use faults::SeekFault;
 pub use searching::SearchWatch;

@@ -5,10 +5,10 @@
 
 use commands::{report_unread, run_on};
 use host::Patient;
+use line_io::Terminals;
 use std::io::IsTerminal;
 use std::process::ExitCode;
 use std::{env, io};
-use stored_guests::Terminals;
 use text_sum::TEXT_SUM;
 
 mod text_sum;

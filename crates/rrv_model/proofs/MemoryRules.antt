@@ -6,7 +6,7 @@ use Rattle.std.specs.List.{AllByRecursion}
 use Rattle.std.proofs.lemmas.Bool.Decides.{nat_tests}
 use Rattle.std.proofs.lemmas.List.{get_or_past}
 use Rattle.std.proofs.lemmas.List.Elements.{All-nil, All-cons}
-use Rattle.rrv_model.specs.declared.machine.Permissions.{Permissions}
+use Rattle.page_permissions.specs.declared.page.Permissions.{Permissions}
 use Rattle.rrv_model.specs.declared.record.Written.{Written}
 use Rattle.rrv_model.specs.Memory.{Memory, Cell, stored, mapped, unmapped, protected, is_within, with_byte, with_permissions, is_mapped, page_count, page_bytes, byte_or_zero, bytes_at, AlikeCells, FitsCell, IsPaged, IsMemory}
 use Rattle.rrv_model.specs.Calls.{write_all}

@@ -5,7 +5,7 @@ use Rattle.std.specs.List.{list_any}
 use Rattle.std.specs.Int.{w32, to_le_bytes}
 use Rattle.std.proofs.lemmas.Bool.Decides.{nat_tests}
 use Rattle.std.proofs.lemmas.List.Elements.{All-nil, All-cons, All-append}
-use Rattle.rrv_model.specs.declared.machine.Permissions.{Permissions}
+use Rattle.page_permissions.specs.declared.page.Permissions.{Permissions}
 use Rattle.rrv_model.specs.Memory.{Memory, Cell, mapped, is_within, is_mapped, pages_below, page_count, page_bytes, AlikeCells, FitsCell, IsMemory}
 use Rattle.rrv_model.specs.Elf.{Header, loads, touches, touched_below, refusal}
 use Rattle.rrv_model.specs.Opening.{image_memory, bare_memory, memory_with_words, memory_with_name, opening_memory, name_at, stack_pointer, stack_words, random_at, loaded_byte, page_permissions, page_has, IsName}

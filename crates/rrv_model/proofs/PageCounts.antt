@@ -1,7 +1,7 @@
 -- How many pages are mapped. No count is unfolded at a number that is written out.
 use Rattle.std.proofs.Common.{◌≡◌, ℕ, zero, suc, ◌+◌, ◌-◌, ◌*◌, ◌/◌, ◌<◌, ◌≤◌, Bool, true, false, if◌then◌else◌, List, length, Option, Some, None, is_some, slice_index, arith, refl, ap, ◌∙◌, add-suc, add-zero}
 use Rattle.std.specs.List.{list_any}
-use Rattle.rrv_model.specs.declared.machine.Permissions.{Permissions}
+use Rattle.page_permissions.specs.declared.page.Permissions.{Permissions}
 use Rattle.rrv_model.specs.Memory.{Memory, Cell, stored, mapped, is_within, with_byte, is_mapped, pages_below, page_bytes}
 use Rattle.rrv_model.specs.Elf.{Header, touches, touched_below}
 use Rattle.rrv_model.proofs.ImageParts.{image_of}

@@ -1,7 +1,5 @@
 -- One thread of a state: the tids, a thread that is put there, and one that is changed there.
-use Rattle.std.proofs.Common.{◌≡◌, ℕ, ◌==◌, cond, Option, Some, None, refl, sym, ◌∙◌, ap, subst, arith}
-use Rattle.std.proofs.lemmas.Grind.{common_steps}
-use Rattle.std.specs.BTreeMap.{is_at}
+use Rattle.std.proofs.Common.{◌≡◌, ℕ, cond, Option, Some, None, refl, sym, ◌∙◌, ap, subst}
 use Rattle.std.specs.Ordering.{nat_cmp}
 use Rattle.std.specs.Cmp.{nat_cmp_total}
 use Rattle.std.specs.FinMap.{FinMap, get, insert, get-insert}
@@ -9,10 +7,6 @@ use Rattle.rrv_model.specs.declared.machine.Thread.{Thread}
 use Rattle.rrv_model.specs.State.{State, thread_at, with_thread, IsRunning}
 use Rattle.rrv_model.specs.CallRows.{change_thread}
 use Rattle.rrv_model.proofs.ThreadRules.{tied}
-
--- a query for a number finds that number alone
-pub is_at_nat : (q k : ℕ) → is_at (nat_cmp q) k ≡ (k == q)
-is_at_nat q k = grind (arith, common_steps)
 
 pub get-insert_same : (m : FinMap nat_cmp Thread) (k : ℕ) (v : Thread) → get (insert m k v) k ≡ Some v
 get-insert_same m k v = get-insert nat_cmp_total m k v k ∙ ap (λ b. cond b (Some v) (get m k)) (tied k)

@@ -5,7 +5,7 @@ use Rattle.std.specs.Prelude.{flat_map, sum_by, fold, Option, Some, None, Result
 use Rattle.std.specs.FinMap.{FinMap, get, insert, remove, len}
 use Rattle.std.specs.Ordering.{nat_cmp}
 use Rattle.std.specs.Int.{w32, w64, from_le_bytes, to_le_bytes}
-use Rattle.rrv_model.specs.declared.machine.Permissions.{Permissions}
+use Rattle.page_permissions.specs.declared.page.Permissions.{Permissions}
 use Rattle.rrv_model.specs.declared.machine.Thread.{Thread}
 use Rattle.rrv_model.specs.declared.machine.FutexWait.{FutexWait}
 use Rattle.rrv_model.specs.declared.machine.Timeout.{Timeout}

@@ -15,7 +15,7 @@ use Rattle.rrv_model.specs.State.{register, with_register}
 use Rattle.rrv_model.specs.Instructions.{Decodes}
 use Rattle.rrv_model.specs.declared.machine.FaultKind.{FaultKind}
 use Rattle.rrv_model.specs.declared.machine.FaultKind.TheVariants as faults
-use Rattle.rrv_model.specs.declared.machine.Permissions.{Permissions}
+use Rattle.page_permissions.specs.declared.page.Permissions.{Permissions}
 use Rattle.rrv_model.specs.declared.instr.Instr.{Instr}
 use Rattle.rrv_model.specs.declared.instr.Instr.TheVariants as instrs
 use Rattle.rrv_model.specs.declared.instr.StoreKind.{StoreKind}

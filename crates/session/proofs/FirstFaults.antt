@@ -5,7 +5,7 @@ use Rattle.std.proofs.lemmas.List.Elements.{Contains-append_left, Contains-appen
 use Rattle.std.specs.Prelude.{Option, Some, None}
 use Rattle.std.specs.List.{Contains}
 use Rattle.outcomes.proofs.Lists.{AllByRecursion-append, AllByRecursion-weaker}
-use Rattle.session.specs.declared.fault.SessionFault.{SessionFault}
+use Rattle.faults.specs.declared.session.SessionFault.{SessionFault}
 use Rattle.session.specs.declared.task.Worked.{Worked}
 use Rattle.session.specs.Faults.{IsLower, IsLowest, IsNoLater}
 use Rattle.session.specs.Tasks.{faults_met, met_once}

@@ -18,7 +18,7 @@ use Rattle.commit_group.specs.Seats.{FlusherValue, RecorderValue, committed_of}
 use Rattle.commit_group.specs.Turns.{AllCommitted}
 use Rattle.commit_group.specs.Reports.{HasEnded}
 use Rattle.recorder.specs.Recorded.{IsFirst, opening_of}
-use Rattle.session.specs.declared.fault.SessionFault.{SessionFault}
+use Rattle.faults.specs.declared.session.SessionFault.{SessionFault}
 use Rattle.session.specs.declared.job.Job.{Job}
 use Rattle.session.specs.declared.task.Task.{Task}
 use Rattle.session.specs.declared.task.Worked.{Worked}

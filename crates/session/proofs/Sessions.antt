@@ -15,7 +15,7 @@ use Rattle.commit_group.specs.declared.fault.FlushFault.TheVariants as flushes
 use Rattle.commit_group.specs.Flushes.{first_number}
 use Rattle.commit_group.specs.Seats.{FlusherValue, GroupId, RecorderValue, new_flusher_seat}
 use Rattle.commit_group.specs.Turns.{AllCommitted}
-use Rattle.session.specs.declared.fault.SessionFault.{SessionFault}
+use Rattle.faults.specs.declared.session.SessionFault.{SessionFault}
 use Rattle.session.specs.declared.job.Job.{Job}
 use Rattle.session.specs.Faults.{IsLowest, IsSessions, flusher_met, told_of}
 use Rattle.session.specs.Gains.{HasFlushed, HasGained, HoldsUpTo, StandsIn}

@@ -8,8 +8,8 @@ use Rattle.trace_log.specs.Kept.{LogValue}
 use Rattle.commit_group.specs.declared.fault.FlushFault.{FlushFault}
 use Rattle.commit_group.specs.declared.fault.FlushFault.TheVariants as flushes
 use Rattle.commit_group.specs.Seats.{AllNew, GroupId}
-use Rattle.session.specs.declared.fault.SessionFault.{SessionFault}
-use Rattle.session.specs.declared.fault.SessionFault.TheVariants as faults
+use Rattle.faults.specs.declared.session.SessionFault.{SessionFault}
+use Rattle.faults.specs.declared.session.SessionFault.TheVariants as faults
 use Rattle.session.specs.declared.job.Job.{Job}
 use Rattle.session.specs.declared.task.Task.{Task}
 use Rattle.session.specs.declared.task.Worked.{Worked}

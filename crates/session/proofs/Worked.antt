@@ -26,8 +26,8 @@ use Rattle.recorder.specs.Recorded.{IsRecorded, opening_of}
 use Rattle.recorder.specs.Owed.{Owed, joined, left_of}
 use Rattle.recorder.specs.Recorders.{GuestRecorder, IsSettled, made}
 use Rattle.recorder.proofs.Released.{output_is_durable, settled_has_put_all}
-use Rattle.session.specs.declared.fault.SessionFault.{SessionFault}
-use Rattle.session.specs.declared.fault.SessionFault.TheVariants as faults
+use Rattle.faults.specs.declared.session.SessionFault.{SessionFault}
+use Rattle.faults.specs.declared.session.SessionFault.TheVariants as faults
 use Rattle.session.specs.declared.job.Job.{Job}
 use Rattle.session.specs.declared.task.Task.{Task}
 use Rattle.session.specs.declared.task.Worked.{Worked}

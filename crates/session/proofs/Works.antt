@@ -3,7 +3,7 @@ use Rattle.std.proofs.Common.{◌≡◌, ℕ, zero, suc, List, [], take, refl, s
 use Rattle.rrv_model.specs.declared.record.Record.{Record}
 use Rattle.std.specs.Prelude.{Some, None}
 use Rattle.commit_core.specs.Runs.{IsOutput}
-use Rattle.session.specs.declared.fault.SessionFault.{SessionFault}
+use Rattle.faults.specs.declared.session.SessionFault.{SessionFault}
 
 take_none : (n : ℕ) → take {A = Record} n [] ≡ []
 take_none zero = refl

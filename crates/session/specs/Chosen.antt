@@ -10,8 +10,8 @@ use Rattle.rrv_model.specs.StateAt.{total}
 use Rattle.guest_calls.specs.Guest.{state_of}
 use Rattle.serial_sched.specs.Chosen.{Choosing, AreMade, Picks}
 use Rattle.recorder.specs.Recorders.{GuestRecorder, HasRecorded, made}
-use Rattle.session.specs.declared.fault.SessionFault.{SessionFault}
-use Rattle.session.specs.declared.fault.SessionFault.TheVariants as faults
+use Rattle.faults.specs.declared.session.SessionFault.{SessionFault}
+use Rattle.faults.specs.declared.session.SessionFault.TheVariants as faults
 use Rattle.session.specs.declared.job.Job.{Job}
 use Rattle.session.specs.declared.rounds.Step.{Step}
 use Rattle.session.specs.declared.rounds.Step.TheVariants as turns

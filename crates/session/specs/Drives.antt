@@ -6,8 +6,8 @@ use Rattle.guest_calls.specs.Guest.{state_of}
 use Rattle.recorder.specs.declared.fault.RecorderFault.{RecorderFault}
 use Rattle.recorder.specs.declared.fault.RecorderFault.TheVariants as faults
 use Rattle.recorder.specs.Recorders.{GuestRecorder, HasPut, IsSettled, made}
-use Rattle.session.specs.declared.fault.SessionFault.{SessionFault}
-use Rattle.session.specs.declared.fault.SessionFault.TheVariants as session_faults
+use Rattle.faults.specs.declared.session.SessionFault.{SessionFault}
+use Rattle.faults.specs.declared.session.SessionFault.TheVariants as session_faults
 use Rattle.session.specs.declared.job.Job.{Job}
 use Rattle.session.specs.declared.task.Worked.{Worked}
 use Rattle.session.specs.declared.rounds.Step.{Step}

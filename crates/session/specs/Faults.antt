@@ -3,8 +3,8 @@ use Rattle.std.specs.Prelude.{◌≡◌, ◌⊎◌, ℕ, ◌<◌, ◌≤◌, Lis
 use Rattle.std.specs.List.{AllByRecursion}
 use Rattle.commit_group.specs.declared.fault.FlushFault.{FlushFault}
 use Rattle.commit_group.specs.declared.fault.FlushFault.TheVariants as flushes
-use Rattle.session.specs.declared.fault.SessionFault.{SessionFault}
-use Rattle.session.specs.declared.fault.SessionFault.TheVariants as faults
+use Rattle.faults.specs.declared.session.SessionFault.{SessionFault}
+use Rattle.faults.specs.declared.session.SessionFault.TheVariants as faults
 
 -- the places of their kinds
 abbrev pub rank : SessionFault → ℕ

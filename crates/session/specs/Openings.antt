@@ -6,8 +6,8 @@ use Rattle.rrv_model.specs.declared.limits.TheConstants.{MAX_ELF}
 use Rattle.rrv_model.specs.declared.machine.Version.TheVariants.{One, Two}
 use Rattle.rrv_model.specs.Elf.{refusal}
 use Rattle.rrv_model.specs.Opening.{IsName}
-use Rattle.session.specs.declared.fault.SessionFault.{SessionFault}
-use Rattle.session.specs.declared.fault.SessionFault.TheVariants as faults
+use Rattle.faults.specs.declared.session.SessionFault.{SessionFault}
+use Rattle.faults.specs.declared.session.SessionFault.TheVariants as faults
 use Rattle.session.specs.declared.job.Job.{Job}
 
 -- its file is accepted, and its name is one

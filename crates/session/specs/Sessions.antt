@@ -12,8 +12,8 @@ use Rattle.trace_log.specs.Kept.{HoldsMark, Keeps, LogValue}
 use Rattle.commit_core.specs.Runs.{IsOutput}
 use Rattle.commit_group.specs.Numbers.{IsPlaced}
 use Rattle.recorder.specs.Recorded.{IsFirst}
-use Rattle.session.specs.declared.fault.SessionFault.{SessionFault}
-use Rattle.session.specs.declared.fault.SessionFault.TheVariants as faults
+use Rattle.faults.specs.declared.session.SessionFault.{SessionFault}
+use Rattle.faults.specs.declared.session.SessionFault.TheVariants as faults
 use Rattle.session.specs.declared.job.Job.{Job}
 use Rattle.session.specs.declared.report.GuestReport.{GuestReport}
 use Rattle.session.specs.declared.report.SessionReport.{SessionReport}

@@ -2,7 +2,7 @@
 use Rattle.std.specs.Prelude.{List, [], ◌∷◌, ◌++◌, map, Option, Some, None}
 use Rattle.guest_calls.specs.Guest.{GuestValue}
 use Rattle.commit_group.specs.Seats.{RecorderValue}
-use Rattle.session.specs.declared.fault.SessionFault.{SessionFault}
+use Rattle.faults.specs.declared.session.SessionFault.{SessionFault}
 use Rattle.session.specs.declared.job.Job.{Job}
 use Rattle.session.specs.declared.task.Task.{Task}
 use Rattle.session.specs.declared.task.Worked.{Worked}

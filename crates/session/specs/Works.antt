@@ -14,8 +14,8 @@ use Rattle.guest_calls.specs.Guest.{GuestValue, state_of}
 use Rattle.serial_sched.specs.declared.chooser.Chooser as choosers
 use Rattle.commit_core.specs.Runs.{ItemsPut, IsOutput}
 use Rattle.recorder.specs.Recorded.{IsFirst, IsRecorded, opening_of}
-use Rattle.session.specs.declared.fault.SessionFault.{SessionFault}
-use Rattle.session.specs.declared.fault.SessionFault.TheVariants as faults
+use Rattle.faults.specs.declared.session.SessionFault.{SessionFault}
+use Rattle.faults.specs.declared.session.SessionFault.TheVariants as faults
 use Rattle.session.specs.declared.job.Job.{Job}
 use Rattle.session.specs.declared.task.Task.{Task}
 use Rattle.session.specs.declared.task.Worked.{Worked}

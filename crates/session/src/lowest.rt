@@ -4,7 +4,7 @@ ghost use Rattle.std.specs.Prelude.{◌++◌};
 ghost use Rattle.session.specs.Faults.{IsLower, IsLowest, flusher_met};
 ghost use Rattle.session.specs.Tasks.{faults_met};
 
-use crate::fault::SessionFault;
+use crate::fault::{SessionFault, is_no_later, of_flush};
 use crate::task::Worked;
 use commit_group::FlushFault;
 use guest_calls::Outside;
@@ -20,7 +20,7 @@ pub(crate) fn lowest_fault<C: Chooser + Drop, O: Outside + Drop, S: Sink + Drop>
 {
     let mut lowest = match flushed {
         Ok(()) => None,
-        Err(fault) => Some(SessionFault::from(fault)),
+        Err(fault) => Some(of_flush(fault)),
     };
     for worked in done {
         lowest = lower(lowest, worked.fault);
@@ -33,7 +33,7 @@ fn lower(first: Option<SessionFault>, second: Option<SessionFault>) -> Option<Se
     ensures { IsLower first second result }
 {
     match (first, second) {
-        (Some(a), Some(b)) => Some(if a.is_no_later(b) { a } else { b }),
+        (Some(a), Some(b)) => Some(if is_no_later(a, b) { a } else { b }),
         (Some(a), None) => Some(a),
         (None, other) => other,
     }

@@ -3,8 +3,8 @@ use Rattle.std.proofs.Common.{◌≡◌, ℕ, zero, suc, ◌+◌, ◌<◌, ◌�
 use Rattle.std.proofs.Math.Seq.{take-suc}
 use Rattle.std.proofs.lemmas.List.{take_all}
 use Rattle.rrv_model.specs.declared.record.Record.{Record}
-use Rattle.replayer.specs.declared.fault.VerifyFault.{VerifyFault}
-use Rattle.replayer.specs.declared.fault.VerifyFault.TheVariants as faults
+use Rattle.faults.specs.declared.replay.VerifyFault.{VerifyFault}
+use Rattle.faults.specs.declared.replay.VerifyFault.TheVariants as faults
 use Rattle.replayer.specs.Following.{FollowingValue, standing_of}
 use Rattle.replayer.specs.Refusals.{RefusesNext}
 use Rattle.replayer.specs.Standings.{Continues, Standing}

@@ -11,7 +11,7 @@ use Rattle.rrv_model.specs.State.{State}
 use Rattle.rrv_model.specs.Recording.{base_after}
 use Rattle.rrv_model.specs.Standing.{Leads}
 use Rattle.replayer.specs.Claims.{ClaimValue, claimed_by}
-use Rattle.replayer.specs.declared.fault.ClaimFault.{ClaimFault}
+use Rattle.faults.specs.declared.replay.ClaimFault.{ClaimFault}
 use Rattle.replayer.specs.Keepers.{ComesNext, MayCome}
 use Rattle.replayer.specs.Refusals.{IsLastPart}
 use Rattle.replayer.specs.Standings.{Continues, Fits, Standing}

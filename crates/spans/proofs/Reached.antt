@@ -3,8 +3,8 @@ use Rattle.std.proofs.Common.{◌≡◌, ℕ, ◌+◌, ◌<◌, ◌≤◌, List,
 use Rattle.std.proofs.lemmas.List.{append-nil, take-append-drop}
 use Rattle.rrv_model.specs.declared.record.Record.{Record}
 use Rattle.rrv_model.specs.Recording.{IsRecording}
-use Rattle.replayer.specs.declared.fault.VerifyFault.{VerifyFault}
-use Rattle.replayer.specs.declared.fault.VerifyFault.TheVariants as faults
+use Rattle.faults.specs.declared.replay.VerifyFault.{VerifyFault}
+use Rattle.faults.specs.declared.replay.VerifyFault.TheVariants as faults
 use Rattle.replayer.specs.Refusals.{RefusesVerify}
 use Rattle.replayer.specs.Sourced.{RefusesSource}
 use Rattle.replayer.specs.Standings.{IsReached, Standing}

@@ -2,8 +2,8 @@
 use Rattle.std.proofs.Common.{◌≡◌, ◌↔◌, ℕ, List, Result, Ok, Err, Some, false, ◌||◌, refl, sym, ◌∙◌, ap, subst}
 use Rattle.std.specs.Prelude.{slice_get}
 use Rattle.rrv_model.specs.declared.record.Record.{Record}
-use Rattle.replayer.specs.declared.fault.VerifyFault.{VerifyFault}
-use Rattle.replayer.specs.declared.fault.VerifyFault.TheVariants as faults
+use Rattle.faults.specs.declared.replay.VerifyFault.{VerifyFault}
+use Rattle.faults.specs.declared.replay.VerifyFault.TheVariants as faults
 use Rattle.replayer.specs.Asked.{AsksSource, Sourcing, TellsSource}
 use Rattle.replayer.specs.Refusals.{RefusesFirst}
 use Rattle.replayer.specs.Sourced.{NamesWithheld, ends_withheld, is_unreadable}

@@ -1,7 +1,7 @@
 -- Records that lead a guest on, all in a row or in spans.
 use Rattle.std.specs.Prelude.{◌≡◌, ℕ, ◌+◌, ◌<◌, List, [], ◌∷◌, ◌++◌, length, take, slice_index_or, Result, Ok, Err}
 use Rattle.rrv_model.specs.declared.record.Record.{Record}
-use Rattle.replayer.specs.declared.fault.VerifyFault.{VerifyFault}
+use Rattle.faults.specs.declared.replay.VerifyFault.{VerifyFault}
 use Rattle.replayer.specs.Following.{FollowingValue, standing_of}
 use Rattle.replayer.specs.Refusals.{IsLastPart, RefusesNext}
 use Rattle.replayer.specs.Standings.{Continues, Standing}

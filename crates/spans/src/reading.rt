@@ -2,7 +2,7 @@
 
 ghost use Rattle.std.specs.Prelude.{◌≡◌, ◌⊎◌, ◌<◌, IfErr, IfOk, length};
 ghost use Rattle.replayer.specs.Asked.{AsksSource};
-ghost use Rattle.replayer.specs.declared.fault.VerifyFault.TheVariants as verify_faults;
+ghost use Rattle.faults.specs.declared.replay.VerifyFault.TheVariants as verify_faults;
 ghost use Rattle.spans.specs.Reading.{Reads};
 
 use crate::cutting::load_of;

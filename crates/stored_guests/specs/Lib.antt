@@ -1,4 +1,1 @@
-pub mod Told
-pub mod Stores
-pub mod Printed
-pub mod Files
+pub mod Guests

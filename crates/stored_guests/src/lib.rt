@@ -1,50 +1,20 @@
-//! What the lines of the program stand on: the files that they read, stores and their guests, refusals, and how text is printed.
+//! The guests of stores, verified as they are read.
 //!
 //! Tests: program_tests; `tools/program_lines` and `tools/scenes` run the program.
 //!
 //! # Contracts
 //!
-//! - `opened`, `looked`: a store and its records as `recover::open` or `recover::read` has them, for any disk; a refusal
-//!   is the one that the bytes have, failures aside. That a store is read alone if it can't be written or locked is tested.
-//! - `marked`: the log holds the Mark, which is committed if it wasn't there, and else the log is as it was; that the store is full
-//!   is reported exactly if the Mark isn't there and doesn't fit.
-//! - `guest_in`, `verified_in`: the guest of a number, and its records, or where they end, verified as they are
-//!   read from the disk. `NoSuchGuest` comes exactly if the store has none of that number, and other refusals
-//!   are those of `verify_source`. This and what follows of printed records is said of an honest disk on which the records
-//!   stand; a file isn't one.
-//! - `read_program`: all bytes of the file, and at most 2,097,152, else why they aren't read: `TooLong` comes only if there are
-//!   more. `image_of`: the image of a program, or the refusal that its file has.
-//! - `of_file_at`, `of_checked` of `Refusal`: what is told in words of a file is of this guest, this name and this fault, or there was no
-//!   memory for it. What these words are is tested.
+//! - `verified_in`: the records of the guest of a number, or where they end, verified as they are read from the disk.
+//!   `NoSuchGuest` comes exactly if the store has none of that number, and other refusals are those of `verify_source`. This is
+//!   said of an honest disk on which the records stand; a file isn't one.
 //! - `verified`: the record that it reports as unreadable is one that the source says it withheld.
 //!   `StoredGuest`, the source over a store, says so of the place that it was last asked for and did not give.
-//! - `print_put`: bytes for descriptor 2 are appended to the errors, all others to the output, whole.
 #![tactic(auto)]
 
-mod elf_target;
-mod file_fault;
-mod files;
-mod printing;
-mod refusal;
-mod shows;
-mod store;
 mod stored;
-mod terminals;
 mod verify_progress;
 mod verifying;
 
-pub use elf_target::ElfTarget;
-pub use file_fault::{FileFault, FirstLine};
-pub use files::{image_in, image_of, images_in, input_in, read_file, read_program};
-pub use printing::{
-    OutputFailed, end_open_line, finish, in_blocks, print_line, print_put, print_text, print_whole,
-};
-pub use refusal::Refusal;
-pub use shows::Shows;
-pub use store::{
-    Store, guest_in, look_at, make_store, marked, open_log, open_store, opened, record_in,
-};
 pub use stored::StoredGuest;
-pub use terminals::Terminals;
 pub use verify_progress::VerifyProgress;
 pub use verifying::{verified, verified_in, verified_of, workers};

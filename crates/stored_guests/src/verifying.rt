@@ -7,14 +7,13 @@ ghost use Rattle.rrv_model.specs.Recovered.{of_guest};
 ghost use Rattle.recover.specs.Spots.{records_of, StandOn};
 ghost use Rattle.replayer.specs.Sourced.{IsEndOf, NamesWithheld, RefusesSource};
 ghost use Rattle.replayer.specs.Verified.{Keeps};
-ghost use Rattle.stored_guests.specs.Stores.{RefusesGuest};
-ghost use Rattle.stored_guests.specs.Told.{verify_told};
+ghost use Rattle.stored_guests.specs.Guests.{RefusesGuest};
+ghost use Rattle.line_io.specs.Told.{verify_told};
 
-use crate::refusal::Refusal;
-use crate::store::{Store, guest_in, open_store};
 use crate::stored::StoredGuest;
 use crate::verify_progress::VerifyProgress;
 use command_line::GuestOf;
+use line_io::{Refusal, Store, guest_in, open_store};
 use progress::Count;
 use replayer::{Source, Verified, VerifiedEnd, VerifyFault, Watch};
 use spans::{verify_source, verify_source_end};

@@ -1,6 +1,6 @@
 -- What the digest of a memory takes in.
 use Rattle.std.specs.Prelude.{ℕ, zero, suc, ◌*◌, ◌^◌, List, [], ◌∷◌, ◌++◌, Option, Some, None}
-use Rattle.rrv_model.specs.declared.machine.Permissions.{Permissions}
+use Rattle.page_permissions.specs.declared.page.Permissions.{Permissions}
 use Rattle.rrv_model.specs.Memory.{Memory, Cell, bytes_at, page_bytes}
 use Rattle.rrv_model.specs.RecordText.{number, permissions_byte}
 

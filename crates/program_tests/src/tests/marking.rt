@@ -3,9 +3,9 @@
 ghost use Rattle.std.specs.Prelude.{◌≡◌, false, IfOk};
 
 use super::{same, shows};
+use line_io::marked;
 use std::alloc::Global;
 use std::test::Fail;
-use stored_guests::marked;
 use trace_disk::{Disk, MemDisk};
 use trace_log::Log;
 

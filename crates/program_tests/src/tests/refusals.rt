@@ -6,6 +6,7 @@ use commands::{report, report_unread};
 use copying::CopyFault;
 use elf_load::ElfFault;
 use guest_calls::{SetPageFault, SetRestFault};
+use line_io::Refusal;
 use recover::{OpenFault, ReadFault};
 use replayer::{OutputFault, VerifyFault};
 use reverse_step::SeekFault;
@@ -16,7 +17,6 @@ use std::fmt::Display;
 use std::io::{self, ErrorKind};
 use std::process::Abort;
 use std::test::Fail;
-use stored_guests::Refusal;
 use trace_disk::CannotOpen;
 
 /// Ends the test where one of these is shown by another text than the one beside it.

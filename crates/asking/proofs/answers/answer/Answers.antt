@@ -1,8 +1,10 @@
 use Rattle.std.proofs.Common.{◌≡◌, ◌<◌, ℕ, subst}
+use Rattle.std.proofs.lemmas.Result.{err_from_is_err_and}
 use Rattle.guest_calls.specs.Guest.{state_of}
 use Rattle.replayer.specs.Verified.{VerifiedValue}
 use Rattle.rrv_model.specs.StateAt.{total}
 use Rattle.asking.specs.Places.{RunsNext, shown_place}
+use Rattle.asking.proofs.Leads.{stays}
 use Rattle.asking.proofs.answers.answer.Goals as goal
 
 pub returns-clause-answered : goal.returns-clause-answered
@@ -23,3 +25,9 @@ returns-clause-answered g c =
       none = subst (λ (v : VerifiedValue). total v.frames ≡ 0 → tid ≡ 0) c.verified.ensures c.first_thread-tid.ensures.none;
       printed = c.in_ok-print_found.ensures.printed;
     }
+
+pub returns-in_err-is_found-clause-stays : goal.returns-in_err-is_found-clause-stays
+returns-in_err-is_found-clause-stays g c =
+    let p = err_from_is_err_and c.from_residual.result c.from_residual.ensures.1 in
+    rw (p.1, p.2) (stays c.in_err-is_found.field-0.0 c.args.inquiry c.args.cursor.now c.go.new.cursor c.in_err-is_found.ensures.refused
+    c.in_err-is_found.ensures.stays)

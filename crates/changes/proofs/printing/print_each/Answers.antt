@@ -5,8 +5,8 @@ use Rattle.changes.specs.Printed.{IsShownText}
 use Rattle.changes.proofs.Runs.{no_more, one_more}
 use Rattle.changes.proofs.printing.print_each.Goals as goal
 
-pub returns-in-None : goal.returns-in-None
-returns-in-None g c =
+pub returns-in-None-clause-printed : goal.returns-in-None-clause-printed
+returns-in-None-clause-printed g c =
     let v = c.args.cursor.now.verified in
     let w = c.args.shown.watched in
     let i = c.loop-count.invariant in
@@ -15,10 +15,7 @@ returns-in-None g c =
     (subst (λ (x : VerifiedValue). GoesTo x w c.loop-count.place now.cursor.place now.lasts c.in_ok-found.field-0) i.same
     c.in_ok-found.ensures.goes) in
     let few : c.loop-count.count ≤ c.args.times = omega (arith, c.loop-count-test.true) in
-    record {
-      printed = no_more v c.args.shown c.args.cursor.now.place c.loop-count.place c.args.times c.loop-count.count _ _ few i.so_far
-          goes.is_last;
-    }
+    no_more v c.args.shown c.args.cursor.now.place c.loop-count.place c.args.times c.loop-count.count _ _ few i.so_far goes.is_last
 
 pub loop-count-preserved : goal.loop-count-preserved
 loop-count-preserved g c =

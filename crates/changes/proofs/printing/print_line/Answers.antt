@@ -6,7 +6,7 @@ use Rattle.replayer.specs.Verified.{VerifiedValue}
 use Rattle.rrv_model.specs.State.{thread_at}
 use Rattle.rrv_model.specs.StateAt.{StateAt, total}
 use Rattle.changes.specs.Texts.{change_line, value_text}
-use Rattle.changes.proofs.Texts.{line_printed, runs_there}
+use Rattle.changes.proofs.Texts.{line_printed, output_refused, runs_there}
 use Rattle.changes.proofs.printing.print_line.Goals as goal
 
 pub returns-clause-printed : goal.returns-clause-printed
@@ -31,4 +31,7 @@ returns-clause-printed g c =
     old.place tid _ _ _ _ is_at moved.after.is_at (runs_there frames old.place tid c.requires shown)
     (λ i. change_line ((made.place ∙ place) i) (made.tid i) (thread_at (state_of (made.guest i)) (made.tid i))
     (value_text (memory_of (made.guest i).space) (made.watched i)) (value i))
-    c.in_ok-print.ensures.printed c.print_ranges.ensures.printed
+    c.in_ok-print_text.ensures.printed c.print_ranges.ensures.printed
+
+pub returns-clause-refused : goal.returns-clause-refused
+returns-clause-refused g c = output_refused c.print_ranges.result c.print_ranges.ensures.refused

@@ -20,5 +20,5 @@ loop-range-preserved g c =
     ∙ ap (λ (n : ℕ). memory_lines m r.address n) made.length in
     printed_on (λ (x : MemoryRange). memory_lines m x.address x.length) c.args.ranges.now i r _ _ _
     (slice_get-get_or c.args.ranges.now i none c.loop-range-test.true) c.loop-range.invariant
-    (subst (λ (text : List ℕ). Appends (g.W.Write.contents c.loop-range.out) (g.W.Write.contents c.print.new.out) text) same
-    c.in_ok-print.ensures.printed)
+    (subst (λ (text : List ℕ). Appends (g.W.Write.contents c.loop-range.out) (g.W.Write.contents c.print_text.new.out) text) same
+    c.in_ok-print_text.ensures.printed)

@@ -20,7 +20,7 @@ returns-clause-printed g c =
     (subst (λ (x : GuestValue). StateAt v.opening v.frames c.args.cursor.now.place (state_of x)) same c.guest-guest.ensures.state)
     (made.place ∙ c.place.ensures.place)
     (made.total ∙ c.total.ensures ∙ ap (λ (x : VerifiedValue). total x.frames) c.verified.ensures)
-    c.in_ok-print.ensures.printed
+    c.in_ok-print_text.ensures.printed
     (subst (λ (x : GuestValue). OnOk c.print_ranges.result
-    (Appends (contents c.print.new.out) (contents c.print_ranges.new.out) (ranges_lines (state_of x).memory c.args.ranges.now)))
+    (Appends (contents c.print_text.new.out) (contents c.print_ranges.new.out) (ranges_lines (state_of x).memory c.args.ranges.now)))
     same c.print_ranges.ensures.printed)

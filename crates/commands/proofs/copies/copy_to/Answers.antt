@@ -8,8 +8,8 @@ use Rattle.copying.proofs.Copied.{copies_done, copies_failed, copies_longer, cop
 use Rattle.copying.proofs.Kept.{begins_all}
 use Rattle.copying.proofs.Numbered.{copies_none}
 use Rattle.rrv_model.specs.Recording.{items_of}
-use Rattle.showing.specs.Printed.{name_in, named_line}
-use Rattle.stored_guests.specs.Printed.{with_newline}
+use Rattle.listings.specs.Printed.{name_in, named_line}
+use Rattle.line_io.specs.Printed.{with_newline}
 use Rattle.commands.proofs.CopyRefusals.{copy_refused, name_refused}
 use Rattle.commands.proofs.copies.copy_to.Goals as goal
 

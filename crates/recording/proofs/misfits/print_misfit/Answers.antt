@@ -1,7 +1,7 @@
 use Rattle.std.proofs.Common.{List, ℕ, subst, ◌∙◌}
 use Rattle.std.specs.Io.KnownBytes.{Appends}
 use Rattle.recording.specs.Misfits.{misfit_text}
-use Rattle.stored_guests.specs.Printed.{with_newline}
+use Rattle.line_io.specs.Printed.{with_newline}
 use Rattle.recording.proofs.misfits.print_misfit.Goals as goal
 
 pub returns-clause-printed : goal.returns-clause-printed

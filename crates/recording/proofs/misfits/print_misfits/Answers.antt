@@ -3,7 +3,7 @@ use Rattle.std.proofs.lemmas.Option.{slice_get-get_or}
 use Rattle.recording.specs.declared.misfits.GuestMisfit.{GuestMisfit}
 use Rattle.recording.specs.Misfits.{misfit_text}
 use Rattle.recording.specs.Names.{name_by}
-use Rattle.stored_guests.specs.Printed.{with_newline}
+use Rattle.line_io.specs.Printed.{with_newline}
 use Rattle.end_text.proofs.Printed.{printed_on}
 use Rattle.recording.proofs.misfits.print_misfits.Goals as goal
 

@@ -1,6 +1,6 @@
 use Rattle.std.proofs.Common.{rules, arith, ◌≡◌, ◌∙◌, inl, inr, ℕ, [], false, ap, refl, sym, subst}
 use Rattle.std.specs.Prelude.{slice_get, Some, IfSome}
-use Rattle.session.specs.declared.fault.SessionFault.TheVariants as faults
+use Rattle.faults.specs.declared.session.SessionFault.TheVariants as faults
 use Rattle.session.specs.declared.report.SessionReport.{SessionReport}
 use Rattle.session.proofs.Told.{bad_told, new_once, none_is_new, job_is_no_device, job_is_no_sink, job_is_sessions, none_is_bad, none_there, other_than_sink, sinks_rest, steady_told}
 use Rattle.session.proofs.Pairs.{none_left}

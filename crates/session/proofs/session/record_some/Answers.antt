@@ -5,7 +5,7 @@ use Rattle.commit_group.specs.Seats.{AllNew, AllOf, GroupId}
 use Rattle.commit_group.specs.declared.fault.FlushFault.{FlushFault}
 use Rattle.commit_group.specs.declared.fault.FlushFault.TheVariants as flushes
 use Rattle.trace_log.specs.Kept.{LogValue}
-use Rattle.session.specs.declared.fault.SessionFault.{SessionFault}
+use Rattle.faults.specs.declared.session.SessionFault.{SessionFault}
 use Rattle.session.specs.declared.report.SessionReport.{SessionReport}
 use Rattle.session.specs.Faults.{IsLowest, flusher_met}
 use Rattle.session.specs.Gains.{IsLeftBy}
@@ -17,7 +17,7 @@ use Rattle.session.specs.Sessions.{HasRun}
 use Rattle.session.proofs.Pairs.{pairs_length}
 use Rattle.session.proofs.Recorded.{all_numbered}
 use Rattle.session.proofs.Refusals.{lowest_tells}
-use Rattle.session.specs.declared.fault.SessionFault.TheVariants as faults
+use Rattle.faults.specs.declared.session.SessionFault.TheVariants as faults
 use Rattle.session.proofs.Told.{device_told, none_meets, other_than_sink, sinks_err, sinks_ok, sinks_rest, steady_where_none}
 use Rattle.session.proofs.Sessions.{AreJoined, flusher_met_none, has_left, has_reported, has_run, lacks_none, nothing_ran, tells_alone, tells_first}
 use Rattle.session.proofs.Tasks.{all_fresh, all_of}

@@ -1,5 +1,5 @@
 use Rattle.std.proofs.Common.{sym, subst, Option}
-use Rattle.session.specs.declared.fault.SessionFault.{SessionFault}
+use Rattle.faults.specs.declared.session.SessionFault.{SessionFault}
 use Rattle.session.specs.Works.{FaultTellsSink}
 use Rattle.guest_calls.specs.Guest.{GuestValue, state_of}
 use Rattle.recorder.specs.RecorderCalls.{KeepsMade}

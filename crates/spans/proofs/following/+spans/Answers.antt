@@ -1,6 +1,6 @@
 use Rattle.std.proofs.Common.{arith, ◌≤◌, length, subst, Result}
 use Rattle.std.proofs.lemmas.Result.{err_from_is_err_and}
-use Rattle.replayer.specs.declared.fault.VerifyFault.{VerifyFault}
+use Rattle.faults.specs.declared.replay.VerifyFault.{VerifyFault}
 use Rattle.replayer.specs.Following.{FollowingValue, standing_of}
 use Rattle.replayer.specs.Standings.{Standing}
 use Rattle.spans.specs.Spans.{FollowsAlong, LeadAlong, StopsAlong}

@@ -3,7 +3,7 @@ use Rattle.std.proofs.lemmas.List.{take_all}
 use Rattle.std.proofs.lemmas.Result.{err_from_is_err_and}
 use Rattle.rrv_model.specs.declared.record.Record.{Record}
 use Rattle.replayer.specs.Claims.{claimed_by}
-use Rattle.replayer.specs.declared.fault.ClaimFault.TheVariants as ClaimFault
+use Rattle.faults.specs.declared.replay.ClaimFault.TheVariants as ClaimFault
 use Rattle.replayer.specs.Standings.{Fits, Standing}
 use Rattle.spans.specs.Spans.{LeadAlong}
 use Rattle.spans.proofs.Claiming.{claim_is, claim_is_state, fits_next, none_next, same_refusal}

@@ -1,7 +1,7 @@
 use Rattle.std.proofs.Common.{List, ap, arith, length, refl, inl}
 use Rattle.std.proofs.lemmas.Result.{err_from_is_err_and}
 use Rattle.rrv_model.specs.declared.record.Record.{Record}
-use Rattle.replayer.specs.declared.fault.VerifyFault.TheVariants as faults
+use Rattle.faults.specs.declared.replay.VerifyFault.TheVariants as faults
 use Rattle.spans.proofs.Batches.{one_item, one_item_more, reads_first, reads_next}
 use Rattle.spans.proofs.Told.{asks_err, asks_ok, same_ahead, same_given, still_there}
 use Rattle.spans.proofs.reading.read_batch.Goals as goal

@@ -4,10 +4,10 @@ use Rattle.rrv_model.specs.Recovered.{of_guest}
 use Rattle.store_model.specs.CrashModel.{DiskState}
 use Rattle.recover.specs.declared.spot.Spot.{Spot}
 use Rattle.recover.specs.Spots.{StandOn, records_of}
-use Rattle.replayer.specs.declared.fault.VerifyFault.{VerifyFault}
+use Rattle.faults.specs.declared.replay.VerifyFault.{VerifyFault}
 use Rattle.replayer.specs.Sourced.{RefusesSource}
-use Rattle.stored_guests.specs.Stores.{RefusesGuest}
-use Rattle.stored_guests.specs.Told.{verify_told}
+use Rattle.stored_guests.specs.Guests.{RefusesGuest}
+use Rattle.line_io.specs.Told.{verify_told}
 use Rattle.stored_guests.proofs.Sources.{guest_refused}
 use Rattle.stored_guests.proofs.verifying.verified_in.Goals as goal
 

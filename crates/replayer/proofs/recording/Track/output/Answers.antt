@@ -103,13 +103,12 @@ leads_behind g c on =
     ends_behind (state_of c.loop-left.guest) (state_of c.follow_whole.new.guest) c.loop-left.invariant.ends.0 c.frame-item.result
     (take (length c.loop-left.left.now - 1) (drop 1 c.loop-left.left.now)) on c.in_ok-follow_whole.ensures.follows
 
-pub returns-in_err-put_frame : goal.returns-in_err-put_frame
-returns-in_err-put_frame g c =
-    let at = goal.at.returns-in_err-put_frame g c in
-    let e = c.in_err-put_frame.ensures in
+pub returns-in_default-put_frame : goal.returns-in_default-put_frame
+returns-in_default-put_frame g c =
+    let at = goal.at.returns-in_default-put_frame g c in
+    let e = c.in_default-put_frame.ensures in
     let i = c.loop-left.invariant in
-    let p = err_from_is_err_and c.from_residual-in_err-put_frame.result c.from_residual-in_err-put_frame.ensures.1 in
-    rw (p.1, p.2) (record {
+    record {
       all = tt;
       part = λ tells. let some = e.part (i.tells.1 tells) in
           inside_part _ _ _ _ _ _ _ _ some.0 _ _ _ (put_so_far g at.After-frame-item tells) c.in_ok-follow_whole.ensures.follows
@@ -117,12 +116,12 @@ returns-in_err-put_frame g c =
       steady = tt;
       refused = subst (λ (n : ℕ). HasFailed n (g.S.Sink.faults c.put_frame.new.sink)) i.counted e.counted;
       tells = ((λ t. i.tells.0 (e.tells.0 t)), (λ t. e.tells.1 (i.tells.1 t)));
-    })
+    }
 
 pub loop-left-preserved : goal.loop-left-preserved
 loop-left-preserved g c =
     let at = goal.at.loop-left-preserved g c in
-    let e = c.in_ok-put_frame.ensures in
+    let e = c.in-Ok.ensures in
     let i = c.loop-left.invariant in
     record {
       put = λ tells. so_far_next _ _ _ _ _ _ _ _ _ _ (put_so_far g at.After-frame-item tells) c.in_ok-follow_whole.ensures.follows

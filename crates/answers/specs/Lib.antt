@@ -1,0 +1,3 @@
+pub mod Asking
+pub mod Ends
+pub mod Refused

@@ -1,0 +1,4 @@
+pub mod Told
+pub mod Stores
+pub mod Printed
+pub mod Files

@@ -1,0 +1,3 @@
+pub mod Summaries
+pub mod TurnTexts
+pub mod LongTexts

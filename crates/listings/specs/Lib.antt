@@ -1,0 +1,4 @@
+pub mod LongList
+pub mod Turns
+pub mod Printed
+pub mod Refused

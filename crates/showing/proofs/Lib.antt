@@ -1,6 +1,0 @@
-pub mod Summaries
-pub mod Cores
-pub mod TurnTexts
-pub mod LongTexts
-pub mod Asked
-pub mod Printing

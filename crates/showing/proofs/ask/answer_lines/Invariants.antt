@@ -1,9 +1,0 @@
-use Rattle.std.proofs.Common.{◌≡◌, false}
-use Rattle.showing.specs.Asking.{IsRunOn}
-use Rattle.showing.proofs.ask.answer_lines.Given as goal
-
-abbrev pub invariant-loop : goal.invariant-loop
-invariant-loop g l = record {
-  same : l.cursor.verified ≡ l.fn.cursor.verified;
-  ran : l.prompts ≡ false → IsRunOn l.fn.cursor l.cursor (g.W.Write.contents l.fn.out) (g.W.Write.contents l.out);
-}
