@@ -16,6 +16,9 @@ TOOLS: dict[str, tuple[str, str]] = {
     "proofs_page": ("rrv_tools.prover.proofs_page", "prints what is proved, crate by crate"),
     "release": ("rrv_tools.prover.release", "writes the release, or compares it"),
     "wrap_proofs": ("rrv_tools.prover.wrap_proofs", "wraps long lines of definitions and proofs"),
+    "power_loss": ("rrv_tools.cases.power_loss", "opens what a loss of power may leave of a store"),
+    "storage_cases": ("rrv_tools.storage_cases", "writes the stores of crates/storage_cases, prints what rows have"),
+    "hostile_stores": ("rrv_tools.cases.hostile_stores", "prints what `list` of stores that were made slow takes"),
 }
 
 

@@ -72,10 +72,6 @@ LOOKS = (
     look("case_files", 25),
     # lines of the program, and the guests that it records
     look("program_lines", 200),
-    # stores that lie
-    look("lying_stores", 8),
-    # stores made to be slow
-    look("hostile_stores", 20),
     # when ./rrv builds it, and how
     look("launcher_cases", 10),
     # its manual page and completions beside its help
@@ -86,12 +82,6 @@ LOOKS = (
     look("guide", 10),
     # the line that shows how far it is
     look("progress_cases", 50),
-    # recordings of which each call of files and streams fails in turn
-    look("failed_calls", 35),
-    # sessions that are stopped at each call of their store, and what a crash may then leave
-    look("stopped_sessions", 10),
-    # two thousand contents that a loss of power may leave of a store
-    look("power_loss 2000", 33),
     # closed streams, sixteen programs at once, a store that goes, and clocks
     look("host_cases", 10),
     # stores that are recorded to, locked, read-only or changed while they are read

@@ -50,6 +50,7 @@ class Reader:
         return self.at == len(self.data)
 
 
+@dataclasses.dataclass
 class Item:
     """What a record has beside its guest and index: its kind and its payload."""
 
