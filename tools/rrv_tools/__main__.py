@@ -7,6 +7,13 @@ from collections.abc import Sequence
 TOOLS: dict[str, tuple[str, str]] = {
     "records": ("rrv_tools.records", "prints the records of a store"),
     "kills": ("rrv_tools.cases.kills", "ends recordings and copies at random moments"),
+    "ask_cases": ("rrv_tools.cases.asks", "asks random questions about random guests, and compares"),
+    "compiled_guests": ("rrv_tools.makers.compiled_guests", "makes the guests that a compiler makes"),
+    "quanta": ("rrv_tools.cases.quanta", "records a guest with each quantum, and compares it with single steps"),
+    "random_guests": ("rrv_tools.cases.random_guests", "records random guests, again by their choices, and compares"),
+    "recordings": ("rrv_tools.makers.recordings", "writes the recordings of replay_cases"),
+    "slice_rows": ("rrv_tools.makers.slice_rows", "prints rows of slice_cases"),
+    "vectors": ("rrv_tools.makers.vectors", "writes the rows of instructions of machine_cases"),
     "core_file": ("rrv_tools.core_file", "prints what a core file has of the state"),
     "architecture": ("rrv_tools.prover.architecture", "compares docs/ARCHITECTURE.md, and what other pages have of it"),
     "build": ("rrv_tools.prover.build", "builds rrv, which proves it"),

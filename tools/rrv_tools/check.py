@@ -86,20 +86,6 @@ LOOKS = (
     look("host_cases", 10),
     # stores that are recorded to, locked, read-only or changed while they are read
     look("look_cases", 60),
-    # places, trace events and ends of guests
-    look("turn_cases", 15),
-    # guests that are recorded again by their choices
-    look("choices_again", 20),
-    # core files of them
-    look("core_cases", 10),
-    # random guests in both ways
-    look("random_guests", 10),
-    # a hundred random questions about ten of them
-    look("ask_cases", 8),
-    # the faults that hunt finds
-    look("hunt_cases", 45),
-    # a guest that jumps at each place of a page, with each quantum
-    look("quanta", 90),
 )
 # The tools that look at what only the gate builds: the tests of refused growths, with each growth refused in turn.
 OF_PROOFS = (look("refused_growths", 60),)

@@ -166,7 +166,7 @@ class Runner:
         if job.words:
             return Done(job, counts_in(text, status), seconds, text)
         outcomes = with_missing(job, found, status)
-        counts = sum(it.kind == PASSED for it in outcomes), sum(it.kind == FAILED for it in outcomes)
+        counts = sum(it.count for it in outcomes if it.kind == PASSED), sum(it.kind == FAILED for it in outcomes)
         return Done(job, counts, seconds, text, tuple(outcomes))
 
     @staticmethod

@@ -39,13 +39,14 @@ Class = TypeVar("Class", bound=type[unittest.TestCase])
 
 @dataclasses.dataclass(frozen=True)
 class Outcome:
-    """How a case ended: its name below the package, PASSED, FAILED or LEFT_OUT, its seconds, and what there is to
-    say."""
+    """How a case ended: its name below the package, PASSED, FAILED or LEFT_OUT, its seconds, what there is to say,
+    and how many it counts for."""
 
     name: str
     kind: str
     seconds: float
     text: str = ""
+    count: int = 1
 
     def line(self) -> str:
         """Its line in JSON."""
@@ -72,6 +73,8 @@ class Case(unittest.TestCase):
     # Whether all cases of the class run in one folder, which `setUpClass` of the class fills.
     shares_folder: ClassVar[bool] = False
     maxDiff = None
+    # How many a case counts for once it passed: what it compared, if that is many of one kind.
+    compared = 1
 
     program: ClassVar[Program]
     class_folder: ClassVar[pathlib.Path]
@@ -203,16 +206,16 @@ class Results(unittest.TestResult):
         super().__init__()
         self.file, self.begun, self.wrong = file, time.monotonic(), ""
 
-    def write(self, name: str, kind: str, text: str = "") -> None:
+    def write(self, name: str, kind: str, text: str = "", count: int = 1) -> None:
         """Writes an outcome."""
-        os.write(self.file, f"{Outcome(name, kind, time.monotonic() - self.begun, text).line()}\n".encode())
+        os.write(self.file, f"{Outcome(name, kind, time.monotonic() - self.begun, text, count).line()}\n".encode())
 
     def startTest(self, test: unittest.TestCase) -> None:
         super().startTest(test)
         self.begun, self.wrong = time.monotonic(), ""
 
     def addSuccess(self, test: unittest.TestCase) -> None:
-        self.write(name_of(test), PASSED)
+        self.write(name_of(test), PASSED, count=getattr(test, "compared", 1))
 
     def addSkip(self, test: unittest.TestCase, reason: str) -> None:
         self.write(name_of(test), LEFT_OUT, reason)

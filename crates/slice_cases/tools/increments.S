@@ -2,7 +2,7 @@
    makes it fail, and the thread tries again by 13 instructions more. At each multiple of 32 it writes both counts to descriptor 1,
    at the other multiples of 16 it yields. In the end it raises the break, copies there how many SCs had failed at each of the last
    64 numbers, writes 16 of these words to descriptor 2, and exits with the failures as its status; its exit clears a word.
-   increments.py makes ../data/increments.elf of it. */
+   `tools/run slice_rows increments` makes ../data/increments.elf of it. */
 
     .option norelax
 

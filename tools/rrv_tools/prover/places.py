@@ -28,7 +28,7 @@ NEIGHBOURS = {
     "To add a command": "|".join(BACK),
 }
 # Where a spelling means something else: the command's cursor has moves of its own, and goes back in a library.
-OTHERS = {"To add a command": r"crates/(reverse_step|replay_cases|session_tests)/"}
+OTHERS = {"To add a command": r"(crates/(reverse_step|replay_cases|session_tests)|tools/rrv_tools/makers)/"}
 # What is looked through, and what is passed over: this tool, its tests, and pages that list no neighbour's files.
 TOPS = ("bench", "check", "crates", "docs", "examples", "README.md", "tools")
 PAGES = ("ARCHITECTURE", "BUILDING", "DECISIONS", "GUIDE", "MENDING", "PROOFS", "SPEED")

@@ -21,6 +21,7 @@ from rrv_tools.testing import Case, rows
 @rows({"of one": 1, "of two": 2}, "take")
 class Rows(unittest.TestCase):
     def take(self, row):
+        self.compared = 5
         self.assertEqual(row, 1, f"the row is {row}")
 
 class Ends(unittest.TestCase):
@@ -68,10 +69,11 @@ class Jobs(unittest.TestCase):
         return [(it.name.rpartition(".")[2], it.kind) for it in done.outcomes]
 
     def test_rows(self) -> None:
-        """Each is a case, and what an assertion says is printed, with how to run it again."""
+        """Each is a case, which counts for what it compared if it passed; what an assertion says is printed, with how
+        to run it again."""
         done = self.run_cases("Rows.test_of_one", "Rows.test_of_two")
         self.assertEqual(self.kinds(done), [("test_of_one", PASSED), ("test_of_two", FAILED)])
-        self.assertEqual(done.counts, (1, 1))
+        self.assertEqual(done.counts, (5, 1))
         name = "made_cases.Rows.test_of_two"
         self.assertEqual([it.strip() for it in done.lines()[1:]],
                          [name, "2 != 1 : the row is 2", f"run again: ./check -k {name}"])

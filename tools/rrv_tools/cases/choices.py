@@ -1,0 +1,127 @@
+"""Guests that are recorded again by the choices that are printed of them.
+
+Each guest of tools/guests is recorded with some quanta and checkpoints. The choices that are printed of it have to be
+those that its records have. Recorded by these choices, with nothing after them, it has to end as before, with the same
+output and the same records. So it has to if the first of the choices are followed by turns of the same quantum. And if
+nothing follows the first of them, it has to have the records up to there, the output so far and no end.
+"""
+import pathlib
+from collections.abc import Callable
+from typing import ClassVar, NamedTuple
+
+from rrv_tools import printed
+from rrv_tools.guests import path_of
+from rrv_tools.testing import Case, add_rows
+
+# Instructions of a slice, and between two checkpoints.
+RECORDINGS = ((64, 0), (1000, 20_000), (50_000, 0))
+
+
+class Done(NamedTuple):
+    """A recording: its report, its output, and its records as lines."""
+
+    report: bytes
+    out: bytes
+    records: list[str]
+
+
+def part_of(records: list[str], count: int) -> list[str]:
+    """The lines up to the frame of this number, from 1; up to the opening for 0."""
+    kept: list[str] = []
+    for line in records:
+        is_frame = line.split()[1] not in printed.NO_FRAMES
+        if is_frame and count == 0:
+            break
+        count -= is_frame
+        kept.append(line)
+    return kept
+
+
+class Recorder:
+    """Records a guest into one store, again and again."""
+
+    def __init__(self, case: Case, guest: str, quantum: int, every: int) -> None:
+        self.program, self.count, self.guest = case.program, 0, path_of(guest)
+        self.store = f"{guest}.{quantum}"
+        self.options = ["--quantum", str(quantum), "--every", str(every)]
+        self.program.run_well("new", self.store)
+        self.whole = self.record()
+        self.choices = printed.text_of(self.program, "choices", self.store, 0)
+        self.lines = self.choices.splitlines(keepends=True)
+
+    def record(self, *options: str, stdin: str = "") -> Done:
+        """One more recording."""
+        words = [*self.options, *options]
+        result = self.program.run_well("record", *words, self.store, self.guest, stdin=stdin.encode())
+        records = printed.text_of(self.program, "dump", self.store, self.count).splitlines()
+        self.count += 1
+        return Done(result.err, result.out, records)
+
+    def part(self, share: Callable[[int], int]) -> int:
+        """How many of the choices are taken, and writes these into a file."""
+        count = share(len(self.lines))
+        text = f"# the first {count}\n\n{''.join(self.lines[:count])}"
+        pathlib.Path("first").write_text(text, encoding="ascii")
+        return count
+
+
+class Choices(Case):
+    """Recordings by choices. A guest is recorded once for all cases of it."""
+
+    seconds = 20
+    shares_folder = True
+    recorders: ClassVar[dict[str, Recorder]]
+
+    @classmethod
+    def setUpClass(cls) -> None:
+        super().setUpClass()
+        cls.recorders = {}
+
+    def of(self, guest: str, quantum: int, every: int) -> Recorder:
+        """The recorder of a guest."""
+        name = f"{guest}.{quantum}"
+        if name not in self.recorders:
+            self.recorders[name] = Recorder(self, guest, quantum, every)
+        return self.recorders[name]
+
+    def need_choices(self, of: Recorder) -> None:
+        """The choices that are printed are those of the records."""
+        wanted = printed.choices_of(printed.frames_in("\n".join(of.whole.records)))
+        self.need("choices", wanted, of.choices)
+        self.assertTrue(wanted)
+
+    def need_again(self, of: Recorder) -> None:
+        """By all choices, and nothing after them."""
+        self.need("recording", of.whole, of.record("--choices", "-", "--then", "none", stdin=of.choices))
+
+    def need_turns(self, of: Recorder, share: Callable[[int], int]) -> None:
+        """By the first of the choices, and turns after them."""
+        of.part(share)
+        self.need("recording", of.whole, of.record("--choices", "first"))
+
+    def need_cut(self, of: Recorder, share: Callable[[int], int]) -> None:
+        """By the first of the choices, and nothing after them."""
+        count = of.part(share)
+        came = of.record("--choices", "first", "--then", "none")
+        records = part_of(of.whole.records, count)
+        report = f"g0: end none, records {len(records)}\n".encode()
+        self.need("recording", Done(report, of.whole.out[: len(came.out)], records), came)
+
+
+SHARES: dict[str, Callable[[int], int]] = {
+    "a third": lambda count: count // 3, "half": lambda count: count // 2, "all but one": lambda count: count - 1,
+}
+LOOKS: dict[str, Callable[[Choices, Recorder], None]] = {"choices": Choices.need_choices, "again": Choices.need_again}
+
+
+def add_looks(share_name: str, share: Callable[[int], int]) -> None:
+    """The looks at a share of the choices."""
+    LOOKS[f"{share_name} and turns"] = lambda case, of: case.need_turns(of, share)
+    LOOKS[f"{share_name} alone"] = lambda case, of: case.need_cut(of, share)
+
+
+for share_and_name in SHARES.items():
+    add_looks(*share_and_name)
+ROWS = {f"{guest} by {recording[0]} {look}": (guest, recording, look)
+        for guest in printed.NAMES for recording in RECORDINGS for look in LOOKS}
+add_rows(Choices, ROWS, lambda case, row: LOOKS[row[2]](case, case.of(row[0], *row[1])))
