@@ -13,7 +13,7 @@ MINUTES = "tools/minutes.toml"
 # What a proof reads of a crate.
 TEXTS = ("src", "specs", "proofs")
 # The folders of what is made.
-MADE = ("out", "__pycache__")
+MADE = ("out", "__pycache__", ".mypy_cache")
 
 Uses = dict[str, list[str]]
 
