@@ -14,6 +14,8 @@ TOOLS: dict[str, tuple[str, str]] = {
     "recordings": ("rrv_tools.makers.recordings", "writes the recordings of replay_cases"),
     "slice_rows": ("rrv_tools.makers.slice_rows", "prints rows of slice_cases"),
     "vectors": ("rrv_tools.makers.vectors", "writes the rows of instructions of machine_cases"),
+    "package": ("rrv_tools.package", "makes the Debian package"),
+    "race_picture": ("rrv_tools.race_picture", "draws a race of a recording"),
     "core_file": ("rrv_tools.core_file", "prints what a core file has of the state"),
     "architecture": ("rrv_tools.prover.architecture", "compares docs/ARCHITECTURE.md, and what other pages have of it"),
     "build": ("rrv_tools.prover.build", "builds rrv, which proves it"),

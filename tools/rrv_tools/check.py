@@ -66,24 +66,12 @@ LOOKS = (
     look("run architecture", 2),
     # the minutes and the logic that docs/PROOFS.md has, beside tools/minutes.toml and release/FROM
     look("run proofs_page --check", 1),
-    # the picture of a race beside what the tool draws of a recording
-    look("race_picture --check", 3),
     # the rows that the crates of cases read, as far as a line of the program shows them
     look("case_files", 25),
     # lines of the program, and the guests that it records
     look("program_lines", 200),
     # when ./rrv builds it, and how
     look("launcher_cases", 10),
-    # its manual page and completions beside its help
-    look("manual", 2),
-    # its package: made, unpacked and run from there
-    look("package_cases", 28),
-    # the commands of its pages
-    look("guide", 10),
-    # the line that shows how far it is
-    look("progress_cases", 50),
-    # closed streams, sixteen programs at once, a store that goes, and clocks
-    look("host_cases", 10),
     # stores that are recorded to, locked, read-only or changed while they are read
     look("look_cases", 60),
 )

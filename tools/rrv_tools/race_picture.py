@@ -1,41 +1,35 @@
-#!/usr/bin/env python3
 """Draws a race of a recording: the threads as lanes, and what they load from and store to a word of memory.
 
-usage: tools/race_picture STORE GUEST ADDRESS [NAME]     prints the picture of the last race for the word at this address
-       tools/race_picture                                records an example and writes docs/race.svg
-       tools/race_picture --check                        compares that file with what it would write, and counts it
+usage: tools/run race_picture STORE GUEST ADDRESS [NAME]   prints the picture of the last race for a word
+       tools/run race_picture                              records an example, and writes docs/race.svg
 
-A race, here: a thread loads the word, other threads change it, and then the first thread changes it by what it loaded. The changes are
-those that `rrv last --word --short` lists, and the turns of threads those of `rrv dump --places`. If a change is the first of its thread
-after one of another thread, `rrv ask` goes back through the instructions of that thread until one loads the word. NAME is what the word
-is called in the picture. Values and addresses are hexadecimal, places decimal.
-
-The program is the one that the environment variable RRV_PROGRAM names, or else the one that was built here.
+A race, here: a thread loads the word, other threads change it, and then the first thread changes it by what it loaded.
+The changes are those that `rrv last --word --short` lists, and the turns of threads those of `rrv dump --places`. If a
+change is the first of its thread after one of another thread, `rrv ask` goes back through the instructions of that
+thread until one loads the word. NAME is what the word is called in the picture. Values and addresses are hexadecimal,
+places decimal.
 """
-
 import dataclasses
-import os
+import itertools
 import pathlib
 import re
-import subprocess
 import sys
 import tempfile
+from collections.abc import Sequence
 
-ROOT = pathlib.Path(__file__).resolve().parent.parent
-PROGRAM = os.environ.get("RRV_PROGRAM") or str(ROOT / "crates" / "rrv" / "out" / "rrv")
+from rrv_tools.program import ROOT, Program, Refused, needed
+
 PICTURE = ROOT / "docs" / "race.svg"
 EXAMPLE, QUANTUM, ADDRESS, NAME = ROOT / "examples" / "lost_update" / "counter.elf", 500, 0x11324, "found"
-# how many changes are looked through, and how many instructions of a thread are gone back through from each
+# How many changes are looked through, and how many instructions of a thread are gone back through from each.
 MOST_CHANGES, MOST_BACK = 65_536, 200
-# RISC-V Unprivileged ISA, 2.6 and 8.2: the opcodes of loads and of atomics, the number of LR, and how many bytes a load of this kind takes
+# RISC-V Unprivileged ISA, 2.6 and 8.2: the opcodes of loads and of atomics, the number of LR, and how many bytes a load
+# of this kind takes.
 LOAD, ATOMIC, LR, SIZES = 0x03, 0x2F, 2, {0: 1, 1: 2, 2: 4, 4: 1, 5: 2}
 WIDTH, LEFT, RIGHT, LANE, MEMORY = 800, 92, 20, 34, 28
-# how wide what stands at a store is, how high, how many rows of it a thread has at most, and how many stores the title names
+# How wide what stands at a store is, how high, how many rows of it a thread has at most, and how many stores the title
+# names.
 TEXT, ROW, MOST_ROWS, MOST_NAMED = 145, 34, 3, 4
-
-
-class Unanswered(Exception):
-    """What keeps a picture from being drawn."""
 
 
 @dataclasses.dataclass(frozen=True)
@@ -59,7 +53,7 @@ class Turn:
 
 @dataclasses.dataclass(frozen=True)
 class Race:
-    """A load, the changes of other threads after it, and the change by what was loaded; and all turns of the recording."""
+    """A load, the changes of other threads after it, and the change by what was loaded; and all turns there are."""
 
     load: Access
     others: list[Access]
@@ -67,44 +61,78 @@ class Race:
     turns: list[Turn]
 
 
-def run(*words: object, lines: str = "") -> str:
-    """What rrv prints."""
-    done = subprocess.run([PROGRAM, *(str(it) for it in words)], input=lines, capture_output=True, text=True, check=False)
-    if done.returncode:
-        raise Unanswered(f"rrv {words[0]}: status {done.returncode}: {done.stderr.strip()}")
-    return done.stdout
+@dataclasses.dataclass(frozen=True)
+class Recording:
+    """A guest of a store, of which a program is asked."""
 
+    program: Program
+    store: pathlib.Path
+    guest: int
 
-def changes_of(store: str, guest: int, address: int) -> list[tuple[Access, int]]:
-    """The changes of a word in their order, each with the word before it."""
-    text = run("last", "--word", "--times", MOST_CHANGES, "--short", store, guest, "end", f"{address:x}")
-    rows = re.findall(r"(?m)^at=(\d+) tid=(\d+) pc=(\w+) old=([\w-]+) new=([\w-]+)$", text)
-    kept = [row for row in rows if "-" not in row[3] + row[4]]
-    return [(Access(int(at), int(tid), int(pc, 16), int(new, 16)), int(old, 16)) for at, tid, pc, old, new in reversed(kept)]
+    def run(self, *words: str, after: Sequence[str] = (), lines: str = "") -> str:
+        """What a line prints, with these words before the store and after the guest."""
+        return self.program.run_well(*words, self.store, self.guest, *after, stdin=lines.encode()).out.decode()
 
+    def changes(self, address: int) -> list[tuple[Access, int]]:
+        """The changes of a word in their order, each with the word before it."""
+        text = self.run("last", "--word", "--times", f"{MOST_CHANGES}", "--short", after=("end", f"{address:x}"))
+        rows = re.findall(r"(?m)^at=(\d+) tid=(\d+) pc=(\w+) old=([\w-]+) new=([\w-]+)$", text)
+        kept = [row for row in rows if "-" not in row[3] + row[4]]
+        return [(Access(int(at), int(tid), int(pc, 16), int(new, 16)), int(old, 16))
+                for at, tid, pc, old, new in reversed(kept)]
 
-def turns_of(store: str, guest: int) -> list[Turn]:
-    """The turns of threads, in order."""
-    text = run("dump", "--places", store, guest)
-    rows = re.findall(r"(?m)^\d+ \w+ tid=(\d+) .*?from=(\d+) to=(\d+)", text)
-    return [Turn(*(int(it) for it in row)) for row in rows if row[1] != row[2]]
+    def turns(self) -> list[Turn]:
+        """The turns of threads, in order."""
+        rows = re.findall(r"(?m)^\d+ \w+ tid=(\d+) .*?from=(\d+) to=(\d+)", self.run("dump", "--places"))
+        return [Turn(*(int(it) for it in row)) for row in rows if row[1] != row[2]]
+
+    def load_among(self, places: list[int], tid: int, address: int) -> tuple[int, int] | None:
+        """The first of some places at which a thread is about to load the word, and the address of that instruction,
+        if there is one."""
+        answers = self.run("ask", lines="".join(f"at {it}\nwhere\n" for it in places)).split("\n.\n")
+        for place, state, where in zip(places, answers[::2], answers[1::2], strict=False):
+            known = re.match(rf"at {place} of \d+ thread {tid} pc (\w+) word (\w+)", where)
+            if known and loads_word(f"{state}\n", tid, int(known[2], 16), address):
+                return place, int(known[1], 16)
+        return None
+
+    def load_before(self, turns: list[Turn], change: Access, address: int) -> tuple[int, int] | None:
+        """The place and the address of the last load of the word by a change's thread before it, if there is one near.
+        Most are very near."""
+        places, found, count = places_before(turns, change.tid, change.at), None, 4
+        while places and not found:
+            found = self.load_among(places[:count], change.tid, address)
+            places, count = places[count:], 4 * count
+        return found
+
+    def race(self, address: int) -> Race:
+        """The last race for a word, by Refused if there is none."""
+        changes, turns = self.changes(address), self.turns()
+        for number in range(len(changes) - 1, 0, -1):
+            change = changes[number][0]
+            if changes[number - 1][0].tid == change.tid:
+                continue
+            found = self.load_before(turns, change, address)
+            others = [it for it, _ in changes[:number] if found and found[0] < it.at]
+            if found and others and change.tid not in {it.tid for it in others}:
+                loaded = next(old for it, old in changes if it.at > found[0])
+                return Race(Access(found[0], change.tid, found[1], loaded), others, change, turns)
+        text = "changed the word at {:08x} by what it had loaded before another thread changed it"
+        raise Refused(f"no thread {text.format(address)}")
 
 
 def places_before(turns: list[Turn], tid: int, place: int) -> list[int]:
     """The last places before one at which a thread runs, the last first."""
-    found: list[int] = []
-    for turn in reversed(turns):
-        if turn.tid == tid and turn.start < place:
-            found += range(min(turn.end, place) - 1, turn.start - 1, -1)
-        if MOST_BACK <= len(found):
-            break
-    return found[:MOST_BACK]
+    before = (range(min(it.end, place) - 1, it.start - 1, -1)
+              for it in reversed(turns) if it.tid == tid and it.start < place)
+    return list(itertools.islice(itertools.chain.from_iterable(before), MOST_BACK))
 
 
 def loads_word(state: str, tid: int, word: int, address: int) -> bool:
     """Whether an instruction, in this printed state, loads a byte of the word at an address for a thread."""
     thread = re.search(rf"(?m)^thread {tid} .*\n((?:  .*\n){{8}})", state)
-    registers = {int(name): int(value, 16) for name, value in re.findall(r"x(\d+) (\w{8})", thread[1])} if thread else {}
+    known = re.findall(r"x(\d+) (\w{8})", thread[1]) if thread else []
+    registers = {int(name): int(value, 16) for name, value in known}
     base, kind = registers.get(word >> 15 & 31, 0), word >> 12 & 7
     if word & 0x7F == LOAD and kind in SIZES:
         start, size = base + (word >> 20) - (word >> 31 << 12), SIZES[kind]
@@ -113,40 +141,6 @@ def loads_word(state: str, tid: int, word: int, address: int) -> bool:
     else:
         return False
     return (start - address) % (1 << 32) < 4 or (address - start) % (1 << 32) < size
-
-
-def load_among(store: str, guest: int, places: list[int], tid: int, address: int) -> tuple[int, int] | None:
-    """The first of some places at which a thread is about to load the word, and the address of that instruction, if there is one."""
-    answers = run("ask", store, guest, lines="".join(f"at {it}\nwhere\n" for it in places)).split("\n.\n")
-    for place, state, where in zip(places, answers[::2], answers[1::2]):
-        known = re.match(rf"at {place} of \d+ thread {tid} pc (\w+) word (\w+)", where)
-        if known and loads_word(f"{state}\n", tid, int(known[2], 16), address):
-            return place, int(known[1], 16)
-    return None
-
-
-def load_before(store: str, guest: int, turns: list[Turn], change: Access, address: int) -> tuple[int, int] | None:
-    """The place and the address of the last load of the word by a change's thread before it, if there is one near. Most are very near."""
-    places, found, count = places_before(turns, change.tid, change.at), None, 4
-    while places and not found:
-        found = load_among(store, guest, places[:count], change.tid, address)
-        places, count = places[count:], 4 * count
-    return found
-
-
-def race_of(store: str, guest: int, address: int) -> Race:
-    """The last race for a word."""
-    changes, turns = changes_of(store, guest, address), turns_of(store, guest)
-    for number in range(len(changes) - 1, 0, -1):
-        change = changes[number][0]
-        if changes[number - 1][0].tid == change.tid:
-            continue
-        found = load_before(store, guest, turns, change, address)
-        others = [it for it, _ in changes[:number] if found and found[0] < it.at]
-        if found and others and change.tid not in {it.tid for it in others}:
-            loaded = next(old for it, old in changes if it.at > found[0])
-            return Race(Access(found[0], change.tid, found[1], loaded), others, change, turns)
-    raise Unanswered(f"no thread changed the word at {address:08x} by what it had loaded before another thread changed it")
 
 
 STYLE = """
@@ -246,11 +240,12 @@ class Drawing:
         race = self.race
         self.parts.append(text_at(14, self.word + MEMORY / 2 + 5, self.name, "name", "start"))
         known = [(self.start, race.load.value), *((it.at, it.value) for it in (*race.others, race.store))]
-        for (at, value), end in zip(known, [*(it for it, _ in known[1:]), self.end]):
+        for (at, value), end in zip(known, [*(it for it, _ in known[1:]), self.end], strict=True):
             kind = "undone" if at == race.store.at else "kept"
             self.parts.append(box(self.x(at), self.word, self.x(end) - self.x(at), MEMORY, kind))
             if 9 * len(f"{value:x}") + 4 <= self.x(end) - self.x(at):
-                self.parts.append(text_at((self.x(at) + self.x(end)) / 2, self.word + MEMORY / 2 + 5, f"{value:x}", "value"))
+                middle = (self.x(at) + self.x(end)) / 2
+                self.parts.append(text_at(middle, self.word + MEMORY / 2 + 5, f"{value:x}", "value"))
 
     def draw_access(self, access: Access, does: str, y: int, is_racer: bool) -> None:
         """A load or a store: a mark on its thread's bar, a line to the word, and what it does."""
@@ -278,7 +273,8 @@ class Drawing:
 
     def draw_axis(self) -> None:
         """The places below."""
-        step = next(it * 10**power for power in range(12) for it in (1, 2, 5) if (self.end - self.start) / (it * 10**power) <= 8)
+        steps = (it * 10**power for power in range(12) for it in (1, 2, 5))
+        step = next(it for it in steps if (self.end - self.start) / it <= 8)
         for place in range(-(-self.start // step) * step, self.end + 1, step):
             self.parts.append(line(self.x(place), self.bottom, self.x(place), self.bottom + 5, "tick"))
             self.parts.append(text_at(self.x(place), self.bottom + 19, str(place), "small"))
@@ -292,7 +288,8 @@ class Drawing:
         stored = " and ".join([", ".join(others[:-1]), others[-1]] if len(others) > 1 else others)
         stored = stored if len(others) <= MOST_NAMED else f"{len(others)} stores"
         lost = f"{stored} {'are' if len(others) > 1 else 'is'} lost"
-        return f"Thread {race.store.tid} stores {race.store.value:x}, from the {race.load.value:x} that it had loaded: {lost}"
+        did = f"Thread {race.store.tid} stores {race.store.value:x}"
+        return f"{did}, from the {race.load.value:x} that it had loaded: {lost}"
 
     def text(self) -> str:
         """The picture, as SVG."""
@@ -300,7 +297,8 @@ class Drawing:
         size = f'viewBox="0 0 {WIDTH} {height}" width="{WIDTH}" height="{height}"'
         self.parts = [f'<svg xmlns="http://www.w3.org/2000/svg" {size} role="img">']
         self.parts += [f"<title>{self.title()}</title>", f"<style>{STYLE}</style>"]
-        self.parts += [f'<rect class="ground" width="{WIDTH}" height="{height}" rx="8"/>', text_at(14, 30, self.title(), "title", "start")]
+        self.parts.append(f'<rect class="ground" width="{WIDTH}" height="{height}" rx="8"/>')
+        self.parts.append(text_at(14, 30, self.title(), "title", "start"))
         self.draw_turns(race.load.tid, self.racer, "racer")
         for tid, y in self.lanes.items():
             self.draw_turns(tid, y, "other")
@@ -314,22 +312,13 @@ class Drawing:
         return "\n".join([*self.parts, "</svg>"]) + "\n"
 
 
-def example() -> str:
+def example(program: Program) -> str:
     """The picture of the example's race."""
     with tempfile.TemporaryDirectory() as folder:
-        store = f"{folder}/race.rrv"
-        run("new", store)
-        run("record", "--quantum", QUANTUM, store, EXAMPLE)
-        return Drawing(race_of(store, 0, ADDRESS), NAME).text()
-
-
-def compare() -> int:
-    """Whether the picture of the repository is the example's."""
-    is_same = PICTURE.is_file() and PICTURE.read_text(encoding="utf-8") == example()
-    if not is_same:
-        print(f"{PICTURE.relative_to(ROOT)}: not what tools/race_picture draws")
-    print(f"{int(is_same)} passed, {int(not is_same)} failed")
-    return 0 if is_same else 1
+        store = pathlib.Path(folder, "race.rrv")
+        program.run_well("new", store)
+        program.run_well("record", "--quantum", QUANTUM, store, EXAMPLE)
+        return Drawing(Recording(program, store, 0).race(ADDRESS), NAME).text()
 
 
 def is_address(text: str) -> bool:
@@ -337,27 +326,19 @@ def is_address(text: str) -> bool:
     return re.fullmatch(r"(?:0x)?[0-9A-Fa-f]{1,8}", text) is not None
 
 
-def main(words: list[str]) -> int:
+def main(words: Sequence[str]) -> int:
     """Does what the line says."""
     try:
         match words:
             case []:
-                PICTURE.write_text(example(), encoding="utf-8")
+                PICTURE.write_text(example(needed()), encoding="utf-8")
                 return 0
-            case ["--check"]:
-                return compare()
             case [store, guest, address, *name] if guest.isdecimal() and is_address(address) and len(name) < 2:
-                at = int(address, 16)
-                print(Drawing(race_of(store, int(guest), at), [*name, f"{at:08x}"][0]).text(), end="")
+                race = Recording(needed(), pathlib.Path(store), int(guest)).race(int(address, 16))
+                print(Drawing(race, [*name, f"{int(address, 16):08x}"][0]).text(), end="")
                 return 0
-    except (Unanswered, OSError) as wrong:
+    except (Refused, OSError) as wrong:
         print(f"race_picture: {wrong}", file=sys.stderr)
-        if words == ["--check"]:
-            print("0 passed, 1 failed")
         return 1
     print(__doc__, end="", file=sys.stderr)
     return 2
-
-
-if __name__ == "__main__":
-    sys.exit(main(sys.argv[1:]))

@@ -1,23 +1,22 @@
-#!/usr/bin/env python3
 """Makes the Debian package of rrv, rrv_VERSION_amd64.deb, from this tree by dpkg-deb, and prints its name.
 
-usage: tools/package [PATH]
+usage: tools/run package [PATH]
 
-PATH is the folder that gets the package, or a name for it that ends in .deb. The default is the working folder. The program is
-release/rrv, or the one that the environment variable RRV_PROGRAM names; it prints the version. The package depends on the libraries
-that the program names.
+PATH is the folder that gets the package, or a name for it that ends in .deb. The default is the working folder. The
+program is release/rrv, or the one that the environment variable RRV_PROGRAM names; it prints the version. The package
+depends on the libraries that the program names.
 
-The same tree, program and dpkg-deb give the same bytes: all files have the time SOURCE_DATE_EPOCH, or else the day that CHANGELOG.md
-has for the version, and belong to root. Who makes the package for others is named as its maintainer by DEBFULLNAME and DEBEMAIL.
-Nothing is written but the package: it is put together in a temporary folder.
+The same tree, program and dpkg-deb give the same bytes: all files have the time SOURCE_DATE_EPOCH, or else the day
+that CHANGELOG.md has for the version, and belong to root. Who makes the package for others is named as its maintainer
+by DEBFULLNAME and DEBEMAIL. Nothing is written but the package: it is put together in a temporary folder.
 """
 import dataclasses
 import datetime
 import email.utils
-import glob
 import gzip
 import hashlib
 import os
+import pathlib
 import re
 import shutil
 import struct
@@ -25,21 +24,24 @@ import subprocess
 import sys
 import tempfile
 import textwrap
+from collections.abc import Iterable, Mapping, Sequence
 
-ROOT = os.path.dirname(os.path.dirname(os.path.realpath(__file__)))
+from rrv_tools.program import ROOT
+
 DOCS = "usr/share/doc/rrv"
-# The Debian package of each library that a program may name. That of libc6 has to be as new as the symbols that are wanted.
-LIBRARIES = {it: "libc6" for it in ("libc.so.6", "libm.so.6", "libpthread.so.0", "libdl.so.2", "librt.so.1", "ld-linux-x86-64.so.2")}
-LIBRARIES["libgcc_s.so.1"] = "libgcc-s1"
+# The Debian package of each library that a program may name. That of libc6 has to be as new as the symbols that are
+# wanted.
+C_LIBRARY = ("libc.so.6", "libm.so.6", "libpthread.so.0", "libdl.so.2", "librt.so.1", "ld-linux-x86-64.so.2")
+LIBRARIES = {**dict.fromkeys(C_LIBRARY, "libc6"), "libgcc_s.so.1": "libgcc-s1"}
 # rrv-hunt is Python, rrv-cc runs a compiler over a C library, and a debugger reads core files of guests.
 RECOMMENDS, SUGGESTS = "python3", "gcc-riscv64-unknown-elf, gdb-multiarch, picolibc-riscv64-unknown-elf"
 SYNOPSIS = "record RISC-V programs and replay them exactly"
 DESCRIPTION = (
-    "rrv records a static RV32IMA program with threads while it runs, and replays it exactly, to any instruction, forwards and "
-    "backwards. A run that goes wrong now and then is recorded once, and then shows its fault each time. A recording lies in a store, "
-    "which is a file.",
-    "rrv-hunt looks for turns of threads by which a program fails. rrv-cc compiles C programs with POSIX threads to programs that rrv "
-    "records.",
+    "rrv records a static RV32IMA program with threads while it runs, and replays it exactly, to any instruction, "
+    "forwards and backwards. A run that goes wrong now and then is recorded once, and then shows its fault each time. "
+    "A recording lies in a store, which is a file.",
+    "rrv-hunt looks for turns of threads by which a program fails. rrv-cc compiles C programs with POSIX threads to "
+    "programs that rrv records.",
 )
 COPYRIGHT = """\
 rrv
@@ -75,8 +77,8 @@ gdb-multiarch.
 # What lintian takes for errors, and is meant: paths, the errors at them, and why.
 MEANT = (
     ("usr/bin/rrv", ("unstripped-binary-or-object",), "The program is the released one, byte by byte."),
-    (f"{DOCS}/examples/*.elf",
-     ("arch-dependent-file-in-usr-share", "binary-from-other-architecture", "statically-linked-binary", "unstripped-binary-or-object"),
+    (f"{DOCS}/examples/*.elf", ("arch-dependent-file-in-usr-share", "binary-from-other-architecture",
+                                "statically-linked-binary", "unstripped-binary-or-object"),
      "The examples are programs for the machine that rrv records."),
 )
 
@@ -87,7 +89,7 @@ class Refused(Exception):
 
 @dataclasses.dataclass(frozen=True)
 class Item:
-    """What stands at a path of the package: a file, with its bytes and whether it may be run, or a link to another path."""
+    """What stands at a path of the package: a file, with its bytes and whether it may be run, or a link to a path."""
 
     data: bytes = b""
     runs: bool = False
@@ -96,7 +98,8 @@ class Item:
 
 @dataclasses.dataclass(frozen=True)
 class Release:
-    """A version, with its day in seconds, and what CHANGELOG.md says of it: lines of groups as `### Added`, and each text as one line."""
+    """A version, with its day in seconds, and what CHANGELOG.md says of it: lines of groups as `### Added`, and each
+    text as one line."""
 
     version: str
     time: int
@@ -104,15 +107,15 @@ class Release:
 
 
 def read(path: str) -> bytes:
-    """The bytes of a file."""
-    with open(path, "rb") as file:
-        return file.read()
+    """The bytes of a file of the tree."""
+    return (ROOT / path).read_bytes()
 
 
-def version_of(program: str) -> str:
+def version_of(program: pathlib.Path) -> str:
     """The version that a program prints."""
     try:
-        done = subprocess.run([program, "--version"], stdin=subprocess.DEVNULL, capture_output=True, check=False)
+        done = subprocess.run([program.absolute(), "--version"], stdin=subprocess.DEVNULL, capture_output=True,
+                              check=False)
     except OSError as error:
         raise Refused(f"{program} can't be run: {error.strerror}") from error
     printed = done.stdout.decode(errors="replace")
@@ -133,32 +136,29 @@ def releases_of(text: str) -> list[Release]:
         except ValueError as error:
             raise Refused(f"CHANGELOG.md: '## {head}' is no version with its day") from error
         blocks = re.split(r"\n\s*\n|\n(?=- )", body.strip())
-        found.append(Release(version, int(time.timestamp()), [" ".join(it.split()) for it in blocks if it.strip()]))
+        lines = [" ".join(it.split()) for it in blocks if it.strip()]
+        found.append(Release(version, int(time.timestamp()), lines))
     return found
 
 
-def debian_changelog(releases: list[Release], maintainer: str) -> bytes:
+def debian_changelog(releases: Sequence[Release]) -> bytes:
     """These versions as Debian's form of a changelog."""
+    wrapper = textwrap.TextWrapper(78, initial_indent="  * ", subsequent_indent="    ", break_on_hyphens=False)
     parts = []
     for release in releases:
         parts.append(f"rrv ({release.version}) unstable; urgency=medium\n")
         for line in release.lines:
-            if line.startswith("### "):
-                parts.append(f"\n  [ {line[4:]} ]")
-            else:
-                parts += textwrap.wrap(line.removeprefix("- "), 78, initial_indent="  * ", subsequent_indent="    ", break_on_hyphens=False)
-        parts.append(f"\n -- {maintainer}  {email.utils.format_datetime(at(release.time))}\n")
+            is_head = line.startswith("### ")
+            parts += [f"\n  [ {line[4:]} ]"] if is_head else wrapper.wrap(line.removeprefix("- "))
+        day = datetime.datetime.fromtimestamp(release.time, datetime.UTC)
+        parts.append(f"\n -- {maintainer()}  {email.utils.format_datetime(day)}\n")
     return "\n".join(parts).encode()
-
-
-def at(time: int) -> datetime.datetime:
-    """A time in seconds as a date."""
-    return datetime.datetime.fromtimestamp(time, datetime.timezone.utc)
 
 
 def maintainer() -> str:
     """Who makes the package for others."""
-    return f"{os.environ.get('DEBFULLNAME') or 'made by tools/package'} <{os.environ.get('DEBEMAIL') or 'nobody@rrv.invalid'}>"
+    name = os.environ.get("DEBFULLNAME") or "made by tools/run"
+    return f"{name} <{os.environ.get('DEBEMAIL') or 'nobody@rrv.invalid'}>"
 
 
 class Elf:
@@ -172,11 +172,12 @@ class Elf:
             raise Refused("the program is no ELF file for x86-64")
         self.data = data
         start, size, count = *struct.unpack_from("<Q", data, 32), *struct.unpack_from("<HH", data, 54)
-        self.segments: list[tuple[int, ...]] = [struct.unpack_from("<IIQQQQQQ", data, start + size * it) for it in range(count)]
+        places = (start + size * it for it in range(count))
+        self.segments: list[tuple[int, ...]] = [struct.unpack_from("<IIQQQQQQ", data, it) for it in places]
         self.entries: list[tuple[int, int]] = []
         for kind, _, place, _, _, size, *_ in self.segments:
             if kind == self.DYNAMIC:
-                self.entries += [(tag, value) for tag, value in struct.iter_unpack("<QQ", data[place : place + size])]
+                self.entries += ((tag, value) for tag, value in struct.iter_unpack("<QQ", data[place: place + size]))
 
     def place_of(self, address: int) -> int:
         """Where in the file a byte of the program's memory stands."""
@@ -192,7 +193,7 @@ class Elf:
     def text(self, offset: int) -> str:
         """The name at this place of the string table."""
         place = self.place_of(self.first(self.STRINGS)) + offset
-        return self.data[place : self.data.index(b"\0", place)].decode()
+        return self.data[place: self.data.index(b"\0", place)].decode()
 
     def libraries(self) -> dict[str, set[str]]:
         """The libraries, each with the versions of its symbols that are wanted."""
@@ -223,7 +224,7 @@ def libraries_of(program: bytes) -> dict[str, set[str]]:
         raise Refused("the program's dynamic section can't be read") from error
 
 
-def depends_of(libraries: dict[str, set[str]]) -> str:
+def depends_of(libraries: Mapping[str, set[str]]) -> str:
     """The packages that a program needs."""
     found: dict[str, list[str]] = {}
     for library, versions in libraries.items():
@@ -234,16 +235,15 @@ def depends_of(libraries: dict[str, set[str]]) -> str:
             if not re.fullmatch(r"GLIBC_\d+(\.\d+)+", version):
                 raise Refused(f"the program needs {version} of {library}, which is no number of a version")
             wanted.append(version.removeprefix("GLIBC_"))
-    return ", ".join(f"{name} (>= {max(wanted, key=numbers)})" if wanted else name for name, wanted in sorted(found.items()))
+    newest = {name: f" (>= {max(wanted, key=numbers)})" if wanted else "" for name, wanted in sorted(found.items())}
+    return ", ".join(f"{name}{it}" for name, it in newest.items())
 
 
 def tree_of(folder: str, place: str) -> dict[str, Item]:
     """The files below a folder of the tree, at a place of the package. Manual pages have a place of their own."""
-    top, found = f"{ROOT}/{folder}", {}
-    for path in glob.glob(f"{glob.escape(top)}/**", recursive=True):
-        if os.path.isfile(path) and not path.endswith(".1"):
-            found[f"{place}/{os.path.relpath(path, top)}"] = Item(read(path), bool(os.stat(path).st_mode & 0o100))
-    return found
+    paths = [it for it in (ROOT / folder).rglob("[!.]*") if it.is_file() and it.suffix != ".1"]
+    found = {it: Item(it.read_bytes(), bool(it.stat().st_mode & 0o100)) for it in paths}
+    return {f"{place}/{path.relative_to(ROOT / folder)}": item for path, item in found.items()}
 
 
 def packed(data: bytes) -> Item:
@@ -253,25 +253,24 @@ def packed(data: bytes) -> Item:
 
 def documents() -> dict[str, Item]:
     """The documents, which lie to each other as in the tree, so that their links lead there."""
-    patterns = ("*.md", "docs/*.md", "docs/*.svg", "docs/*.png")
-    paths = [path for it in patterns for path in glob.glob(f"{glob.escape(ROOT)}/{it}")]
-    return {f"{DOCS}/{os.path.relpath(it, ROOT)}": Item(read(it)) for it in paths}
+    paths = [path for it in ("*.md", "docs/*.md", "docs/*.svg", "docs/*.png") for path in ROOT.glob(it)]
+    return {f"{DOCS}/{it.relative_to(ROOT)}": Item(it.read_bytes()) for it in paths}
 
 
-def items(program: bytes, releases: list[Release]) -> dict[str, Item]:
+def items(program: bytes, releases: Sequence[Release]) -> dict[str, Item]:
     """What the package has, by its paths."""
     pages = {"rrv": "docs/rrv.1", "rrv-hunt": "examples/hunt/rrv-hunt.1", "rrv-cc": "examples/kit/rrv-cc.1"}
-    meant = "\n".join(f"# {why}\n" + "".join(f"rrv: {tag} [{path}]\n" for tag in tags) for path, tags, why in MEANT)
+    meant = [f"# {why}\n" + "".join(f"rrv: {tag} [{path}]\n" for tag in tags) for path, tags, why in MEANT]
     found = {
         "usr/bin/rrv": Item(program, True),
-        "usr/bin/rrv-hunt": Item(read(f"{ROOT}/examples/hunt/hunt"), True),
+        "usr/bin/rrv-hunt": Item(read("examples/hunt/hunt"), True),
         "usr/bin/rrv-cc": Item(link="../share/rrv/kit/cc"),
-        "usr/share/bash-completion/completions/rrv": Item(read(f"{ROOT}/docs/rrv.bash")),
-        "usr/share/lintian/overrides/rrv": Item(meant.encode()),
-        f"{DOCS}/changelog.gz": packed(debian_changelog(releases, maintainer())),
+        "usr/share/bash-completion/completions/rrv": Item(read("docs/rrv.bash")),
+        "usr/share/lintian/overrides/rrv": Item("\n".join(meant).encode()),
+        f"{DOCS}/changelog.gz": packed(debian_changelog(releases)),
         f"{DOCS}/README.Debian": Item(FOR_DEBIAN.encode()),
         f"{DOCS}/copyright": Item(COPYRIGHT.encode()),
-        **{f"usr/share/man/man1/{name}.1.gz": packed(read(f"{ROOT}/{path}")) for name, path in pages.items()},
+        **{f"usr/share/man/man1/{name}.1.gz": packed(read(path)) for name, path in pages.items()},
         **tree_of("examples/kit", "usr/share/rrv/kit"),
         **tree_of("examples", f"{DOCS}/examples"),
         **documents(),
@@ -279,54 +278,49 @@ def items(program: bytes, releases: list[Release]) -> dict[str, Item]:
     return {path: found[path] for path in sorted(found)}
 
 
-def folders_of(paths: list[str]) -> list[str]:
+def folders_of(paths: Iterable[str]) -> list[str]:
     """All folders above these paths, each before what it has."""
-    found = set()
-    for path in paths:
-        while path := os.path.dirname(path):
-            found.add(path)
-    return sorted(found)
+    return sorted({str(it) for path in paths for it in pathlib.PurePath(path).parents} - {"."})
 
 
-def control_files(version: str, depends: str, files: dict[str, Item]) -> dict[str, Item]:
+def control_files(version: str, depends: str, files: Mapping[str, Item]) -> dict[str, Item]:
     """What dpkg reads of the package: its fields, and the sums of its files."""
-    kibibytes = sum(-(-len(it.data) // 1024) or 1 for it in files.values()) + len(folders_of(list(files)))
-    described = "\n .\n".join(textwrap.fill(it, 78, initial_indent=" ", subsequent_indent=" ") for it in DESCRIPTION)
+    kibibytes = sum(-(-len(it.data) // 1024) or 1 for it in files.values()) + len(folders_of(files))
+    described = (textwrap.fill(it, 78, initial_indent=" ", subsequent_indent=" ") for it in DESCRIPTION)
     fields = {
-        "Package": "rrv", "Version": version, "Architecture": "amd64", "Maintainer": maintainer(), "Installed-Size": str(kibibytes),
-        "Depends": depends, "Recommends": RECOMMENDS, "Suggests": SUGGESTS, "Section": "devel", "Priority": "optional",
-        "Description": f"{SYNOPSIS}\n{described}",
-    }
+        "Package": "rrv", "Version": version, "Architecture": "amd64", "Maintainer": maintainer(),
+        "Installed-Size": f"{kibibytes}", "Depends": depends, "Recommends": RECOMMENDS, "Suggests": SUGGESTS,
+        "Section": "devel", "Priority": "optional", "Description": "\n".join([SYNOPSIS, "\n .\n".join(described)]),
+    }  # fmt: skip
     sums = "".join(f"{hashlib.md5(it.data).hexdigest()}  {path}\n" for path, it in files.items() if not it.link)
     control = "".join(f"{name}: {value}\n" for name, value in fields.items() if value)
     return {"DEBIAN/control": Item(control.encode()), "DEBIAN/md5sums": Item(sums.encode())}
 
 
-def lay_out(folder: str, files: dict[str, Item], time: int) -> None:
-    """Writes these below a folder, with their modes and this time, whatever the umask is."""
-    for path in folders_of(list(files)):
-        os.mkdir(f"{folder}/{path}")
-    for path, item in files.items():
-        whole = f"{folder}/{path}"
+def lay_out(folder: pathlib.Path, files: Mapping[str, Item], time: int) -> None:
+    """Makes a folder of these, with their modes and this time, whatever the umask is."""
+    folders = [folder, *(folder / it for it in folders_of(files))]
+    for path in folders:
+        path.mkdir()
+    for name, item in files.items():
+        path = folder / name
         if item.link:
-            os.symlink(item.link, whole)
+            path.symlink_to(item.link)
         else:
-            with open(whole, "wb") as file:
-                file.write(item.data)
-            os.chmod(whole, 0o755 if item.runs else 0o644)
-        os.utime(whole, (time, time), follow_symlinks=False)
-    for path in [*reversed(folders_of(list(files))), ""]:
-        os.chmod(f"{folder}/{path}", 0o755)
-        os.utime(f"{folder}/{path}", (time, time))
+            path.write_bytes(item.data)
+            path.chmod(0o755 if item.runs else 0o644)
+        os.utime(path, (time, time), follow_symlinks=False)
+    for path in reversed(folders):
+        path.chmod(0o755)
+        os.utime(path, (time, time))
 
 
-def build(files: dict[str, Item], time: int, path: str) -> None:
+def build(files: Mapping[str, Item], time: int, path: str) -> None:
     """Makes the package of these, at this path."""
     with tempfile.TemporaryDirectory() as folder:
-        os.mkdir(f"{folder}/rrv")
-        lay_out(f"{folder}/rrv", files, time)
+        lay_out(pathlib.Path(folder, "rrv"), files, time)
         words = ["dpkg-deb", "--root-owner-group", "-Zxz", "-z6", "--build", f"{folder}/rrv", f"{folder}/rrv.deb"]
-        named = {**os.environ, "LC_ALL": "C", "SOURCE_DATE_EPOCH": str(time), "DPKG_DEB_THREADS_MAX": "1"}
+        named = {**os.environ, "LC_ALL": "C", "SOURCE_DATE_EPOCH": f"{time}", "DPKG_DEB_THREADS_MAX": "1"}
         done = subprocess.run(words, env=named, stdin=subprocess.DEVNULL, capture_output=True, text=True, check=False)
         if done.returncode != 0:
             raise Refused(f"dpkg-deb failed: {done.stderr.strip()}")
@@ -335,7 +329,7 @@ def build(files: dict[str, Item], time: int, path: str) -> None:
 
 def time_of(release: Release) -> int:
     """The time of all files: as the environment says, or the day of the version."""
-    said = os.environ.get("SOURCE_DATE_EPOCH") or str(release.time)
+    said = os.environ.get("SOURCE_DATE_EPOCH") or f"{release.time}"
     if not re.fullmatch(r"\d{1,10}", said):
         raise Refused(f"SOURCE_DATE_EPOCH is no number of seconds: {said!r}")
     return int(said)
@@ -345,12 +339,12 @@ def make(path: str) -> str:
     """Makes the package, and returns its name."""
     if shutil.which("dpkg-deb") is None:
         raise Refused("dpkg-deb is not installed: it is part of Debian's package dpkg")
-    program = os.environ.get("RRV_PROGRAM") or f"{ROOT}/release/rrv"
-    if not os.path.isfile(program):
+    program = pathlib.Path(os.environ.get("RRV_PROGRAM") or ROOT / "release" / "rrv")
+    if not program.is_file():
         raise Refused(f"{program} is no file: name the program by RRV_PROGRAM")
-    data = read(program)
-    depends, version = depends_of(libraries_of(data)), version_of(os.path.abspath(program))
-    releases = releases_of(read(f"{ROOT}/CHANGELOG.md").decode())
+    data = program.read_bytes()
+    depends, version = depends_of(libraries_of(data)), version_of(program)
+    releases = releases_of(read("CHANGELOG.md").decode())
     while releases and releases[0].version != version:
         releases.pop(0)
     if not releases:
@@ -364,18 +358,14 @@ def make(path: str) -> str:
     return path
 
 
-def main() -> int:
-    """Reads the line, and makes the package."""
-    if len(sys.argv) > 2 or sys.argv[1:2] in (["-h"], ["--help"]):
+def main(words: Sequence[str]) -> int:
+    """Makes the package into the folder, or by the name, that the word says."""
+    if len(words) > 1 or words and words[0] in ("-h", "--help"):
         print(__doc__, end="", file=sys.stderr)
         return 2
     try:
-        print(make(sys.argv[1] if sys.argv[1:] else "."))
+        print(make(*words or ["."]))
     except (Refused, OSError) as error:
         print(f"package: {error}", file=sys.stderr)
         return 1
     return 0
-
-
-if __name__ == "__main__":
-    sys.exit(main())
