@@ -5,6 +5,8 @@ from collections.abc import Sequence
 
 # The modules with `main(words) -> int`, by the name of the tool, and what each does.
 TOOLS: dict[str, tuple[str, str]] = {
+    "refused_growths": ("rrv_tools.refused_growths", "refuses each growth of a test in turn"),
+    "rows": ("rrv_tools.rows", "prints which rows of the crates of cases are cases, and which are left out"),
     "records": ("rrv_tools.records", "prints the records of a store"),
     "kills": ("rrv_tools.cases.kills", "ends recordings and copies at random moments"),
     "ask_cases": ("rrv_tools.cases.asks", "asks random questions about random guests, and compares"),

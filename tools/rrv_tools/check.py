@@ -66,20 +66,14 @@ LOOKS = (
     look("run architecture", 2),
     # the minutes and the logic that docs/PROOFS.md has, beside tools/minutes.toml and release/FROM
     look("run proofs_page --check", 1),
-    # the rows that the crates of cases read, as far as a line of the program shows them
-    look("case_files", 25),
-    # lines of the program, and the guests that it records
-    look("program_lines", 200),
     # when ./rrv builds it, and how
     look("launcher_cases", 10),
-    # stores that are recorded to, locked, read-only or changed while they are read
-    look("look_cases", 60),
 )
 # The tools that look at what only the gate builds: the tests of refused growths, with each growth refused in turn.
-OF_PROOFS = (look("refused_growths", 60),)
+OF_PROOFS = (look("run refused_growths", 60),)
 # How the names begin of what is compared on the release and on the program that the gate built, if these are not the
 # same bytes.
-OF_BOTH = ("tools/program_lines", "cases.scenes")
+OF_BOTH = ("cases.lines", "cases.scenes")
 
 
 # ---- finding cases

@@ -27,6 +27,8 @@ def writes(descriptor: int, buffer: int, count: int) -> list[int]:
 EXIT_FIVE = elf.executable(exits(5))
 # It jumps to itself: `j .`.
 SPIN = elf.executable([0x0000006F])
+# Its only thread waits at the file's first word, as long as that is 464C457F, which it stays.
+WAITS = elf.executable([lui(A0, 0x10), lui(A2, 0x464C4), addi(A2, A2, 0x57F), *call(FUTEX)])
 
 
 # ---- guests of version 2, which wait for a time
@@ -188,6 +190,11 @@ class Threads:
     def end(self) -> str:
         """How `verify` prints its end, up to its status."""
         return "end exited "
+
+
+# Those of tools/guests that are recorded, some more often than once. A race goes the same way each time.
+RECORDED = ("primes", "every_instruction", "breakpoint", "lock", "race", "race", "race",
+            *(f"changing_{it}" for it in (1, 14, 18, 20, 33, 43, 55, 59)))
 
 
 def path_of(name: str, suffix: str = "elf") -> pathlib.Path:
