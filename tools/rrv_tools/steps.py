@@ -1,6 +1,5 @@
 """Steps of scenes: files are written, cut and changed, lines are run over them, and what these print and leave is
 compared."""
-import contextlib
 import dataclasses
 import fcntl
 import os

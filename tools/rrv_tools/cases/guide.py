@@ -28,7 +28,7 @@ SECONDS = 600
 LEFT_OUT = {
     "git clone ": "it needs the place of a repository",
     "./check": "it runs these cases itself, and takes minutes to hours",
-    "tools/release": "it writes the release of the repository",
+    "tools/run release": "it writes the release of the repository",
     "tools/run package": "it takes the program of the repository, and cases look at what it makes",
 }
 
