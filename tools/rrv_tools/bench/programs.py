@@ -1,23 +1,22 @@
-"""The programs that are measured, and the guests of bench/guests, as the scripts of this folder build them.
+"""The programs that are measured, and the guests of bench/guests.
 
-If the environment variable RRV_PROGRAM names a program, that one is measured as rrv, and no program is built: what needs `rates` is left
-out, or ends by saying so.
+If the environment variable RRV_PROGRAM names a program, that one is measured as rrv, and no program is built: what
+needs `rates` is left out, or ends by saying so.
 """
-
 import os
 import pathlib
 import shutil
 import subprocess
 import sys
 
-ROOT = pathlib.Path(__file__).resolve().parent.parent
+from rrv_tools.program import ROOT
+from rrv_tools.toolchain import COMPILER, QEMU
+
 GUESTS = ROOT / "bench" / "guests"
-GCC = "riscv64-unknown-elf-gcc"
-# how the ELF files beside the sources were made
-GUEST_FLAGS = (
-    "-march=rv32ima -mabi=ilp32 -O2 -fno-tree-loop-distribute-patterns -nostdlib -static "
-    "-Wl,-z,max-page-size=4096 -Wl,--build-id=none -s"
-)
+# How the ELF files beside the sources were made.
+FLAGS = ("-march=rv32ima -mabi=ilp32 -O2 -fno-tree-loop-distribute-patterns -nostdlib -static "
+         "-Wl,-z,max-page-size=4096 -Wl,--build-id=none -s").split()
+PLAIN_FLAGS = "--edition 2024 -O -C target-cpu=x86-64-v2".split()
 GIVEN = os.environ.get("RRV_PROGRAM")
 
 
@@ -43,14 +42,19 @@ def build_plain(name: str) -> list[str] | None:
         return None
     out = ROOT / "crates" / "rates" / "out" / f"plain_{name}"
     out.parent.mkdir(exist_ok=True)
-    source = ROOT / "bench" / "plain" / f"{name}.rs"
-    subprocess.run(["rustc", "--edition", "2024", "-O", "-C", "target-cpu=x86-64-v2", "-o", str(out), str(source)], check=True)
+    subprocess.run(["rustc", *PLAIN_FLAGS, "-o", out, ROOT / "bench" / "plain" / f"{name}.rs"], check=True)
     return [str(out)]
+
+
+def qemu() -> list[str] | None:
+    """The words that run a guest by qemu-riscv32; None if that isn't installed."""
+    found = shutil.which(QEMU)
+    return [found] if found else None
 
 
 def build_guest(name: str, turns: int, folder: pathlib.Path) -> pathlib.Path:
     """A guest of bench/guests with this many turns, as an ELF file in a folder."""
     source = next(it for it in (GUESTS / f"{name}.S", GUESTS / f"{name}.c") if it.exists())
-    elf = folder / f"{name}_{turns}.elf"
-    subprocess.run([GCC, *GUEST_FLAGS.split(), f"-DTURNS={turns}", "-o", str(elf), str(source)], check=True)
-    return elf
+    made = folder / f"{name}_{turns}.elf"
+    subprocess.run([COMPILER, *FLAGS, f"-DTURNS={turns}", "-o", made, source], check=True)
+    return made

@@ -1,10 +1,11 @@
-"""Line plots as SVG, without a dependency: what scripts of this folder measured, by a setting in a row of settings."""
+"""Line plots as SVG: what was measured, by a setting in a row of settings."""
 
 import dataclasses
 import math
+from collections.abc import Mapping, Sequence
 
-WIDTH, HEIGHT, LEFT, RIGHT, TOP, BOTTOM = 720, 340, 64, 150, 60, 52
-# how far apart the names of lines stand at least, and how many marks an axis has at most
+WIDTH, HEIGHT, LEFT, RIGHT, TOP, BOTTOM = 720, 356, 64, 150, 60, 68
+# How far apart the names of lines stand at least, and how many marks an axis has at most
 LEAST_APART, MOST_MARKS = 17, 6
 STYLE = """
   .ground { fill: #ffffff }
@@ -37,13 +38,15 @@ COLOURS = ("one", "two", "three", "four")
 
 @dataclasses.dataclass(frozen=True)
 class Plot:
-    """What is measured, of what, by which settings; and of each line a value for each setting, None if there is none."""
+    """What is measured, of what, by which settings; of each line a value for each setting, None if there is none; and
+    where and when it was measured."""
 
     title: str
     unit: str
     setting: str
     settings: list[str]
-    lines: dict[str, list[float | None]]
+    lines: Mapping[str, Sequence[float | None]]
+    circumstances: str
     is_log: bool = False
 
 
@@ -60,7 +63,8 @@ def marks_of(plot: Plot) -> list[float]:
         low = max(it for it in steps if it <= min(values))
         high = min(it for it in steps if max(values) <= it)
         kept = [it for it in steps if low <= it <= high]
-        return kept if len(kept) <= 2 * MOST_MARKS else [it for it in kept if it in (low, high) or math.log10(it).is_integer()]
+        few = [it for it in kept if it in (low, high) or math.log10(it).is_integer()]
+        return kept if len(kept) <= 2 * MOST_MARKS else few
     step = next(it for it in steps if max(values) / it <= MOST_MARKS)
     return [number * step for number in range(math.ceil(max(values) / step) + 1)]
 
@@ -116,13 +120,14 @@ def spread(wanted: list[float]) -> list[float]:
 def lines_of(plot: Plot, scale: Scale) -> list[str]:
     """The lines, each with its name and its last value at the right."""
     parts, ends = [], []
-    for colour, (name, values) in zip(COLOURS, plot.lines.items()):
+    for colour, (name, values) in zip(COLOURS, plot.lines.items(), strict=False):
         points = [(scale.x(place), scale.y(it), it) for place, it in enumerate(values) if it is not None]
         path = " ".join(f"{x:.1f},{y:.1f}" for x, y, _ in points)
         parts.append(f'<polyline class="line {colour}" points="{path}"/>')
         parts += [f'<circle class="dot {colour}" cx="{x:.1f}" cy="{y:.1f}" r="3.6"/>' for x, y, _ in points]
         ends.append((colour, name, points[-1]))
-    for (colour, name, (x, y, value)), at in zip(ends, spread([it[2][1] for it in ends])):
+    places = spread([it[2][1] for it in ends])
+    for (colour, name, (x, y, value)), at in zip(ends, places, strict=True):
         parts.append(f'<path class="lead" d="M{x + 6:.1f} {y:.1f} L{WIDTH - RIGHT + 2} {at:.1f}"/>')
         parts.append(text_at(WIDTH - RIGHT + 8, at + 4, f"{name} {shown(value)}", colour, "start"))
     return parts
@@ -132,6 +137,9 @@ def svg(plot: Plot) -> str:
     """The plot, as SVG."""
     scale = Scale(plot)
     size = f'viewBox="0 0 {WIDTH} {HEIGHT}" width="{WIDTH}" height="{HEIGHT}"'
-    parts = [f'<svg xmlns="http://www.w3.org/2000/svg" {size} role="img">', f"<title>{plot.title}</title>", f"<style>{STYLE}</style>"]
-    parts += [f'<rect class="ground" width="{WIDTH}" height="{HEIGHT}" rx="8"/>', text_at(16, 24, plot.title, "title", "start")]
+    parts = [f'<svg xmlns="http://www.w3.org/2000/svg" {size} role="img">']
+    parts += [f"<title>{plot.title}</title>", f"<style>{STYLE}</style>"]
+    parts += [f'<rect class="ground" width="{WIDTH}" height="{HEIGHT}" rx="8"/>']
+    parts += [text_at(16, 24, plot.title, "title", "start")]
+    parts += [text_at(16, HEIGHT - 8, plot.circumstances, "small", "start")]
     return "\n".join([*parts, *axes(plot, scale), *lines_of(plot, scale), "</svg>"]) + "\n"
