@@ -1,9 +1,10 @@
 """Tests the program that ./rrv starts, or RRV_PROGRAM.
 
-usage: ./check                                       runs every case and look that needs no prover ./check -k WORD ..
-those whose name has one of the words, or matches one with `*` ./check --list [-k WORD ..]                   prints the
-names, one a line ./check --proofs [--times]                    is the gate: proves all, compares the release, and then
-does all of ./check --junit FILE writes what was found as JUnit's XML too.
+usage: ./check                       runs every case and look that needs no prover
+       ./check -k WORD ..            those whose name has one of the words, or matches one with `*`
+       ./check --list [-k WORD ..]   prints the names, one a line
+       ./check --proofs [--times]    is the gate: proves all, compares the release, and then does all of ./check
+       --junit FILE                  writes what was found as JUnit's XML too
 
 A case stands in a class of tools/rrv_tools/cases, or of tools/rrv_tools/tests; a look is a tool that is still a
 script. Classes and looks run side by side, one on each processor that this process may use, the longest first; those
