@@ -1,7 +1,7 @@
 """The words of tools/run: the name of a tool, and the words that it takes."""
 import importlib
 import sys
-from collections.abc import Sequence
+from collections.abc import Mapping, Sequence
 
 # The modules with `main(words) -> int`, by the name of the tool, and what each does.
 TOOLS: dict[str, tuple[str, str]] = {
@@ -41,20 +41,20 @@ TOOLS: dict[str, tuple[str, str]] = {
 }
 
 
-def usage() -> str:
-    """The usage, with a line for each tool."""
-    width = max(map(len, TOOLS))
-    lines = [f"  {name:{width}}  {what}" for name, (_, what) in sorted(TOOLS.items())]
-    return "\n".join(["usage: tools/run NAME [WORD ..]", "", *lines, ""])
+def usage(tools: Mapping[str, tuple[str, str]], line: str) -> str:
+    """The usage of a line, with a line for each tool."""
+    width = max(map(len, tools))
+    lines = [f"  {name:{width}}  {what}" for name, (_, what) in sorted(tools.items())]
+    return "\n".join([f"usage: {line} NAME [WORD ..]", "", *lines, ""])
 
 
-def main(words: Sequence[str]) -> int:
+def main(words: Sequence[str], tools: Mapping[str, tuple[str, str]] = TOOLS, line: str = "tools/run") -> int:
     """Runs a tool; the status is the tool's, or 2 if there is none of that name."""
-    if not words or words[0] not in TOOLS:
+    if not words or words[0] not in tools:
         is_asked = list(words) in ([], ["-h"], ["--help"])
-        print(usage(), end="", file=sys.stdout if is_asked else sys.stderr)
+        print(usage(tools, line), end="", file=sys.stdout if is_asked else sys.stderr)
         return 0 if is_asked else 2
-    module = importlib.import_module(TOOLS[words[0]][0])
+    module = importlib.import_module(tools[words[0]][0])
     status: int = module.main(words[1:])
     return status
 

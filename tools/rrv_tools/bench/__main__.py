@@ -1,8 +1,10 @@
 """The words of `tools/run bench`: the name of a measurement, and the words that it takes."""
-import importlib
 import sys
 from collections.abc import Sequence
 
+from rrv_tools import __main__ as tools
+
+LINE = "tools/run bench"
 # The modules with `main(words) -> int`, and what each measures or makes.
 MEASUREMENTS = {
     "answers": "seconds of verify, replay --at, back and last, by processors",
@@ -21,21 +23,9 @@ MEASUREMENTS = {
 }
 
 
-def usage() -> str:
-    """The usage, with a line for each measurement."""
-    lines = [f"  {name:14}{what}" for name, what in MEASUREMENTS.items()]
-    return "\n".join(["usage: tools/run bench NAME [WORD ..]", "", *lines, ""])
-
-
 def main(words: Sequence[str]) -> int:
     """Measures; the status is the measurement's, or 2 if there is none of that name."""
-    if not words or words[0] not in MEASUREMENTS:
-        is_asked = list(words) in ([], ["-h"], ["--help"])
-        print(usage(), end="", file=sys.stdout if is_asked else sys.stderr)
-        return 0 if is_asked else 2
-    module = importlib.import_module(f"rrv_tools.bench.{words[0]}")
-    status: int = module.main(words[1:])
-    return status
+    return tools.main(words, {name: (f"rrv_tools.bench.{name}", it) for name, it in MEASUREMENTS.items()}, LINE)
 
 
 if __name__ == "__main__":

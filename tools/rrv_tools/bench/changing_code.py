@@ -22,6 +22,7 @@ quantum, and those that don't differ go into the folder as those that tools/prog
 of tools/guests.
 """
 import argparse
+import functools
 import os
 import pathlib
 import random
@@ -58,6 +59,15 @@ def by_qemu(*words: programs.Word, given: pathlib.Path) -> Ended:
         except subprocess.TimeoutExpired:
             return b"", None
     return done.stdout, done.returncode
+
+
+def by_rrv(rrv: programs.Program, *words: programs.Word) -> Ended:
+    """How a line of rrv ended."""
+    try:
+        result = rrv.run(*words, timeout=PATIENCE)
+    except subprocess.TimeoutExpired:
+        return b"", None
+    return result.out, result.status
 
 
 class Example:
@@ -97,13 +107,7 @@ class Example:
 
     def of_rrv(self, rrv: programs.Program) -> Iterator[str]:
         """What differs of what rrv prints."""
-        def ran(*words: programs.Word) -> Ended:
-            try:
-                result = rrv.run(*words, timeout=PATIENCE)
-            except subprocess.TimeoutExpired:
-                return b"", None
-            return result.out, result.status
-
+        ran = functools.partial(by_rrv, rrv)
         self.store.unlink(missing_ok=True)
         ran("new", self.store)
         options = "--quantum", self.quantum, "--every", self.every, "--input", self.input
