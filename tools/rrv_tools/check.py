@@ -6,10 +6,10 @@ usage: ./check                       runs every case and look that needs no prov
        ./check --proofs [--times]    is the gate: proves all, compares the release, and then does all of ./check
        --junit FILE                  writes what was found as JUnit's XML too
 
-A case stands in a class of tools/rrv_tools/cases, or of tools/rrv_tools/tests; a look is a tool that is still a
-script. Classes and looks run side by side, one on each processor that this process may use, the longest first; those
-that measure time run alone at the end. As each ends there is a line with what it counted and its seconds. What failed
-follows, and how to run it again. What needs a compiler or a debugger says that it was left out if that is missing.
+A case stands in a class of tools/rrv_tools/cases, or of tools/rrv_tools/tests; a look is a tool of the package. Classes
+and looks run side by side, one on each processor that this process may use, the longest first; those that measure time
+run alone at the end. As each ends there is a line with what it counted and its seconds. What failed follows, and how to
+run it again. What needs a compiler or a debugger says that it was left out if that is missing.
 
 The gate first compares the logic of the kit in use with the one that release/FROM names. It runs `rt ci`, which proves
 every crate, tries the edits of must-fail/, and runs the tests and the programs. With some kits that takes over what an
@@ -50,28 +50,26 @@ from rrv_tools.testing import FAILED, PASSED, Outcome
 SHARD = 40
 
 
-def look(words: str, seconds: float, is_alone: bool = False) -> Job:
-    """A tool that is still a script, or `run` with one of the package, and its words."""
-    return Job(f"tools/{words.removeprefix('run ').split()[0]}", seconds, is_alone, words=tuple(words.split()))
+def look(words: str, seconds: float) -> Job:
+    """A tool of the package, with its words."""
+    return Job(f"tools/{words.split()[0]}", seconds, words=("run", *words.split()))
 
 
 # The tools that count what they look at themselves, with their words, and what each looks at.
 LOOKS = (
     # that the wrong bodies of each crate were all refused at the text that the crate has now
-    look("run edits --stale", 3),
+    look("edits --stale", 3),
     # that no line of a definition or a proof is longer than 140 columns
-    look("run wrap_proofs --check", 1),
+    look("wrap_proofs --check", 1),
     # the files that CONTRIBUTING.md lists, for who adds a call, an instruction, a record kind or a command
-    look("run places", 3),
+    look("places", 3),
     # the picture, the table and the reading order of docs/ARCHITECTURE.md beside crates.txt
-    look("run architecture", 2),
+    look("architecture", 2),
     # the minutes and the logic that docs/PROOFS.md has, beside tools/minutes.toml and release/FROM
-    look("run proofs_page --check", 1),
-    # when ./rrv builds it, and how
-    look("launcher_cases", 10),
+    look("proofs_page --check", 1),
 )
 # The tools that look at what only the gate builds: the tests of refused growths, with each growth refused in turn.
-OF_PROOFS = (look("run refused_growths", 60),)
+OF_PROOFS = (look("refused_growths", 60),)
 # How the names begin of what is compared on the release and on the program that the gate built, if these are not the
 # same bytes.
 OF_BOTH = ("cases.lines", "cases.scenes")

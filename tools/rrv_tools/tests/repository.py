@@ -1,12 +1,14 @@
 """A made-up repository in which the tests of the prover's aids run these, with a toolchain that is made up too."""
+import contextlib
 import os
 import pathlib
 import shutil
+import signal
 import subprocess
 import sys
 import tempfile
 import unittest
-from collections.abc import Mapping
+from collections.abc import Iterator, Mapping
 from dataclasses import dataclass
 
 ROOT = pathlib.Path(__file__).resolve().parents[3]
@@ -70,11 +72,19 @@ class InRepository(unittest.TestCase):
         path = f"{self.folder}/kit/bin:{os.environ['PATH']}"
         return {**os.environ, "PATH": path, "LOG": str(self.log), "PYTHONDONTWRITEBYTECODE": "1", **more}
 
-    def begin(self, *words: str, **more: str) -> subprocess.Popen[str]:
-        """Starts a tool in a group of processes of its own."""
-        return subprocess.Popen([self.root / "tools/run", *words], cwd=self.folder, env=self.environment(**more),
-                                stdin=subprocess.DEVNULL, stdout=subprocess.PIPE, stderr=subprocess.STDOUT, text=True,
-                                start_new_session=True)
+    @contextlib.contextmanager
+    def begin(self, *words: str, command: str = "tools/run", **more: str) -> Iterator[subprocess.Popen[str]]:
+        """Starts a tool, or another command of the repository, in a group of processes of its own. That is ended if
+        what is done meanwhile fails."""
+        with subprocess.Popen([self.root / command, *words], cwd=self.folder, env=self.environment(**more),
+                              stdin=subprocess.DEVNULL, stdout=subprocess.PIPE, stderr=subprocess.STDOUT, text=True,
+                              start_new_session=True) as ran:
+            try:
+                yield ran
+            except BaseException:
+                if ran.poll() is None:
+                    os.killpg(ran.pid, signal.SIGKILL)
+                raise
 
     def tool(self, *words: str, **more: str) -> Done:
         """Runs a tool to its end."""
