@@ -67,6 +67,8 @@ LOOKS = (
     look("architecture", 2),
     # the minutes and the logic that docs/PROOFS.md has, beside tools/minutes.toml and release/FROM
     look("proofs_page --check", 1),
+    # the table that docs/TESTS.md has, beside the docstrings of the modules of cases
+    look("tests_page --check", 3),
 )
 # The tools that look at what only the gate builds: the tests of refused growths, with each growth refused in turn.
 OF_PROOFS = (look("refused_growths", 60),)

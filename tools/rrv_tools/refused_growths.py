@@ -1,5 +1,7 @@
 """Refuses each growth of a test in turn.
 
+Expected values: the tests themselves, which look for `Memory` after a refused growth and make the same call again.
+
 usage: tools/run refused_growths [CRATE [TEXT]]
 
 runs those tests of a crate whose full names have this text (with no word: those of LOOKS), once for each of their
@@ -11,6 +13,9 @@ makes the same call again. So for each test it prints how many growths made it f
 counts as failed if it fails after the first growth that it passed, or passes none. Some tests are run once more with
 the growth after it refused too, and some with all after it: these have to end, and to ask for nothing after their
 subject.
+
+The growths are those of a call, a slice and an address space, and of turns of a flusher, steps of a recorder, openings
+of a store, verifications and cursors (docs/PROOFS.md, "Out of memory").
 """
 import concurrent.futures
 import functools

@@ -1,7 +1,10 @@
 """Rows of the crates of cases, crates/NAME/stdin, as far as a line of the program shows them.
 
 A row asks something and has what is wanted. The crates are programs of their own, which the gate builds; here what a
-row asks is asked of the program under test, and is a case. Other rows ask what no line shows.
+row asks is asked of the program under test, and is a case. Instructions are guests. ELF files go to `check`. Calls are
+guests whose records are made of the rows' results. Slices are recorded by their choices, or made of the rows. Stores
+and records are files that this package makes. Lists of records are verified, and asked for states. Other rows ask what
+no line shows, as pages, decoded words, and calls of disks and logs: these are left out.
 
 usage: tools/run rows
 

@@ -1,5 +1,11 @@
 """Random guests whose code changes while they run, recorded and replayed by rrv, and compared with two other machines.
 
+Expected values: what qemu-riscv32 gives, and what a restatement in Python gives that decodes each word where it stands
+(rrv_tools.changing_guests).
+A larger run: Of 300 guests each gave the output and the status that qemu-riscv32 gives, and the records, the end and
+the states at two places that the restatement gives. 219 of them were also run by qemu-riscv32 as it is. The others
+change what runs next without a jump or FENCE.I, which qemu sees only when it runs one instruction at a time.
+
 usage: tools/run bench changing_code [--guests N] [--seed S] [--first K] [--keep FOLDER] [--without-rrv]
                                      [--cases FOLDER]
 
@@ -18,8 +24,8 @@ change. The status is 0 only if nothing differs.
 
 --keep FOLDER: guests that differ stay in the folder, as K.elf and K.input. --without-rrv: the restatement is compared
 with qemu-riscv32 alone. --cases FOLDER: the guests are small, read nothing and are recorded with the program's own
-quantum, and those that don't differ go into the folder as those that tools/program_lines records. Seed 7 made the ones
-of tools/guests.
+quantum, and those that don't differ go into the folder as those that `cases.lines` records. Seed 7 made the eight of
+tools/guests.
 """
 import argparse
 import functools

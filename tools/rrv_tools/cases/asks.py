@@ -1,5 +1,10 @@
 """Random questions to `rrv ask` about random guests, and what commands print.
 
+Expected values: what the command of the same name prints at that place; of `threads` and `memory` their part of `replay
+--at`.
+A larger run: 1,000 questions were drawn about a hundred random guests (`tools/run ask_cases 1000`). Of each `ask`
+printed just what the command of that name prints. The bad lines among them were refused.
+
 usage: tools/run ask_cases [N [SEED]]
 
 N questions (100) are drawn from SEED (1), which draws the same ones again, about N // 10 random guests, two at least.

@@ -1,5 +1,7 @@
 """Guests that are recorded again by the choices that are printed of them.
 
+Expected values: the records of the guest, from which its choices follow by docs/FORMATS.md.
+
 Each guest of tools/guests is recorded with some quanta and checkpoints. The choices that are printed of it have to be
 those that its records have. Recorded by these choices, with nothing after them, it has to end as before, with the same
 output and the same records. So it has to if the first of the choices are followed by turns of the same quantum. And if

@@ -1,5 +1,8 @@
 """Core files beside the states that they are of.
 
+Expected values: the states that `replay --at` prints. The core files are read by `tools/run core_file`, which is in
+Python, and by gdb-multiarch.
+
 Of each guest of tools/guests, and of one with symbols, core files are written at some places. What `core_file` reads of
 each has to be the threads, the registers and the digest of all pages that `replay --at` prints there, and the first
 thread that whose instruction comes next by the records, or at the end that of the last one. gdb-multiarch has to show

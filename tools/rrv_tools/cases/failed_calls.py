@@ -1,5 +1,13 @@
 """Calls of the program fail one by one: what it prints, what it leaves, and that nothing that was printed is lost.
 
+Expected values: the guests' instructions, from which it follows what they print; docs/FORMATS.md, for the texts and for
+the syncs of a store; and the calls that the library noted.
+A larger run: In one run over recordings of four guests 190 writes, syncs and cuts of a store failed, were done in part,
+or were followed by a change of another program. 55 writes of output failed or were done in part. Each recording ended
+with status 1 and its text, or whole. Each ended whole if output was interrupted, would have had to wait, or was taken
+in part. All stores opened, and had what had been printed. So had they after each call that failed of the two guests
+that print without a pause. Of the four calls of a commit, each failed in turn, just the last left records.
+
 A library lets one call fail, and notes which calls come after it (preload).
 
 Four guests that print are recorded into a store in a real file, which has a guest already, and a torn end that its
@@ -8,13 +16,14 @@ standard output and standard error, until a recording has no more of them. A cal
 with status 1 and its text, and nothing may be written to the store after it, nor anything but a close be asked of it
 after a sync that failed. A call that is interrupted or done in part may also be made again: then all has to be recorded
 and printed. Output that is interrupted, that would have to wait or that is taken in part has to be made again. Another
-program may also make the file longer or shorter after a call: the next one has to find that. Of two guests that print
-ten times each without a pause each write, sync and cut fails too, in one way.
+program may also make the file longer or shorter after a call: the next one has to find that, and such a file is not
+written on. Of two guests that print ten times each without a pause each write, sync and cut fails too, in one way.
 
 Then `list`, `verify` and `replay` have to succeed for each guest, and to have what it had printed. If no call fails all
 is recorded and printed.
 
-The syncs of `new`, `record` and `list` have to be those of the files that are named, and no more. Each is failed too. A
+The syncs of `new`, `record` and `list` have to be those of the files that are named, and no more: `new` syncs the
+folder and the file, `record` the file at its opening and twice for each commit, and `list` once. Each is failed too. A
 `new` that can't lock, write or sync has to leave no file, but what another program wrote to its file as it was locked
 has to stay, and a file that it put in its place.
 """

@@ -1,5 +1,8 @@
 """The commands of README.md, docs/GUIDE.md and docs/BUILDING.md: each prints what stands below it.
 
+Expected values: the lines below the commands. The counts, records, states and digest of the race that stand there agree
+with a restatement in Python (rrv_tools.threads).
+
 A command is a line of a code block that begins with `$ `. The lines below it are what it prints, on standard output
 and standard error: `...` alone on a line stands for any lines, also for none, and `..` within a line for letters,
 digits and signs without a space. All commands of a page are run by one shell, in a folder that has a copy of
@@ -7,6 +10,9 @@ examples/, the release, the tools, and the program as ./rrv, which is first on t
 
 Those that LEFT_OUT lists aren't run. Those of the compiler's package, which begin with `riscv64-`, are run only if the
 environment variable RRV_COMPILER is set: they print what its version prints.
+
+One page kills `rrv` while it records four guests. What each guest had printed has to be a beginning of what is
+replayed.
 """
 import os
 import pathlib

@@ -1,9 +1,25 @@
 """Streams that are closed, full or take parts, files whose reads fail, sixteen programs, stores that go, and clocks.
 
+Expected values: the guests' instructions, from which it follows what they print, their clocks and their sleep; of lines
+docs/FORMATS.md and docs/GUEST.md.
+
 A line whose stream is closed has the status of one that takes nothing, and its store has, byte for byte, what it had
 before, with what was committed since after it. Output that takes parts of writes gets all of it. A refusal, and help,
-leave in one write. After the reader of a pipe went away, lines end without a word. What a guest prints, its clocks and
-its sleep follow from its instructions; what is wanted of lines is in docs/FORMATS.md and docs/GUEST.md.
+leave in one write. After the reader of a pipe went away, lines end without a word. A refusal's status is the same if
+nobody reads errors. A stream that doesn't wait, and a pipe that was full for a while, get all output.
+
+A recording whose stream fails ends with `device failed`. No store, and no core file, has a byte of what was printed. If
+output takes n bytes of a write, or n in all, just these are printed. A copy whose line finds no stream has all records.
+Beside a guest whose output is full just the others that ended are reported, by their numbers and with the place of a
+fault, and still so if one of them can't be read again. `ask` prints the answer of each line before the next line is
+written, and ends without a text once nobody reads its answers.
+
+Each read of a program's file that fails is reported, also after some bytes. Each of sixteen guests at once is the
+program at its place. A new store that may open too few files leaves none.
+
+The monotonic clock begins near 0 and goes on. The real clock is not cut past 2^31 and 2^32 seconds. A guest that sleeps
+for two seconds takes less than 30 milliseconds of processor time, at one of three tries, and what it printed before
+leaves before it wakes.
 """
 import errno
 import itertools

@@ -1,10 +1,16 @@
 """Stores that were made to be slow to open: `list` of each takes no more than in proportion to its length.
 
+Expected values: the guests and the records that Python writes into the store.
+
 usage: tools/run hostile_stores --times    prints what `list` of each store takes
 
 The stores have records that are allowed, in an order or of a size that the program never writes. `list` has to print
 what is there, in at most 40 milliseconds of processor time a megabyte and 100 megabytes of memory. Other work may slow
-this down, so a case fails only at three times that time. What is wanted is known as the store is made.
+this down, so a case fails only at three times that time.
+
+The stores have 100,000 guests in rising, falling and shuffled order, and bodies of up to 8 MiB of the largest and the
+smallest records. They are of 3.5 to 101 megabytes. So a case fails past 120 milliseconds of processor time a megabyte,
+or past 100 megabytes of memory.
 """
 import contextlib
 import itertools

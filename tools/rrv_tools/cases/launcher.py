@@ -1,12 +1,16 @@
-"""./rrv over a toolchain and a release that are made up: what it starts, when it builds, how, and what it prints.
+"""Which program ./rrv starts after each kind of change, when it builds one and how, and what the release's tool refuses.
 
-Each case has a repository of its own with two crates, or with six. Its `rt` writes down when it begins and ends. A
-library that it builds holds the crate's source and what the libraries below hold. The program prints what its source
-and its libraries hold, its words and its input, and ends with status 7. So what has to be printed after a change is
-what the sources are then. Each build waits until the sources are two seconds old.
+Expected values: what the made-up sources hold, the changes that were made to them, and docs/BUILDING.md.
+
+Each case has a repository of its own with two crates, or with six, over a toolchain and a release that are made up. Its
+`rt` writes down when it begins and ends. A library that it builds holds the crate's source and what the libraries below
+hold. The program prints what its source and its libraries hold, its words and its input, and ends with status 7. So
+what has to be printed after a change is what the sources are then. Each build waits until the sources are two seconds
+old.
 
 Cases of releases have a release too, a script, and some a PATH with a shell and coreutils alone. The last one starts
-the release of this repository from a copy of it, on such a PATH.
+the release of this repository from a copy of it, on such a PATH, in under a second at one of three first starts, and
+does the lines of README's first session.
 """
 import concurrent.futures
 import contextlib

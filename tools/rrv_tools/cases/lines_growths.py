@@ -1,5 +1,7 @@
 """Lines of the program, once more for each of their growths of memory, which is then refused.
 
+Expected values: what the line prints and leaves if no growth is refused, and the text of the refusal.
+
 The program has to print that it is out of memory, with nothing in its output and no core file, or to do all that the
 line asks for without that growth. `list`, `dump` and `last` print each line once they have read what it needs, so there
 the output may be the first of the lines. `ask` may answer one of its questions so, and has to answer all others as

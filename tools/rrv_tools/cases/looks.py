@@ -1,14 +1,22 @@
 """Stores that are in use or can't be written: what was committed is shown, and no byte is changed.
 
+Expected values: what is shown once the recording was killed and the store, or a copy of it, was repaired.
+
 Four guests that print are recorded without end into a store in a real file. Meanwhile `list`, and `dump`, `verify` and
 `replay` of each guest, have to succeed, and what each shows has to be a beginning of what it shows once that recording
-was killed and the store repaired.
+was killed and the store repaired. They are done a hundred times over. Each has to show all that the guests had printed
+before.
 
-Copies of such a store, some of them torn or damaged, are looked at as files that can't be written in a folder that
-can't be, by another user if this one is root; and while something else has their lock. What is shown, or why it is
-refused, has to be that of a copy that may be repaired. A store is changed while `dump` reads it: what that prints has
-to be a beginning of what the store held, and all of it unless it is refused by name. A body is committed before each
-read of a look in turn: what is shown has to be the store without it or with it.
+Nine copies that are torn, damaged or no store, an empty one and a whole one are looked at as files that can't be
+written in a folder that can't be, by another user if this one is root; and while something else has their lock. What is
+shown, or why it is refused, has to be that of a copy that may be repaired, and not a byte is changed. A store is
+changed while `dump` reads it: what that prints has to be a beginning of what the store held, and all of it unless it is
+refused by name. A store that is made longer or replaced is printed whole. One that is cut, or overwritten with zeros,
+is printed up to a refusal by name. A body is committed before each read of a look in turn: what is shown has to be the
+store without it or with it.
+
+`storage_cases` has the moments of such a look by rows: a gate that is opened after the file was, and after the look was
+ended, half a segment, a torn gate.
 """
 import fcntl
 import hashlib

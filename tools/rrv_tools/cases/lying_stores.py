@@ -1,12 +1,16 @@
 """Stores that lie: what the program prints of each follows from where the lie was put.
 
+Expected values: the place that the lie was put into, and the rules of records and recordings (docs/FORMATS.md,
+docs/GUEST.md).
+
 The program records guests. Their stores are written again with a lie in each, with right digests, lengths and numbers:
 one that the rules of records allow, so that the store opens, or one that they don't. Of the first kind `verify` has to
 name the record by which the list is no recording, from the record that the lie was put into and from the rules of
-recordings alone: the first record that does not replay, or the last part of the first checkpoint that is wrong. Some
-changes are no lies, and have to verify. `list` and `dump` have to print what is there, `list --long` that just this
-guest is refused, and a guest beside it has to verify. Of the second kind each line has to name the segment, or a newer
-version if the Mark is one's. The bytes and the time of change of every store stay.
+recordings alone: the first record that does not replay, or the last part of the first checkpoint that is wrong. Seven
+changes are no lies, and have to verify. There are 76 lies, and 44 breaches of the rules of records and of the Mark's.
+`list` and `dump` have to print what is there, `list --long` that just this guest is refused, and a guest beside it has
+to verify. Of the second kind each line has to name the segment, or a newer version if the Mark is one's. The bytes and
+the time of change of every store stay.
 
 The guests make calls of which the state alone decides the result, and none of their instructions jumps to itself.
 """

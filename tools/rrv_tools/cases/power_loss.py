@@ -1,5 +1,12 @@
 """What a loss of power may leave of a store is opened, and nothing is lost.
 
+Expected values: a restatement of the crash model in Python (rrv_tools.disks), by the calls that were noted; and the
+guests' instructions, from which it follows what they print.
+A larger run: Of 2,000 contents of one run, 1,099 of them different and 147 left within an opening, none was refused.
+Each held a beginning of the store up to one of its gates, with each commit whose second sync had ended, and all that
+the guests had begun to print. Of calls without the first sync of a commit, without the second, or with output before
+it, such contents were refused or had lost output.
+
 usage: tools/run power_loss [N] [--seed S] [--program PROGRAM]
 
 runs these cases with N contents (2000), and with what else S draws (1).
@@ -18,6 +25,8 @@ what its program prints. A guest's bytes have a high half of its own.
 
 Then the calls are spoiled in three ways, as by a program that leaves out the first sync of a commit, or the second, or
 prints before that: each has to be found. What is refused or has lost something is kept, and its name printed.
+
+What a real disk leaves, this does not show.
 """
 import argparse
 import collections

@@ -1,10 +1,13 @@
 """The line that shows how far the program is.
 
+Expected values: the guests' instructions, from which the numbers of each line were worked out beforehand.
+
 It comes with --progress, or if standard error is a terminal: at most four times a second, rising each time, and cleared
 before anything else is written. Else there is not a byte of it. Over a C library whose clock is a second later at each
 reading the line comes at each record, however fast the machine is; what it counts then follows from the guest, a loop
-of two instructions. Around the writes of a guest that prints, to both streams in turn, it is cleared on a terminal,
-and nothing of it goes into a pipe or a file. `ask` has its prompt if it reads from a terminal and writes to one.
+of two instructions. So it is for each command that shows the line, and at each stretch of a search by `ask`. Around the
+writes of a guest that prints, to both streams in turn, it is cleared on a terminal, and nothing of it goes into a pipe
+or a file. `ask` has its prompt if it reads from a terminal and writes to one.
 """
 import contextlib
 import itertools

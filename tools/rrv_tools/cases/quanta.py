@@ -1,5 +1,7 @@
 """A guest that jumps at each place of a page, recorded with each quantum, and its single steps.
 
+Expected values: single steps of a restatement in Python (rrv_tools.threads).
+
 usage: tools/run quanta [--first Q] [--last Q] [--places N] [--seed S] [--keep FILE]
 
 A page of the guest has a jump in each of its 1,024 words, and these lead in an order that SEED (1) scrambles from one
@@ -11,8 +13,9 @@ quantum.
 What each instruction does is restated in Python (threads.py), one step after another. The guest is recorded with each
 quantum from the first (64) to the last (2048), every other one with checkpoints. For each, the guest's output and every
 slice that `dump --places` prints have to be those: its count, its places, and the address of the next instruction at
-its end. At N places at random (1) `replay --at` has to print the state that the steps have there: registers, and the
-digest of the memory. With --keep the guest is written into a file, and nothing is recorded.
+its end. So each slice ends at the instruction at which as many single steps end. At N places at random (1) `replay
+--at` has to print the state that the steps have there: registers, and the digest of the memory. With --keep the guest
+is written into a file, and nothing is recorded.
 """
 import argparse
 import functools

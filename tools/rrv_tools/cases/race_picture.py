@@ -1,4 +1,7 @@
-"""The picture of a race, docs/race.svg, beside what tools/run race_picture draws of a recording of the example."""
+"""The picture of a race, docs/race.svg, beside what tools/run race_picture draws of a recording of the example.
+
+Expected values: what `tools/run race_picture` prints of the example's recording.
+"""
 from rrv_tools import race_picture
 from rrv_tools.testing import Case
 

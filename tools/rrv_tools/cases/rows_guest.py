@@ -1,7 +1,11 @@
 """Rows of guest_cases: calls.
 
+Expected values: the rows of crates/guest_cases.
+
 Each case of rows is a guest that makes its calls. Its records are made of what the rows say; so what the outside
 returns is in them. They have to verify, and the states between them to be as the rows say.
+
+The refusals of a call are asked for in the order of their tests.
 """
 import re
 import struct

@@ -1,5 +1,8 @@
 """Rows of machine_cases: instructions, and ELF files.
 
+Expected values: the rows of crates/machine_cases: worked examples of the manual, words with operands and results that
+an assembler and qemu-riscv32 gave (`tools/run vectors`), and files with their refusals.
+
 A guest comes to the row's instruction; the state after it is compared, or the fault that it ends in. A file is made as
 the rows say, and `check` refuses it by their number, or prints its entry and break.
 """

@@ -1,5 +1,7 @@
 """Rows of replay_cases: lists of records.
 
+Expected values: the rows of crates/replay_cases, which a restatement in Python writes (`tools/run recordings`).
+
 Each list is a guest in a store of its own. It is verified, and asked for the states at the rows' places.
 """
 import hashlib

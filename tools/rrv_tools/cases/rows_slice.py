@@ -1,5 +1,8 @@
 """Rows of slice_cases: slices.
 
+Expected values: the rows of crates/slice_cases, of which a restatement in Python gives those of lists of choices and of
+waits (`tools/run slice_rows`).
+
 A guest is recorded by the choices of its rows. If waits end by their time, records that are made of the rows verify.
 What is dumped, listed and replayed of the guest is compared with what each row says.
 """

@@ -1,5 +1,8 @@
 """Rows of storage_cases: records and stores.
 
+Expected values: the rows of crates/storage_cases, with the bytes of stores that Python writes (`tools/run
+storage_cases`).
+
 Files that are made as rows say are listed and dumped, and left as the rows say. Of a row that changes a store in many
 ways some are tried, the first and the last among them. What a disk has after some calls is a file, if it follows from
 docs/FORMATS.md; each row of it comes after those before it.

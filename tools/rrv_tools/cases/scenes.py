@@ -1,9 +1,17 @@
 """Lines over files that are written, cut and changed: what they print, and what they leave.
 
+Expected values: the guests' instructions, from which it follows what they print; of the bytes of stores
+docs/FORMATS.md.
+
 Each scene is a case. Of a line the status, the output and the errors are wanted; of some bad lines, whose text is the
 parser's, only the status. Standard input has bytes that no line may read. In some scenes stores are marked, by
-recordings and by hand, and guests wait for a time: what these leave, and which copies are refused. What guests print
-follows from their instructions; the bytes of stores are those of docs/FORMATS.md.
+recordings and by hand, and guests wait for a time: what these leave, and which copies are refused.
+
+Stores are new, damaged and locked. There are bad lines, files that are no programs, and files with several faults, of
+which the right one has to be reported. Guests are listed, dumped, verified and replayed, also 16 at once and by records
+that are written by hand, with their input, seeds and clocks, and with the states at places. Copies are compared byte
+for byte, also those to stores that are not marked, and each refusal of a copy comes up. `ask` refuses a guest that is
+no recording.
 """
 from collections.abc import Mapping, Sequence
 

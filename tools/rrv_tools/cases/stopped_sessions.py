@@ -1,13 +1,17 @@
 """Sessions of four guests that are stopped at each call of their store; and four more are recorded to what a crash may
 then leave.
 
+Expected values: the crash model, restated in Python (rrv_tools.disks); and the guests' instructions, from which their
+records and their output follow.
+
 Four guests are recorded by ten choices each: one exits with 5, one writes `hi` and a newline, and two jump to
 themselves. Each write, sync and cut of the store fails in turn (preload), until a session has no more of them. What a
 crash may then leave is made by the crash model (disks): of the least, the greatest and a length between, with the byte
-of a closed gate, of none or of an open one wherever it may change one. Each content is opened with each call of that
-failing in turn and a crash after it, and then with none. Each time four more guests are recorded, whose numbers go on
-above the greatest. All of these have to be there with all their records, and of the first four the first of their
-records, which replay; what was printed has its record. To contents that are the same four are recorded once.
+of a closed gate, of none or of an open one wherever it may change one. So there are nine contents. Each is opened with
+each call of that failing in turn and a crash after it, and then with none. Each time four more guests are recorded,
+whose numbers go on above the greatest. All of these have to be there with all their records, and of the first four the
+first of their records, which replay; what was printed has its record. To contents that are the same four are recorded
+once.
 
 Sessions that mark their store first are stopped so too, and so go those on that are recorded then. The Mark is there
 once its last sync has ended, before the gate of its segment is written it isn't, and between these two the crash

@@ -1,5 +1,8 @@
 """The places and the trace events that are printed of guests beside their records and their states, field by field.
 
+Expected values: the sums of the counts that `dump` prints, and the states there; the names of calls are those of Linux;
+the address of a fault is computed from the instruction's word and the registers.
+
 Each guest of tools/guests, and each of examples/hunt, is recorded. The places of its frames have to be sums of the
 counts that `dump` prints, and the address after a frame that of its thread in the state there. The events are read by
 Python's json: each has the fields of its frame, and a call the name that Linux has for the number in a7 just before it.
