@@ -72,6 +72,11 @@ class InRepository(unittest.TestCase):
         path = f"{self.folder}/kit/bin:{os.environ['PATH']}"
         return {**os.environ, "PATH": path, "LOG": str(self.log), "PYTHONDONTWRITEBYTECODE": "1", **more}
 
+    def path_without_rt(self) -> str:
+        """A PATH without `rt`."""
+        folders = os.environ["PATH"].split(os.pathsep)
+        return os.pathsep.join(it for it in folders if not os.path.exists(f"{it}/rt"))
+
     @contextlib.contextmanager
     def begin(self, *words: str, command: str = "tools/run", **more: str) -> Iterator[subprocess.Popen[str]]:
         """Starts a tool, or another command of the repository, in a group of processes of its own. That is ended if

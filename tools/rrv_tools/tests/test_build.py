@@ -80,10 +80,8 @@ class Build(InRepository):
         self.assertFalse((self.root / "crates/rrv/out/rrv").exists())
 
     def test_no_toolchain(self) -> None:
-        (self.folder / "kit/bin/rt").unlink()
-        path = os.pathsep.join(it for it in os.environ["PATH"].split(os.pathsep) if not os.path.exists(f"{it}/rt"))
         text = "rrv: the Rattle toolchain is needed: its command rt is not on the PATH"
-        self.assertEqual(self.tool("build", PATH=path), Done(1, [text]))
+        self.assertEqual(self.tool("build", PATH=self.path_without_rt()), Done(1, [text]))
 
     def test_words(self) -> None:
         for words in (["--by"], ["more"]):
