@@ -1,7 +1,7 @@
 """Tests the program that ./rrv starts, or RRV_PROGRAM.
 
 usage: ./check                       runs every case and look that needs no prover
-       ./check -k WORD ..            those whose name has one of the words, or matches one with `*`
+       ./check -k WORD ..            those whose name is or has one of the words, or matches one with `*`
        ./check --list [-k WORD ..]   prints the names, one a line
        ./check --proofs [--times]    is the gate: proves all, compares the release, and then does all of ./check
        --junit FILE                  writes what was found as JUnit's XML too
@@ -90,7 +90,7 @@ def jobs_of_class(of: type[unittest.TestCase], words: Sequence[str]) -> Iterator
     """The jobs of those cases of a class whose names fit the words; several if it takes long."""
     name = f"{of.__module__.removeprefix('rrv_tools.')}.{of.__qualname__}"
     every = [f"{name}.{it}" for it in unittest.defaultTestLoader.getTestCaseNames(of)]
-    cases = [it for it in every if fits(it, words)]
+    cases = chosen(every, words)
     if not cases:
         return
     seconds = float(getattr(of, "seconds", 0.2)) * len(cases) / len(every)
@@ -121,6 +121,12 @@ def jobs_found(words: Sequence[str] = ()) -> list[Job]:
     return [*of_modules, *(it for it in LOOKS if fits(it.name, words))]
 
 
+def chosen(names: Sequence[str], words: Sequence[str]) -> list[str]:
+    """Those of the names that fit the words. A word that is a whole name means that one alone."""
+    others = [it for it in words if it not in names]
+    return [it for it in names if it in words or (others or not words) and fits(it, others)]
+
+
 def fits(name: str, words: Sequence[str]) -> bool:
     """Whether a name has one of the words, or matches one with `*`; all do if there is none."""
     return not words or any(fnmatch.fnmatchcase(name, it) if "*" in it else it in name for it in words)
@@ -132,7 +138,9 @@ def fits(name: str, words: Sequence[str]) -> bool:
 def run_jobs(some: Sequence[Job], program: programs.Program | None, found: list[Done]) -> list[Counts]:
     """Runs jobs at a program, adds what they did, and returns their counts."""
     if program is None:
-        print("check: there is no program to look at", flush=True)
+        named = os.environ.get("RRV_PROGRAM")
+        why = f": RRV_PROGRAM={named}, from the root of the repository, is none" if named else ""
+        print(f"check: there is no program to look at{why}", flush=True)
         return [(0, 1)]
     print(f"the program is {os.path.relpath(program.path, ROOT)}", flush=True)
     done = jobs.run_jobs(some, program.path)

@@ -6,6 +6,7 @@ import dataclasses
 import os
 import pathlib
 import re
+import shlex
 import shutil
 import signal
 import subprocess
@@ -23,6 +24,8 @@ PATIENCE, ENDS = 900, 5
 COUNT = re.compile(r"(?m)^(\d+) passed, (\d+) failed\n?\Z")
 # What stands for a class as a whole, if it failed or was left out before its first case.
 OF_CLASS = ("setUpClass", "setUpModule")
+# These, and what stands for its end.
+AROUND = (*OF_CLASS, "tearDownClass", "tearDownModule")
 
 Counts = tuple[int, int]
 
@@ -74,9 +77,18 @@ class Done:
         for it in self.outcomes:
             if it.kind == FAILED:
                 yield it.name
-                yield from (f"    {line}" for line in [*it.text.splitlines(), f"run again: ./check -k {it.name}"])
+                yield from (f"    {line}" for line in [*it.text.splitlines(), f"run again: {again(it.name)}"])
         if self.text and self.counts[1]:
             yield from ("its process printed:", *(f"    {line}" for line in self.text.splitlines()))
+
+
+def again(name: str) -> str:
+    """The line that runs a case again, of the program that RRV_PROGRAM names, if it does. Of what failed around the
+    cases of a class or a module, it is the line that runs all of them."""
+    of, _, last = name.rpartition(".")
+    program = os.environ.get("RRV_PROGRAM")
+    before = f"RRV_PROGRAM={shlex.quote(program)} " if program else ""
+    return f"{before}./check -k {f'{of}.' if last in AROUND else name}"
 
 
 def counts_in(text: str, status: int) -> Counts:

@@ -31,6 +31,8 @@ from rrv_tools.program import Limits, Program, Result, Word
 PASSED, FAILED, LEFT_OUT = "passed", "failed", "left out"
 # Texts of more lines or characters are compared by a diff.
 SHORT_LINES, SHORT = 3, 200
+# What stands in a diff for the newline that the last line lacks.
+NO_NEWLINE = "\\ no newline at the end"
 Text = bytes | str
 # Rows by their names.
 Table = Mapping[str, Any] | Iterable[tuple[str, Any]]
@@ -141,14 +143,18 @@ def bad_text(message: str, usage: str = "<COMMAND>") -> str:
 
 
 def difference(what: str, wanted: object, came: object) -> str:
-    """What was wanted and what came, as a diff if both are long."""
+    """What was wanted and what came, as a diff if both have many lines; of other long values what is around the first
+    place at which they differ."""
     if isinstance(wanted, str | bytes) and isinstance(came, str | bytes) and all(_is_long(it) for it in (wanted, came)):
-        lines = difflib.unified_diff(_lines(wanted), _lines(came), "wanted", "came", lineterm="", n=2)
-        return "\n".join([f"{what}:", *lines])
+        lines = list(difflib.unified_diff(_lines(wanted), _lines(came), "wanted", "came", lineterm="", n=2))
+        if lines:
+            return "\n".join([f"{what}:", *lines])
     place = ""
     if isinstance(wanted, bytes) and isinstance(came, bytes) and max(len(wanted), len(came)) > SHORT:
         place = f", from byte {len(os.path.commonprefix([wanted, came]))} on"
-    return f"{what}{place}: wanted {_shown(wanted)}\n{' ' * len(what + place)}    came {_shown(came)}"
+    first = len(os.path.commonprefix([repr(wanted), repr(came)]))
+    shown = [_shown(repr(it), first) for it in (wanted, came)]
+    return f"{what}{place}: wanted {shown[0]}\n{' ' * len(what + place)}    came {shown[1]}"
 
 
 def _is_long(text: str | bytes) -> bool:
@@ -156,12 +162,19 @@ def _is_long(text: str | bytes) -> bool:
 
 
 def _lines(text: str | bytes) -> list[str]:
-    return (text if isinstance(text, str) else text.decode("utf-8", "backslashreplace")).splitlines()
+    """Its lines, each as it can be printed, and NO_NEWLINE if the last has none."""
+    lines = (text if isinstance(text, str) else text.decode("utf-8", "backslashreplace")).split("\n")
+    end = [NO_NEWLINE] if lines[-1] else []
+    shown = [it if it.isprintable() else it.encode("unicode_escape").decode() for it in lines]
+    return [*(shown if end else shown[:-1]), *end]
 
 
-def _shown(value: object) -> str:
-    text = repr(value)
-    return text if len(text) <= 2 * SHORT else f"{text[:SHORT]} .. {text[-SHORT:]} ({len(text)} characters)"
+def _shown(text: str, first: int) -> str:
+    """A text; of a long one what is around a place, and how long it is."""
+    if len(text) <= 2 * SHORT:
+        return text
+    begin, end = max(first - SHORT, 0), max(first, SHORT) + SHORT
+    return f"{'.. ' if begin else ''}{text[begin:end]}{' ..' if end < len(text) else ''} ({len(text)} characters)"
 
 
 # ---- rows
@@ -248,20 +261,39 @@ def failure_text(err: tuple[type[BaseException], BaseException, types.TracebackT
 
 def main(path: str) -> int:
     """Runs the cases that standard input names, and writes their outcomes into a file."""
-    names = [f"rrv_tools.{it}" for it in sys.stdin.read().split()]
+    names = sys.stdin.read().split()
     null = os.open(os.devnull, os.O_RDONLY)
     os.dup2(null, 0)
     os.close(null)
-    suite = unittest.defaultTestLoader.loadTestsFromNames(names)
+    suite, wrong = loaded(names)
     with open(path, "ab", buffering=0) as file:
-        classes = {type(case) for case in cases_in(suite)}
+        classes, results = {type(case) for case in cases_in(suite)}, Results(file.fileno())
+        for name, text in wrong.items():
+            results.write(name, FAILED, text)
         try:
-            suite.run(Results(file.fileno()))
+            suite.run(results)
         finally:
             # One that is stopped has not cleaned up after itself.
             for it in classes:
                 it.doClassCleanups()
     return 0
+
+
+def loaded(names: Iterable[str]) -> tuple[unittest.TestSuite, dict[str, str]]:
+    """The cases of these names, and of each name that can't be loaded, why."""
+    suite, wrong = unittest.TestSuite(), {}
+    for name in names:
+        loader = unittest.TestLoader()
+        try:
+            cases = loader.loadTestsFromName(f"rrv_tools.{name}")
+        except Exception:  # whatever a module raises
+            wrong[name] = traceback.format_exc().rstrip()
+        else:
+            if loader.errors:
+                wrong[name] = f"{loader.errors[0]}".strip()
+            else:
+                suite.addTest(cases)
+    return suite, wrong
 
 
 def cases_in(suite: unittest.TestSuite) -> Iterator[unittest.TestCase]:

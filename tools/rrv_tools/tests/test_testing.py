@@ -1,5 +1,6 @@
 """Rows, lines that are compared, and the jobs that run classes, by a module of cases that pass, fail, are left out, or
 end their process."""
+import os
 import pathlib
 import sys
 import tempfile
@@ -55,12 +56,16 @@ class Jobs(unittest.TestCase):
         (self.folder / "made_cases.py").write_text(MODULE, encoding="utf-8")
 
     def run_cases(self, *cases: str) -> Done:
-        """What a job of these cases does, in the folder's module in place of the package's."""
+        """What a job of these cases of the folder's module does."""
+        return self.run_names(*(f"made_cases.{it}" for it in cases))
+
+    def run_names(self, *names: str) -> Done:
+        """What a job of these names does, in the folder's modules in place of the package's."""
         program = self.folder / "program"
         program.touch(0o755)
         script = (f"import sys, rrv_tools\nrrv_tools.__path__.append({str(self.folder)!r})\n"
                   "from rrv_tools import testing\ntesting.main(sys.argv[1])")
-        job = Job("made_cases", 1, cases=tuple(f"made_cases.{it}" for it in cases))
+        job = Job("made_cases", 1, cases=names)
         with mock.patch.object(Job, "command", lambda _, results: [sys.executable, "-c", script, str(results)]):
             return Runner(program, self.folder).run(job)
 
@@ -75,8 +80,28 @@ class Jobs(unittest.TestCase):
         self.assertEqual(self.kinds(done), [("test_of_one", PASSED), ("test_of_two", FAILED)])
         self.assertEqual(done.counts, (5, 1))
         name = "made_cases.Rows.test_of_two"
-        self.assertEqual([it.strip() for it in done.lines()[1:]],
-                         [name, "2 != 1 : the row is 2", f"run again: ./check -k {name}"])
+        with mock.patch.dict(os.environ, RRV_PROGRAM=""):
+            self.assertEqual([it.strip() for it in done.lines()[1:]],
+                             [name, "2 != 1 : the row is 2", f"run again: ./check -k {name}"])
+
+    def test_what_runs_again(self) -> None:
+        """The line names the program that RRV_PROGRAM does, and all cases of what failed around them."""
+        with mock.patch.dict(os.environ, RRV_PROGRAM="a b"):
+            self.assertEqual(jobs.again("cases.a.B.test_c"), "RRV_PROGRAM='a b' ./check -k cases.a.B.test_c")
+        with mock.patch.dict(os.environ):
+            os.environ.pop("RRV_PROGRAM", None)
+            self.assertEqual(jobs.again("cases.a.B.setUpClass"), "./check -k cases.a.B.")
+            self.assertEqual(jobs.again("cases.a.tearDownModule"), "./check -k cases.a.")
+
+    def test_what_can_t_be_loaded(self) -> None:
+        """A module that raises, one that isn't there, and a case that isn't: each fails by its name, and says why."""
+        (self.folder / "raising_cases.py").write_text("raise OSError('from outside')", encoding="utf-8")
+        whys = {"raising_cases": "OSError: from outside", "missing_cases": "missing_cases", "made_cases.No": "No"}
+        for name, why in whys.items():
+            with self.subTest(name):
+                (found,) = self.run_names(name).outcomes
+                self.assertEqual((found.name, found.kind), (name, FAILED))
+                self.assertIn(why, found.text.splitlines()[-1])
 
     def test_a_process_that_ends(self) -> None:
         """Those that it didn't come to failed."""
@@ -131,6 +156,28 @@ class Lines(unittest.TestCase):
         text = difference("output", b"a\nb\nc\nd\n", b"a\nb\nx\nd\n")
         self.assertEqual(text.splitlines()[-4:], [" b", "-c", "+x", " d"])
 
+    def test_ends_of_long_texts(self) -> None:
+        """A newline that is missing stands in the diff, and so does a carriage return."""
+        text = difference("output", b"a\nb\nc\nd\n", b"a\nb\nc\nd")
+        self.assertEqual(text.splitlines()[-3:], [" c", " d", "+\\ no newline at the end"])
+        text = difference("output", "a\nb\nc\nd\n", "a\nb\nc\nd\r\n")
+        self.assertEqual(text.splitlines()[-4:], [" b", " c", "-d", "+d\\r"])
+
+    def test_texts_with_equal_lines(self) -> None:
+        """Bytes that aren't UTF-8 may be printed as others are; then there is no diff."""
+        text = difference("output", b"a\nb\nc\n\xff\n", b"a\nb\nc\n\\xff\n")
+        self.assertEqual([it.strip() for it in text.splitlines()],
+                         [r"output: wanted b'a\nb\nc\n\xff\n'", r"came b'a\nb\nc\n\\xff\n'"])
+
+    def test_long_values(self) -> None:
+        """What is around the first place at which they differ is shown."""
+        for wanted, came in ((b"a" * 1000, b"a" * 500 + b"bc" + b"a" * 498),
+                             (["a"] * 500, ["a"] * 250 + ["bc"] + ["a"] * 249)):
+            lines = difference("what", wanted, came).splitlines()
+            self.assertEqual(["bc" in it for it in lines], [False, True])
+            self.assertTrue(all(len(it) < 500 for it in lines))
+        self.assertIn("from byte 500 on", difference("what", b"a" * 1000, b"a" * 500))
+
     def test_a_result(self) -> None:
         """It is what a tuple is."""
         self.assertEqual(Program(pathlib.Path("/bin/sh")).run("-c", "cat; exit 2", stdin=b"in"), Result(2, b"in", b""))
@@ -150,6 +197,14 @@ class Names(unittest.TestCase):
         self.assertTrue(check.fits("cases.scenes.Scenes.test_bad", ["nothing", "scenes"]))
         self.assertTrue(check.fits("cases.scenes.Scenes.test_bad", ["*.test_b*"]))
         self.assertFalse(check.fits("cases.scenes.Scenes.test_bad", ["*.test_b"]))
+
+    def test_a_whole_name(self) -> None:
+        """It is that case alone, also if other names begin with it."""
+        names = ["cases.a.A.test_b", "cases.a.A.test_b_c", "cases.a.A.test_d"]
+        self.assertEqual(check.chosen(names, names[:1]), names[:1])
+        self.assertEqual(check.chosen(names, [names[0], "test_d"]), [names[0], names[2]])
+        self.assertEqual(check.chosen(names, ["A.test_b"]), names[:2])
+        self.assertEqual(check.chosen(names, []), names)
 
     def test_shards(self) -> None:
         """A class of 90 seconds has three jobs, and each case is in one of them; of a third of it there is one job."""
