@@ -143,10 +143,11 @@ def bad_text(message: str, usage: str = "<COMMAND>") -> str:
 
 
 def difference(what: str, wanted: object, came: object) -> str:
-    """What was wanted and what came, as a diff if both have many lines; of other long values what is around the first
-    place at which they differ."""
-    if isinstance(wanted, str | bytes) and isinstance(came, str | bytes) and all(_is_long(it) for it in (wanted, came)):
-        lines = list(difflib.unified_diff(_lines(wanted), _lines(came), "wanted", "came", lineterm="", n=2))
+    """What was wanted and what came, as a diff if both are texts of many lines; of other long values what is around
+    the first place at which they differ."""
+    before, after = _lines(wanted), _lines(came)
+    if min(len(before), len(after)) > SHORT_LINES:
+        lines = list(difflib.unified_diff(before, after, "wanted", "came", lineterm="", n=2))
         if lines:
             return "\n".join([f"{what}:", *lines])
     place = ""
@@ -157,13 +158,16 @@ def difference(what: str, wanted: object, came: object) -> str:
     return f"{what}{place}: wanted {shown[0]}\n{' ' * len(what + place)}    came {shown[1]}"
 
 
-def _is_long(text: str | bytes) -> bool:
-    return len(_lines(text)) > SHORT_LINES
-
-
-def _lines(text: str | bytes) -> list[str]:
-    """Its lines, each as it can be printed, and NO_NEWLINE if the last has none."""
-    lines = (text if isinstance(text, str) else text.decode("utf-8", "backslashreplace")).split("\n")
+def _lines(value: object) -> list[str]:
+    """The lines of a text, each as it can be printed, and NO_NEWLINE if the last has none. What is no text has none:
+    bytes that are not UTF-8, or of which one is zero."""
+    text = value
+    if isinstance(value, bytes):
+        with contextlib.suppress(UnicodeDecodeError):
+            text = value.decode()
+    if not isinstance(text, str) or "\0" in text:
+        return []
+    lines = text.split("\n")
     end = [NO_NEWLINE] if lines[-1] else []
     shown = [it if it.isprintable() else it.encode("unicode_escape").decode() for it in lines]
     return [*(shown if end else shown[:-1]), *end]

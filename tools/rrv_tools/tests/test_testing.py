@@ -164,10 +164,17 @@ class Lines(unittest.TestCase):
         self.assertEqual(text.splitlines()[-4:], [" b", " c", "-d", "+d\\r"])
 
     def test_texts_with_equal_lines(self) -> None:
-        """Bytes that aren't UTF-8 may be printed as others are; then there is no diff."""
-        text = difference("output", b"a\nb\nc\n\xff\n", b"a\nb\nc\n\\xff\n")
+        """A character that can't be printed is shown as others may be; then there is no diff."""
+        text = difference("output", "a\nb\nc\n\7\n", "a\nb\nc\n\\x07\n")
         self.assertEqual([it.strip() for it in text.splitlines()],
-                         [r"output: wanted b'a\nb\nc\n\xff\n'", r"came b'a\nb\nc\n\\xff\n'"])
+                         [r"output: wanted 'a\nb\nc\n\x07\n'", r"came 'a\nb\nc\n\\x07\n'"])
+
+    def test_bytes_that_are_no_text(self) -> None:
+        """They are compared by the first that differs, however many newlines they have."""
+        for other in (b"\0", b"\xff"):
+            lines = difference("file", b"\n" * 300 + other + b"\n", b"\n" * 300 + b"a\n").splitlines()
+            self.assertEqual(len(lines), 2)
+            self.assertTrue(lines[0].startswith("file, from byte 300 on: wanted .. "))
 
     def test_long_values(self) -> None:
         """What is around the first place at which they differ is shown."""
