@@ -11,11 +11,10 @@ from collections.abc import Callable
 
 from rrv_tools.jobs import COUNT, Counts, counts_in
 from rrv_tools.program import ROOT
+from rrv_tools.prover.libraries import checks_at_once
 
 PROGRAM, RELEASE = ROOT / "crates" / "rrv" / "out" / "rrv", ROOT / "release" / "rrv"
 TICKS = os.sysconf("SC_CLK_TCK")
-# What a check of the prover takes of memory, most of the time at most.
-MEMORY = 4 << 30
 PROC = pathlib.Path("/proc")
 # Looks at a program, and returns what they counted.
 LookAt = Callable[[pathlib.Path], list[Counts]]
@@ -89,16 +88,10 @@ def kind_of(pid: str) -> tuple[str, str] | None:
     return words[words.index("--crate-name") + 1], kind
 
 
-def checks_at_once() -> int:
-    """How many checks `rt ci` runs side by side: one a processor, as far as there are 4 GB of free memory for each.
-    Each has one job, since each further one would read all libraries once more, which takes up to as much processor
-    time again."""
-    free = re.search(r"MemAvailable:\s+(\d+) kB", (PROC / "meminfo").read_text(encoding="utf-8"))
-    return max(1, min(len(os.sched_getaffinity(0)), int(free[1]) * 1024 // MEMORY if free else 1))
-
-
 def run(*words: str | pathlib.Path) -> tuple[Counts, str]:
-    """Runs a command of the gate, prints what it prints but its last count, and returns that with all the rest."""
+    """Runs a command of the gate, prints what it prints but its last count, and returns that with all the rest. Each
+    check that `rt ci` runs has one job: each further one would read all libraries once more, which takes up to as much
+    processor time again."""
     environment = {"RT_JOBS": str(checks_at_once()), **os.environ}
     printed, held = [], ""
     with subprocess.Popen(words, cwd=ROOT, env=environment, stdin=subprocess.DEVNULL, stdout=subprocess.PIPE, text=True,

@@ -7,6 +7,7 @@ import shutil
 import struct
 import subprocess
 import tempfile
+import unittest
 from collections.abc import Mapping, Sequence
 from typing import Any, NamedTuple
 
@@ -45,6 +46,14 @@ def build(folder: str | pathlib.Path, name: str = "preloaded") -> pathlib.Path |
         if is_there and subprocess.run([*compiler, *words], capture_output=True, check=False).returncode == 0:
             return shared
     return None
+
+
+def needed(folder: str | pathlib.Path, name: str = "preloaded") -> pathlib.Path:
+    """Builds a library for cases, which are left out if there is no C compiler."""
+    shared = build(folder, name)
+    if shared is None:
+        raise unittest.SkipTest("no C compiler is installed")
+    return shared
 
 
 def moments_in(text: bytes) -> list[Moment]:

@@ -34,7 +34,6 @@ import os
 import pathlib
 import re
 import shutil
-import unittest
 from collections.abc import Mapping, Sequence
 from typing import ClassVar, NamedTuple
 
@@ -116,10 +115,7 @@ class Library(Case):
     @classmethod
     def setUpClass(cls) -> None:
         super().setUpClass()
-        shared = preload.build(cls.class_folder)
-        if not shared:
-            raise unittest.SkipTest("no C compiler is installed")
-        cls.shared = shared
+        cls.shared = preload.needed(cls.class_folder)
 
 
 class Recordings(Library):

@@ -28,7 +28,6 @@ import shutil
 import subprocess
 import threading
 import time
-import unittest
 from collections.abc import Callable, Mapping
 from typing import Any, ClassVar, NamedTuple
 
@@ -389,10 +388,7 @@ class Committed(Case):
     @classmethod
     def setUpClass(cls) -> None:
         super().setUpClass()
-        shared = preload.build(cls.class_folder)
-        if shared is None:
-            raise unittest.SkipTest("no C compiler is installed")
-        cls.shared = shared
+        cls.shared = preload.needed(cls.class_folder)
         write("short.elf", Printer(9, 20, 1, 1).elf())
         # Beside other work all records, or all that the guest prints, may be committed at once, in one body.
         assert any(cls.is_longer(f"short.{it}") for it in range(50)), "there is no store of two bodies"

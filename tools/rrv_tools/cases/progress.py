@@ -19,7 +19,6 @@ import shutil
 import subprocess
 import termios
 import time
-import unittest
 from collections.abc import Sequence
 from typing import IO, ClassVar, NamedTuple
 
@@ -270,10 +269,7 @@ class EachRecord(Shows):
         super().setUpClass()
         cls.make({"short.elf": guest(FEW_ROUNDS)}, "new short", f"{RECORD_SHORT} {EVERY}", f"{RECORD_SHORT} 0",
                  "new whole", "record --quantum 1048576 --every 0 whole short.elf")
-        shared = preload.build(cls.class_folder)
-        if not shared:
-            raise unittest.SkipTest("no C compiler is installed")
-        cls.shared = shared
+        cls.shared = preload.needed(cls.class_folder)
 
     def run_each(self, words: str, given: bytes = b"") -> Shown:
         """Runs a line over that clock."""

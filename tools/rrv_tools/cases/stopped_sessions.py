@@ -23,7 +23,6 @@ just the guest that writes may be cut short.
 import errno
 import itertools
 import pathlib
-import unittest
 from collections.abc import Sequence
 from typing import ClassVar, NamedTuple
 
@@ -98,9 +97,7 @@ class Sessions(Case):
     @classmethod
     def setUpClass(cls) -> None:
         super().setUpClass()
-        shared = preload.build(cls.class_folder)
-        if not shared:
-            raise unittest.SkipTest("no C compiler is installed")
+        shared = preload.needed(cls.class_folder)
         cls.shared, cls.numbers, cls.left, cls.gone_on = shared, itertools.count(), {}, {}
         choices = {f"choices_{it}": b"1 64\n" * it for it in (CHOICES, MANY_CHOICES)}
         for name, data in {**FOUR, **choices}.items():

@@ -29,6 +29,11 @@ def free_memory() -> int:
     return int(free[1]) * 1024 if free else 0
 
 
+def checks_at_once() -> int:
+    """How many checks run side by side: one a processor, as far as each has that memory free."""
+    return max(1, min(len(os.sched_getaffinity(0)), free_memory() // MEMORY))
+
+
 @contextlib.contextmanager
 def libraries() -> Iterator[None]:
     """Keeps all libraries in memory.

@@ -6,7 +6,7 @@ from collections.abc import Collection, Iterator
 from pathlib import Path
 
 from rrv_tools.prover.crates import PRODUCT, ROOT, TEXTS, below, chains, files_of, lines, listed, minutes
-from rrv_tools.prover.libraries import MEMORY, free_memory, kit
+from rrv_tools.prover.libraries import checks_at_once, kit
 
 # The jobs that a crate gains from, and how many bytes of its text are proved in a minute.
 MOST_JOBS, TEXT = 4, 60_000
@@ -16,7 +16,7 @@ def jobs_at_once() -> int:
     """How many jobs the processors and the free memory hold, or RRV_JOBS."""
     if re.fullmatch("[1-9][0-9]*", os.environ.get("RRV_JOBS", "")):
         return int(os.environ["RRV_JOBS"])
-    return max(1, min(len(os.sched_getaffinity(0)), free_memory() // MEMORY))
+    return checks_at_once()
 
 
 def last_change(*paths: Path) -> float:
