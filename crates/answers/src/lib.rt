@@ -1,6 +1,6 @@
 //! What the lines of the program print of a verified recording: its end, its output, and what is asked of its places.
 //!
-//! Tests: program_tests; `tools/program_lines`, `tools/ask_cases` and `tools/scenes` run the program.
+//! Tests: program_tests; `cases.lines`, `cases.asks` and `cases.scenes` run the program.
 //!
 //! # Contracts
 //!

@@ -1,6 +1,6 @@
 //! What is asked of a verified recording, one question after the other, from a place to the next.
 //!
-//! Tests: none; `tools/ask_cases` and `tools/program_lines` run the program.
+//! Tests: none; `cases.asks` and `cases.lines` run the program.
 //!
 //! # Contracts
 //!

@@ -1,6 +1,6 @@
 //! What is printed of a place of a verified recording, and the changes of some bytes before it.
 //!
-//! Tests: none; `tools/program_lines` runs the program.
+//! Tests: none; `cases.lines` runs the program.
 //!
 //! # Contracts
 //!

@@ -15,7 +15,7 @@
 //!   0.
 //! - `are_same_parts`: whether the parts of two checkpoints are equal, in each field.
 //! - `recorder` makes checkpoints by `make`. `replayer` puts them onto a guest, and compares them with those that are made there.
-//!   Rows of `replay_cases` and `tools/scenes` see both.
+//!   Rows of `replay_cases` and `cases.scenes` see both.
 #![tactic(auto)]
 
 mod applying;

@@ -1,6 +1,6 @@
 //! The choices of a schedule: their text, a chooser that takes them from a list, and those of a recording.
 //!
-//! Tests: none; `tools/choices_again` and `tools/program_lines` run the program.
+//! Tests: none; `cases.choices` and `cases.lines` run the program.
 //!
 //! # Contracts
 //!

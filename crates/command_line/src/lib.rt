@@ -1,6 +1,6 @@
 //! The command line of `rrv`: its commands and their arguments, and the seed of random bytes.
 //!
-//! Tests: program_tests; `tools/program_lines` and `tools/scenes` run it.
+//! Tests: program_tests; `cases.lines` and `cases.scenes` run it.
 //!
 //! # Contracts
 //!

@@ -1,6 +1,6 @@
 //! What the lines of the program do.
 //!
-//! Tests: program_tests; `tools/program_lines` and `tools/scenes` run it.
+//! Tests: program_tests; `cases.lines` and `cases.scenes` run it.
 //!
 //! # Contracts
 //!

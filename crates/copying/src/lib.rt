@@ -2,7 +2,7 @@
 //!
 //! One record is held at a time, beside the text of those that are committed next: at most 64, as many as fit into a body.
 //!
-//! Tests: `tools/program_lines` and `tools/kill_test` run it, by `copy` of `commands`.
+//! Tests: `cases.lines` and `cases.kills` run it, by `copy` of `commands`.
 //!
 //! # Contracts
 //!

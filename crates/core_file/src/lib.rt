@@ -1,6 +1,6 @@
 //! A core file of a guest: its threads and its memory, for a debugger.
 //!
-//! Tests: none; `tools/core_cases` runs the program.
+//! Tests: none; `cases.cores` runs the program.
 //!
 //! # Contracts
 //!
@@ -12,7 +12,7 @@
 //!   page lies in one, and of its pages just those after the last that isn't blank are left out of the file.
 //! - `headers_are_true`: where the program headers lead stand the notes, and the bytes of each run.
 //!
-//! That a debugger reads the file so is tried, and not proved; `tools/core_reader` is one more reader, which tests all fields.
+//! That a debugger reads the file so is tried, and not proved; `tools/run core_file` is one more reader, which tests all fields.
 #![tactic(auto)]
 
 mod core_file;

@@ -1,6 +1,6 @@
 //! The lines that say how a guest ended, and what comes next at a place.
 //!
-//! Tests: none; `tools/turn_cases` and `tools/program_lines` run the program.
+//! Tests: none; `cases.turns` and `cases.lines` run the program.
 //!
 //! # Contracts
 //!

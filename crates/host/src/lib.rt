@@ -1,6 +1,6 @@
 //! What a recorded guest gets from the host: its input, its random bytes, the time, and the streams that its output goes to.
 //!
-//! Tests: program_tests; `tools/scenes` and `tools/host_cases` run it.
+//! Tests: program_tests; `cases.scenes` and `cases.host` run it.
 //!
 //! # Contracts
 //!

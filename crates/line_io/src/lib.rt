@@ -1,6 +1,6 @@
 //! What the lines of the program stand on: the files and the stores that they read, how text is printed, and why a line is refused.
 //!
-//! Tests: program_tests; `tools/program_lines` and `tools/scenes` run the program.
+//! Tests: program_tests; `cases.lines` and `cases.scenes` run the program.
 //!
 //! # Contracts
 //!

@@ -6,7 +6,7 @@
 //! - The program: the texts of its refusals; what guests get from clocks and streams that fail; what verifying and a cursor leave where no
 //!   memory is found; which record is named where one isn't given, and which of spans is the first bad one; and what is reported if the
 //!   Mark doesn't fit into a full store. The line of no words, a refusal and a bad line are done by `run`; all others are tried by
-//!   `tools/program_lines` and `tools/scenes`.
+//!   `cases.lines` and `cases.scenes`.
 #![tactic(auto)]
 
 #[cfg(test)]

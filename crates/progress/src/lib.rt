@@ -1,11 +1,11 @@
 //! The line that shows how far a command is, on standard error.
 //!
-//! Tests: none; `tools/progress_cases` runs the program.
+//! Tests: none; `cases.progress` runs the program.
 //!
 //! # Contracts
 //!
 //! What the line has that shows how far a command is: how often it is written (`Meter`), its text (`Extent`), and `Clearing`, a stream that
-//! clears it before it writes. The crates that record, verify and search show it. None has a contract: `tools/progress_cases` looks at them.
+//! clears it before it writes. The crates that record, verify and search show it. None has a contract: `cases.progress` looks at them.
 #![tactic(auto)]
 
 mod clearing;

@@ -1,6 +1,6 @@
 //! What the line `record` does.
 //!
-//! Tests: program_tests; `tools/program_lines` and `tools/scenes` run the program.
+//! Tests: program_tests; `cases.lines` and `cases.scenes` run the program.
 //!
 //! # Contracts
 //!

@@ -1,6 +1,6 @@
 //! `rrv`: records RISC-V programs and replays them.
 //!
-//! Tests: none; `tools/program_lines` and other tools run it.
+//! Tests: none; `cases.lines` and other tools run it.
 #![tactic(auto)]
 
 use commands::{report_unread, run_on};

@@ -1,7 +1,7 @@
 //! A session: records several guests at once, each by a worker in a thread of its own, and commits all that they send by one
 //! flusher.
 //!
-//! Tests: session_tests, program_tests; `tools/stopped_sessions` and `tools/failed_calls` run it.
+//! Tests: session_tests, program_tests; `cases.stopped_sessions` and `cases.failed_calls` run it.
 //!
 //! # Contracts
 //!
@@ -50,7 +50,7 @@
 //!
 //! That threads run at once, that one could not be made, and that a worker ever ends is in no contract. Tests record 16 guests
 //! of a thousand records each, ten times, and replay what they find; two guests of which one waits for the other's frames, and
-//! two that meet in the gate, which workers that ran one after the other would not pass. `tools/failed_calls` records two guests
+//! two that meet in the gate, which workers that ran one after the other would not pass. `cases.failed_calls` records two guests
 //! with each call of the disk failing, whose records are then the first of their runs.
 #![tactic(auto)]
 

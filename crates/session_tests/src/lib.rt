@@ -6,7 +6,7 @@
 //!   and for two of which a gate lets each wait for the other. A guest that a gate holds leaves its opening, and the others all of
 //!   their records. A guest whose sink fails is told by its place, and the others output all of theirs, and leave all of their records.
 //!   A first sync that fails leaves no guest and no output. Guests of sessions one after another have the next numbers. At each other
-//!   call of the disk, sessions are stopped from outside, by `tools/stopped_sessions`.
+//!   call of the disk, sessions are stopped from outside, by `cases.stopped_sessions`.
 //! - Deadlines: a recorder by itself wakes threads whose timed waits are over, by a clock whose answers a test lists. Each question
 //!   is counted, and each recording verifies with no clock, but not those of refused growths.
 //! - Refusals: if jobs have bad names or files, the first of these is reported. A store that has as many segments as one may

@@ -1,6 +1,6 @@
 //! The guests of stores, verified as they are read.
 //!
-//! Tests: program_tests; `tools/program_lines` and `tools/scenes` run the program.
+//! Tests: program_tests; `cases.lines` and `cases.scenes` run the program.
 //!
 //! # Contracts
 //!

@@ -1,6 +1,6 @@
 //! The lines that are printed of records and of states, and the digest of a memory.
 //!
-//! Tests: replay_cases; `tools/scenes` and `tools/program_lines` run it.
+//! Tests: replay_cases; `cases.scenes` and `cases.lines` run it.
 //!
 //! # Contracts
 //!

@@ -1,6 +1,6 @@
 //! The text of frames with their places, and as events of a trace.
 //!
-//! Tests: slice_cases; `tools/turn_cases` and `tools/program_lines` run the program.
+//! Tests: slice_cases; `cases.turns` and `cases.lines` run the program.
 //!
 //! # Contracts
 //!
