@@ -24,23 +24,6 @@ pub enum Flow {
     Fault(FaultKind),
 }
 
-// A call that is not inlined: where this is one more way to the end of a match, each instruction sets what this would need.
-#[cold]
-#[inline(never)]
-fn cold(kind: FaultKind) -> FaultKind
-    ensures { result ≡ kind }
-{
-    kind
-}
-
-/// An instruction failed.
-#[inline(always)]
-pub(crate) fn fault(kind: FaultKind) -> Flow
-    ensures { result ≡ Flow.Fault kind }
-{
-    Flow::Fault(cold(kind))
-}
-
 /// The address of the instruction at an index of a page.
 // The least of two changes nothing: without it the compiler counts this up at each instruction, where a jump alone needs it.
 #[inline(always)]
