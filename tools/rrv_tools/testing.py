@@ -102,10 +102,11 @@ class Case(unittest.TestCase):
             self.folder.chmod(0o755)
             self.enterContext(contextlib.chdir(self.folder))
 
-    def run_line(self, *words: Word, stdin: bytes = b"", limits: Limits = programs.NO_LIMITS) -> Result:
-        """Runs a line of the program; it fails the case if it doesn't end."""
+    def run_line(self, *words: Word, stdin: bytes = b"", limits: Limits = programs.NO_LIMITS,
+                 timeout: float = programs.PATIENCE) -> Result:
+        """Runs a line of the program; it fails the case if it doesn't end within some seconds."""
         try:
-            return self.program.run(*words, stdin=stdin, limits=limits)
+            return self.program.run(*words, stdin=stdin, limits=limits, timeout=timeout)
         except subprocess.TimeoutExpired as late:
             text = f"rrv {programs.shown(words)}\ndid not end within {late.timeout:.0f} seconds"
             raise self.failureException(text) from None

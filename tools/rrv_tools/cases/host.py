@@ -169,11 +169,14 @@ QUIET = ("list s", "list --long s", "elf s 0", "dump s 0", "dump --places s 0", 
 SAID = ("verify s 0", "choices s 0", "check exit_five", "copy s 0 to")
 LEFT = {f"{it} whose reader went away": (it, text)
         for some, text in ((QUIET, b""), (SAID, OUTPUT_FAILED)) for it in some}
+# The byte at 7fffff80 is the lowest digit of a count that the guest prints, and changes before each of its writes.
+FULL_LINES = ("--help", "--version", "list s", "last --short --times 9 s 0 end 7fffff80", "back s 0 end 1",
+              "verify --long s 0", "dump --trace-events s 0", "dump --places s 0")
 SLOW = {f"{command} whose {stream} doesn't wait": (command, stream)
         for stream in ("stdout", "stderr") for command in ("record", "replay")}
 
 
-@rows({f"{it} into a full output": it for it in ("--help", "--version", "list s")}, "need_full")
+@rows({f"{it} into a full output": it for it in FULL_LINES}, "need_full")
 @rows(SLOW, "need_all")
 @rows(LEFT, "need_left")
 @rows({f"{it} whose errors can't be written": (it, status) for it, status in (("list missing", 1), ("list", 2))},

@@ -457,6 +457,8 @@ def limited(place: int, limit: int, quantum: int, ran: int) -> list[Line]:
             done(f"verify limited {place}", f"ok records={records} instructions={ran} end none\n")]
 
 
+# Within so many seconds a recording of few instructions has to end.
+SOON = 10
 # The limit, the quantum, and how many instructions are run.
 LIMITS = ((1_000_000, 50_000, 1_000_000), (1_000_001, 50_000, 1_000_064), (100, 1000, 100), (99, 98, 162), (64, 64, 64),
           (65, 64, 128), (1, 64, 64))
@@ -468,6 +470,7 @@ LIMITS = ((1_000_000, 50_000, 1_000_000), (1_000_001, 50_000, 1_000_064), (100, 
     done("record --limit 0 limited spins", "", "g0: end none, records 1\n"),
     done("record --limit 3 limited exit_five", "", ENDED_FIVE),
     done("record --limit 1000 limited spins exit_five", "", "g0: end none, records 2\ng1: end exited 5, records 2\n"),
+    done("record --limit 1000 limited exit_five spins", "", "g0: end exited 5, records 2\ng1: end none, records 2\n"),
     bad("record --limit 1e6 limited spins", invalid("1e6", "limit", ANY_NUMBER)),
     done("record --fail limited reads", "", "g0: end exited 0, records 3\n"),
     Line("record --fail limited exit_five", 3, "", ENDED_FIVE),
@@ -478,6 +481,14 @@ LIMITS = ((1_000_000, 50_000, 1_000_000), (1_000_001, 50_000, 1_000_064), (100, 
 )
 class Limited(Lines):
     """Limits of instructions, and whether a guest failed."""
+
+    def test_the_last_of_sixteen(self) -> None:
+        """It ends at its limit beside fifteen that exit, and soon."""
+        self.need_line("new", "sixteen")
+        programs = [*15 * ["exit_five"], "spins"]
+        ran = self.run_line("record", "--limit", 1000, "sixteen", *programs, timeout=SOON)
+        report = f"{ended_five(f'g{it}' for it in range(15))}g15: end none, records 2\n"
+        self.need("the recording", (0, b"", report.encode()), tuple(ran))
 
 
 @in_order(

@@ -7,18 +7,20 @@ The program records guests. Their stores are written again with a lie in each, w
 one that the rules of records allow, so that the store opens, or one that they don't. Of the first kind `verify` has to
 name the record by which the list is no recording, from the record that the lie was put into and from the rules of
 recordings alone: the first record that does not replay, or the last part of the first checkpoint that is wrong. Seven
-changes are no lies, and have to verify. There are 76 lies, and 44 breaches of the rules of records and of the Mark's.
-`list` and `dump` have to print what is there, `list --long` that just this guest is refused, and a guest beside it has
-to verify. Of the second kind each line has to name the segment, or a newer version if the Mark is one's. The bytes and
+changes are no lies, and have to verify. There are 77 lies, and 44 breaches of the rules of records and of the Mark's.
+`list` and `dump` have to print what is there, `dump --places` and `dump --trace-events` what is before that record,
+`list --long` that just this guest is refused, and a guest beside it has to verify. Of the second kind each line has to name the segment, or a newer version if the Mark is one's. The bytes and
 the time of change of every store stay.
 
 The guests make calls of which the state alone decides the result, and none of their instructions jumps to itself.
 """
 import dataclasses
 import hashlib
+import itertools
 import operator
 import os
 import pathlib
+import re
 import struct
 from collections.abc import Callable, Mapping, Sequence
 from typing import Any, ClassVar, Generic, NamedTuple, TypeVar
@@ -328,6 +330,7 @@ PARTS: Changes = {
 FAULTS: dict[str, Callable[[At[Fault]], Changed]] = {
     "another fault": lambda at: at.replaced(fault=6),
     "a fault an instruction too soon": lambda at: at.replaced(count=at.item.count - 1),
+    "a fault of a thread that isn't there": lambda at: at.replaced(tid=NO_THREAD),
     "a fault reported as a preempt": lambda at: at.by(Preempt(at.item.tid, at.item.count)),
     "a fault reported as a call": lambda at: at.by(Call(at.item.tid, at.item.count, 0, [])),
     "a frame after a fault": lambda at: at.by(at.item, Preempt(1, 1), after=1),
@@ -510,6 +513,21 @@ class Recording(Stores):
             long = list_line(0, items, " refused\n") + list_line(1, others, SUMMED)
             lines = [refused("verify store 0", f"rrv: {refusal}\n"), *lines[1:], done("list --long store", long)]
         self.try_store(store_of(records.bodies_of(self.records(items))), *lines)
+        if refusal is not None:
+            self.need_listed_until(items, refusal)
+
+    def need_listed_until(self, items: Items, refusal: str) -> None:
+        """The places and the events of a list end at the record that is refused, or before its first."""
+        place = int(re.sub(r"\D", "", refusal) or 0)
+        starts = [*itertools.accumulate(map(count_of, items), initial=0)]
+        text = f"rrv: {refusal}\n"
+        placed = self.need_line("dump", "--places", "store", 0, status=1, out=None, err=text).out.decode()
+        wanted = [f"{index} {it.line()}{f' from={starts[index]} to={starts[index + 1]}' * is_frame(it)}"
+                  for index, it in enumerate(items[:place])]
+        self.need("records with their places", wanted, re.sub(r"(?m) pc=\w+$", "", placed).splitlines())
+        events = self.need_line("dump", "--trace-events", "store", 0, status=1, out=None, err=text).out
+        found = [int(it) for it in re.findall(rb'"ts":(\d+)', events)]
+        self.need("places of events", [starts[at] for at, it in enumerate(items[:place]) if is_frame(it)], found)
 
 
 def end_of(name: str) -> str:
