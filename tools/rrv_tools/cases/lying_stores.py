@@ -9,8 +9,8 @@ name the record by which the list is no recording, from the record that the lie 
 recordings alone: the first record that does not replay, or the last part of the first checkpoint that is wrong. Seven
 changes are no lies, and have to verify. There are 77 lies, and 44 breaches of the rules of records and of the Mark's.
 `list` and `dump` have to print what is there, `dump --places` and `dump --trace-events` what is before that record,
-`list --long` that just this guest is refused, and a guest beside it has to verify. Of the second kind each line has to name the segment, or a newer version if the Mark is one's. The bytes and
-the time of change of every store stay.
+`list --long` that just this guest is refused, and a guest beside it has to verify. Of the second kind each line has to
+name the segment, or a newer version if the Mark is one's. The bytes and the time of change of every store stay.
 
 The guests make calls of which the state alone decides the result, and none of their instructions jumps to itself.
 """
