@@ -3,7 +3,8 @@ import importlib
 import sys
 from collections.abc import Mapping, Sequence
 
-# The modules with `main(words) -> int`, by the name of the tool, and what each does.
+# The modules by the name of the tool, and what each does. `main` of a module takes the words and returns the status; or
+# None if it takes no such words, and the module's docstring is printed.
 TOOLS: dict[str, tuple[str, str]] = {
     "refused_growths": ("rrv_tools.refused_growths", "refuses each growth of a test in turn"),
     "rows": ("rrv_tools.rows", "prints which rows of the crates of cases are cases, and which are left out"),
@@ -43,14 +44,16 @@ def usage(tools: Mapping[str, tuple[str, str]], line: str) -> str:
 
 
 def main(words: Sequence[str], tools: Mapping[str, tuple[str, str]] = TOOLS, line: str = "tools/run") -> int:
-    """Runs a tool; the status is the tool's, or 2 if there is none of that name."""
+    """Runs a tool; the status is the tool's, or 2 if there is none of that name, or none that takes these words."""
     if not words or words[0] not in tools:
         is_asked = list(words) in ([], ["-h"], ["--help"])
         print(usage(tools, line), end="", file=sys.stdout if is_asked else sys.stderr)
         return 0 if is_asked else 2
     module = importlib.import_module(tools[words[0]][0])
-    status: int = module.main(words[1:])
-    return status
+    status: int | None = module.main(words[1:])
+    if status is None:
+        print(module.__doc__, end="", file=sys.stderr)
+    return 2 if status is None else status
 
 
 if __name__ == "__main__":

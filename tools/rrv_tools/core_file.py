@@ -117,12 +117,11 @@ def lines_of(core: bytes, with_loads: bool = False) -> list[str]:
     return [*threads, *page_lines(core, loads, notes.offset + notes.file_size, with_loads)]
 
 
-def main(words: Sequence[str]) -> int:
+def main(words: Sequence[str]) -> int | None:
     """Prints the lines of the core file that the last word names."""
     with_loads = list(words[:1]) == ["--loads"]
     if len(words) != 1 + with_loads:
-        print(__doc__, end="", file=sys.stderr)
-        return 2
+        return None
     try:
         print("\n".join(lines_of(pathlib.Path(words[-1]).read_bytes(), with_loads)))
     except Broken as broken:

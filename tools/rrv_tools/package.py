@@ -358,11 +358,10 @@ def make(path: str) -> str:
     return path
 
 
-def main(words: Sequence[str]) -> int:
+def main(words: Sequence[str]) -> int | None:
     """Makes the package into the folder, or by the name, that the word says."""
     if len(words) > 1 or words and words[0] in ("-h", "--help"):
-        print(__doc__, end="", file=sys.stderr)
-        return 2
+        return None
     try:
         print(make(*words or ["."]))
     except (Refused, OSError) as error:

@@ -326,7 +326,7 @@ def is_address(text: str) -> bool:
     return re.fullmatch(r"(?:0x)?[0-9A-Fa-f]{1,8}", text) is not None
 
 
-def main(words: Sequence[str]) -> int:
+def main(words: Sequence[str]) -> int | None:
     """Does what the line says."""
     try:
         match words:
@@ -340,5 +340,4 @@ def main(words: Sequence[str]) -> int:
     except (Refused, OSError) as wrong:
         print(f"race_picture: {wrong}", file=sys.stderr)
         return 1
-    print(__doc__, end="", file=sys.stderr)
-    return 2
+    return None

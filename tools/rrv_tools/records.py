@@ -9,7 +9,6 @@ Mark its segment and `mark`.
 import dataclasses
 import pathlib
 import struct
-import sys
 from collections.abc import Sequence
 from typing import ClassVar, Self
 
@@ -350,11 +349,10 @@ def bodies_of(records: Sequence[Record], most: int = BATCH) -> list[bytes]:
     return [b"".join(it.text() for it in records[at: at + most]) for at in range(0, len(records), most)]
 
 
-def main(words: Sequence[str]) -> int:
+def main(words: Sequence[str]) -> int | None:
     """Prints the records of the store that the word names."""
     if len(words) != 1:
-        print(__doc__, end="", file=sys.stderr)
-        return 2
+        return None
     for number, body in enumerate(store.bodies_in(pathlib.Path(words[0]).read_bytes())):
         if body == store.MARK:
             print(f"{number} mark")

@@ -15,7 +15,6 @@ import dataclasses
 import importlib
 import pathlib
 import re
-import sys
 from collections.abc import Callable, Iterable, Iterator, Sequence
 from typing import NamedTuple
 
@@ -168,11 +167,10 @@ def state_at(program: Program, data: bytes, place: object, *memory: tuple[int, i
     return state_of(out) if status == 0 else err
 
 
-def main(words: Sequence[str]) -> int:
+def main(words: Sequence[str]) -> int | None:
     """Prints of each crate how many rows are cases, and how many are left out."""
     if words:
-        print(__doc__, end="", file=sys.stderr)
-        return 2
+        return None
     for it in CRATES:
         found: Rows = importlib.import_module(f"rrv_tools.cases.rows_{it}").ROWS
         left = ", ".join(f"{count} {reason}" for reason, count in found.left.most_common())

@@ -24,7 +24,7 @@ from typing import NamedTuple
 
 import rrv_tools.cases
 from rrv_tools.check import classes_in
-from rrv_tools.prover.crates import ROOT, read, report, usage
+from rrv_tools.prover.crates import ROOT, read, report
 
 PAGE, LABEL = "docs/TESTS.md", "Expected values"
 # What stands between the two marks of the page.
@@ -86,10 +86,10 @@ def rows_found() -> list[Row]:
     return [*of_cases, *(row_of(module.__doc__ or "", it, "") for it, module in tools.items())]
 
 
-def main(words: Sequence[str]) -> int:
+def main(words: Sequence[str]) -> int | None:
     """Writes the table into docs/TESTS.md, or compares it; the status is 1 if something is missing or old."""
     if [*words] not in (["--write"], ["--check"]):
-        return usage(__doc__)
+        return None
     rows = rows_found()
     wrong, page = {it.module: it.lacks() for it in rows}, read(PAGE)
     table = HEAD + "".join(it.line() for it in rows)

@@ -5,7 +5,7 @@ from collections.abc import Sequence
 from rrv_tools import __main__ as tools
 
 LINE = "tools/run bench"
-# The modules with `main(words) -> int`, and what each measures or makes.
+# The modules with `main`, and what each measures or makes.
 MEASUREMENTS = {
     "answers": "seconds of verify, replay --at, back and last, by processors",
     "asks": "milliseconds until ask answers",

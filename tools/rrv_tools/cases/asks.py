@@ -19,7 +19,6 @@ import functools
 import pathlib
 import random
 import re
-import sys
 from collections.abc import Iterator, Sequence
 from typing import ClassVar, NamedTuple
 
@@ -270,10 +269,9 @@ class Asks(Looked):
     seconds = 8
 
 
-def main(words: Sequence[str]) -> int:
+def main(words: Sequence[str]) -> int | None:
     """Asks as many questions as the words say."""
     if len(words) > 2 or not all(it.isdecimal() for it in words):
-        print(__doc__, end="", file=sys.stderr)
-        return 2
+        return None
     count, seed = int(words[0]) if words else COUNT, words[1] if words[1:] else SEED
     return by_hand.run(rows(looks_of(count, seed), "look")(type("Questions", (Looked,), {})))

@@ -25,7 +25,6 @@ import itertools
 import pathlib
 import random
 import re
-import sys
 from collections.abc import Callable, Iterator, Sequence
 from typing import Any, ClassVar, NamedTuple
 
@@ -288,11 +287,10 @@ class RandomGuests(Looked):
     seconds = 10
 
 
-def main(words: Sequence[str]) -> int:
+def main(words: Sequence[str]) -> int | None:
     """Looks at as many guests as the words say."""
     if len(words) > 2 or not all(it.isdecimal() for it in words):
-        print(__doc__, end="", file=sys.stderr)
-        return 2
+        return None
     count, seed = int(words[0]) if words else COUNT, words[1] if words[1:] else SEED
 
     @rows(looks_of(count, seed), "look")

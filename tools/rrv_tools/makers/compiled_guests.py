@@ -8,7 +8,6 @@ What every_instruction.S prints, and how many instructions it runs, is what qemu
 same with a breakpoint in place of its last call. Needs riscv64-unknown-elf-gcc and qemu-riscv32.
 """
 import signal
-import sys
 from collections.abc import Sequence
 
 from rrv_tools import elf, toolchain
@@ -60,11 +59,10 @@ def keep_every_instruction() -> None:
     keep("breakpoint", broken, ran.out, [write, f"2 {Fault(1, 3, 2).line()}"], count, "faulted 2")
 
 
-def main(words: Sequence[str]) -> int:
+def main(words: Sequence[str]) -> int | None:
     """Makes the guests."""
     if words:
-        print(__doc__, end="", file=sys.stderr)
-        return 2
+        return None
     keep_by_steps("primes.c", WITH_SYMBOLS)
     keep_by_steps("lock.c", COMPILED)
     keep_by_steps("race.S", ASSEMBLED, is_steady=False)

@@ -8,7 +8,6 @@ of states are written by docs/FORMATS.md (records.py).
 import hashlib
 import random
 import struct
-import sys
 from collections.abc import Collection, Iterator, Mapping, Sequence
 
 from rrv_tools import elf, guests
@@ -510,11 +509,10 @@ ROWS = (
 )  # fmt: skip
 
 
-def main(words: Sequence[str]) -> int:
+def main(words: Sequence[str]) -> int | None:
     """Writes the recordings and the rows."""
     if words:
-        print(__doc__, end="", file=sys.stderr)
-        return 2
+        return None
     text = "".join(line for rows in ROWS for line in rows())
     (CRATE / "stdin").write_text(text + MUTANTS, encoding="ascii")
     return 0

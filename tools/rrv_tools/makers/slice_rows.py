@@ -9,7 +9,6 @@ waits: what guests that wait for a time do, by the same restatement.
 """
 import json
 import re
-import sys
 from collections.abc import Callable, Iterator, Sequence
 
 from rrv_tools import elf, guests, toolchain
@@ -228,10 +227,9 @@ def of_waits() -> Iterator[str]:
 ROWS: dict[str, Callable[[], Iterator[str]]] = {"increments": of_increments, "lists": of_lists, "waits": of_waits}
 
 
-def main(words: Sequence[str]) -> int:
+def main(words: Sequence[str]) -> int | None:
     """Prints the rows that the word names."""
     if len(words) != 1 or words[0] not in ROWS:
-        print(__doc__, end="", file=sys.stderr)
-        return 2
+        return None
     print("\n".join(ROWS[words[0]]()))
     return 0

@@ -12,7 +12,6 @@ before. What stands above HEAD, and after the next empty line, is kept. Needs ri
 """
 import pathlib
 import struct
-import sys
 import tempfile
 from collections.abc import Callable, Iterator, Sequence
 from typing import NamedTuple
@@ -309,11 +308,10 @@ def line(row: Row, before: Sequence[str], after: Sequence[str], word: int, wrote
     return " ".join([*parts, "#", row.text])
 
 
-def main(words: Sequence[str]) -> int:
+def main(words: Sequence[str]) -> int | None:
     """Writes the rows."""
     if words:
-        print(__doc__, end="", file=sys.stderr)
-        return 2
+        return None
     above, head, rest = STDIN.read_text(encoding="utf-8").partition(HEAD)
     assert head
     lines = []

@@ -17,7 +17,7 @@ import re
 from collections.abc import Callable, Iterable, Iterator, Sequence
 
 from rrv_tools.prover import crates_graph
-from rrv_tools.prover.crates import ROOT, Uses, listed, product, read, report, usage
+from rrv_tools.prover.crates import ROOT, Uses, listed, product, read, report
 
 MEASURES = "rates"
 # What the first screen may use of the glossary, and where it ends.
@@ -139,9 +139,9 @@ def links(_: str, __: Uses) -> Iterator[str]:
 LOOKS: tuple[Callable[[str, Uses], Iterable[str]], ...] = (picture, table, reading_order, graph, first_screen, links)
 
 
-def main(words: Sequence[str]) -> int:
+def main(words: Sequence[str]) -> int | None:
     """Looks at all, and counts."""
     if words:
-        return usage(__doc__)
+        return None
     text, uses = read("docs/ARCHITECTURE.md"), listed()
     return report({look.__name__: (f"architecture: {it}" for it in look(text, uses)) for look in LOOKS})

@@ -33,7 +33,7 @@ import time
 from collections.abc import Sequence
 from pathlib import Path
 
-from rrv_tools.prover.crates import PRODUCT, ROOT, usage
+from rrv_tools.prover.crates import PRODUCT, ROOT
 from rrv_tools.prover.jobs import OUT, PROGRAM, SIGNALS, Job, Progress, SideBySide, held, remove_lanes, run
 from rrv_tools.prover.libraries import libraries
 from rrv_tools.prover.schedule import Schedule, jobs_at_once
@@ -177,10 +177,10 @@ def build_by(command: Sequence[str]) -> int:
     return status if status >= 0 else 128 - status
 
 
-def main(words: Sequence[str]) -> int:
+def main(words: Sequence[str]) -> int | None:
     """Builds rrv, unless that is done."""
     if words and (words[0] != "--by" or not words[1:]):
-        return usage(__doc__)
+        return None
     if not shutil.which("rt"):
         print("rrv: the Rattle toolchain is needed: its command rt is not on the PATH", file=sys.stderr)
         return 1

@@ -2,7 +2,6 @@
 
 import os
 import shutil
-import sys
 import tomllib
 from collections.abc import Iterable, Iterator, Mapping
 from pathlib import Path
@@ -97,12 +96,6 @@ def link(one: str, other: str) -> None:
         os.link(one, other)
     except OSError:
         shutil.copy2(one, other)
-
-
-def usage(text: str | None) -> int:
-    """Prints how a tool is used, which its docstring says, and returns the status."""
-    print(text, end="", file=sys.stderr)
-    return 2
 
 
 def report(wrong: Mapping[str, Iterable[str]]) -> int:

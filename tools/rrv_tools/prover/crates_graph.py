@@ -11,7 +11,7 @@ from collections.abc import Sequence
 from dataclasses import dataclass, field
 from itertools import combinations, pairwise
 
-from rrv_tools.prover.crates import ROOT, Uses, below, chains, listed, product, reduced, report, usage
+from rrv_tools.prover.crates import ROOT, Uses, below, chains, listed, product, reduced, report
 
 PICTURE = ROOT / "docs" / "crates.svg"
 MACHINE, STORES = "rrv_model", "store_model"
@@ -205,10 +205,10 @@ def wrong_with() -> list[str]:
     return [] if is_same else [f"{path}: not what tools/run crates_graph draws of crates.txt"]
 
 
-def main(words: Sequence[str]) -> int:
+def main(words: Sequence[str]) -> int | None:
     """Writes the picture, or compares it."""
     if [*words] not in ([], ["--check"]):
-        return usage(__doc__)
+        return None
     if not words and not out_of_order(listed(), product(listed())):
         PICTURE.write_text(drawn(), encoding="utf-8")
         return 0

@@ -12,7 +12,7 @@ are left out. Pages that only mention a neighbour are passed over.
 import re
 from collections.abc import Iterator, Mapping, Sequence
 
-from rrv_tools.prover.crates import ROOT, files_below, read, report, usage
+from rrv_tools.prover.crates import ROOT, files_below, read, report
 
 PAGE = "CONTRIBUTING.md"
 # The parts of the page, and the spellings of the neighbour. Python's own getpid is another. `back` is a word too, so it
@@ -76,10 +76,10 @@ def compare(part: str, listed: list[str], known: Mapping[str, str]) -> list[str]
     return [f"{PAGE}, {part!r}: {it}" for it in (wrong if listed else ["there is no list"])]
 
 
-def main(words: Sequence[str]) -> int:
+def main(words: Sequence[str]) -> int | None:
     """Prints what is wrong, and the count."""
     if [*words] not in ([], ["--count"]):
-        return usage(__doc__)
+        return None
     known, found = dict(texts()), {part: tables(part) for part in NEIGHBOURS}
     for part in NEIGHBOURS if words else ():
         print(f"{part}: {', '.join(str(len(it)) for it in found[part])} files")

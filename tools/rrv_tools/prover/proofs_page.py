@@ -16,7 +16,7 @@ import textwrap
 from collections.abc import Sequence
 from itertools import takewhile
 
-from rrv_tools.prover.crates import MINUTES, PRODUCT, ROOT, chains, listed, minutes, product, read, report, usage
+from rrv_tools.prover.crates import MINUTES, PRODUCT, ROOT, chains, listed, minutes, product, read, report
 
 PAGE, FROM = "docs/PROOFS.md", "release/FROM"
 KINDS = ("proof", "tests", "edits")
@@ -59,7 +59,7 @@ def wanted() -> dict[str, str]:
     return {MINUTES: made(), FROM: "".join(re.findall(r"(?m)^kit: .*\blogic (\w+)", read(FROM)))}
 
 
-def main(words: Sequence[str]) -> int:
+def main(words: Sequence[str]) -> int | None:
     """Prints the page of contracts, or writes or compares what docs/PROOFS.md has of other files."""
     if [*words] == ["--check"]:
         page, why = read(PAGE), f"{PAGE} does not have what this says: run tools/run proofs_page --write"
@@ -72,7 +72,7 @@ def main(words: Sequence[str]) -> int:
         (ROOT / PAGE).write_text(page, encoding="utf-8")
         return 0
     if any(it not in listed() for it in words):
-        return usage(__doc__)
+        return None
     print("# What is proved, crate by crate")
     for name in words or listed():
         if part := said(name):

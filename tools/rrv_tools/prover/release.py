@@ -15,7 +15,7 @@ from collections.abc import Sequence
 from pathlib import Path
 from subprocess import DEVNULL
 
-from rrv_tools.prover.crates import ROOT, read, report, usage
+from rrv_tools.prover.crates import ROOT, read, report
 
 BUILT, RELEASE, FROM = "crates/rrv/out/rrv", "release/rrv", "release/FROM"
 
@@ -90,8 +90,8 @@ def check() -> int:
                    for what, got, wanted in looks})
 
 
-def main(words: Sequence[str]) -> int:
+def main(words: Sequence[str]) -> int | None:
     """Writes, or compares."""
     if [*words] not in ([], ["--check"]):
-        return usage(__doc__)
+        return None
     return check() if words else write()

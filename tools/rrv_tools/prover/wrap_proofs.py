@@ -11,7 +11,7 @@ from collections.abc import Sequence
 from dataclasses import dataclass
 from itertools import pairwise
 
-from rrv_tools.prover.crates import ROOT, files_below, report, usage
+from rrv_tools.prover.crates import ROOT, files_below, report
 
 WIDTH = 140
 # Lines that stay: imports, comments, and what has to stand on one line.
@@ -114,10 +114,10 @@ def text_wrapped(text: str) -> str:
     return "\n".join(lines)
 
 
-def main(words: Sequence[str]) -> int:
+def main(words: Sequence[str]) -> int | None:
     """Wraps, or compares."""
     if [*words] not in ([], ["--check"]):
-        return usage(__doc__)
+        return None
     wrong: dict[str, list[str]] = {}
     for file in files_below(ROOT / "crates"):
         if file.suffix != ".antt":
