@@ -123,12 +123,7 @@ def measured(said: argparse.Namespace, folder: pathlib.Path, counts: list[int]) 
 
 def main(words: Sequence[str]) -> int:
     """Measures, prints, and draws if that is asked for."""
-    wanted = parser("answers", __doc__)
-    wanted.add_argument("--millions", type=int, default=1000)
-    wanted.add_argument("--rounds", type=int, default=3)
-    wanted.add_argument("--every", type=int, default=1_048_576)
-    wanted.add_argument("--svg", type=pathlib.Path)
-    said = wanted.parse_args(words)
+    said = parser("answers", __doc__, millions=1000, rounds=3, every=1_048_576, svg=None).parse_args(words)
     counts = [it for it in COUNTS if it <= len(PROCESSORS)]
     with tempfile.TemporaryDirectory() as folder:
         seconds, count = measured(said, pathlib.Path(folder), counts)

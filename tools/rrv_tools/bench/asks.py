@@ -60,11 +60,7 @@ def measured(rrv: list[str], folder: pathlib.Path, millions: int, rounds: int, e
 
 def main(words: Sequence[str]) -> int:
     """Measures, and prints."""
-    wanted = parser("asks", __doc__)
-    wanted.add_argument("--millions", type=int, default=100)
-    wanted.add_argument("--rounds", type=int, default=100)
-    wanted.add_argument("--every", type=int, default=1_048_576)
-    said = wanted.parse_args(words)
+    said = parser("asks", __doc__, millions=100, rounds=100, every=1_048_576).parse_args(words)
     with tempfile.TemporaryDirectory() as folder:
         taken = measured(programs.build("rrv"), pathlib.Path(folder), said.millions, said.rounds, said.every)
     found = {name: tenths(times) for name, times in taken.items()}

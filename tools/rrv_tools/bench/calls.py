@@ -79,11 +79,7 @@ def print_disk(rrv: list[str], program: pathlib.Path, disk: pathlib.Path, calls:
 
 def main(words: Sequence[str]) -> int:
     """Measures, and prints."""
-    asked = parser("calls", __doc__)
-    asked.add_argument("--calls", type=int, default=160_000)
-    asked.add_argument("--rounds", type=int, default=5)
-    asked.add_argument("--folder", type=pathlib.Path)
-    said = asked.parse_args(words)
+    said = parser("calls", __doc__, calls=160_000, rounds=5, folder=None).parse_args(words)
     rrv = programs.build("rrv")
     with tempfile.TemporaryDirectory(dir=MEMORY) as of_memory, tempfile.TemporaryDirectory(dir=said.folder) as of_disk:
         memory, disk = pathlib.Path(of_memory), pathlib.Path(of_disk)

@@ -27,7 +27,6 @@ with qemu-riscv32 alone. --cases FOLDER: the guests are small, read nothing and 
 quantum, and those that don't differ go into the folder as those that `cases.lines` records. Seed 7 made the eight of
 tools/guests.
 """
-import argparse
 import functools
 import os
 import pathlib
@@ -153,20 +152,11 @@ class Example:
             file.unlink()
 
 
-def parsed(words: Sequence[str]) -> argparse.Namespace:
-    """What the words ask for."""
-    asked = parser("changing_code", __doc__)
-    for name, number in (("guests", 300), ("seed", 1), ("first", 0)):
-        asked.add_argument(f"--{name}", type=int, default=number)
-    for name in ("keep", "cases"):
-        asked.add_argument(f"--{name}", type=pathlib.Path)
-    asked.add_argument("--without-rrv", action="store_true")
-    return asked.parse_args(words)
-
-
 def main(words: Sequence[str]) -> int:
     """Compares, and prints what differs."""
-    said = parsed(words)
+    asked = parser("changing_code", __doc__, guests=300, seed=1, first=0, keep=None, cases=None)
+    asked.add_argument("--without-rrv", action="store_true")
+    said = asked.parse_args(words)
     has_qemu, rrv = shutil.which(QEMU) is not None, None if said.without_rrv else programs.needed()
     resource.setrlimit(resource.RLIMIT_CORE, (0, 0))
     failed, by_itself, faulted, instructions = 0, 0, 0, 0

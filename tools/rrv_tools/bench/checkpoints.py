@@ -49,9 +49,7 @@ def is_held(name: str, number: float, text: str, bound: int | None) -> bool:
 
 def main(words: Sequence[str]) -> int:
     """Measures, and prints."""
-    asked = parser("checkpoints", __doc__)
-    asked.add_argument("--rounds", type=int, default=1000)
-    asked.add_argument("--runs", type=int, default=5)
+    asked = parser("checkpoints", __doc__, rounds=1000, runs=5)
     said = asked.parse_args(words)
     if said.rounds <= FEW or said.runs < 1:
         asked.error(f"more than {FEW} rounds are needed, and a run")

@@ -81,10 +81,7 @@ def plot_of(seconds: Mapping[str, list[float]], every: list[int]) -> Plot:
 
 def main(words: Sequence[str]) -> int:
     """Measures, prints, and draws if that is asked for."""
-    asked = parser("every", __doc__)
-    asked.add_argument("--rounds", type=int, default=3)
-    asked.add_argument("--every", default=EVERY)
-    asked.add_argument("--svg", type=pathlib.Path)
+    asked = parser("every", __doc__, rounds=3, every=EVERY, svg=None)
     asked.add_argument("guests", nargs="*", metavar="GUEST", default=list(GUESTS))
     said = asked.parse_args(words)
     if unknown := set(said.guests) - set(GUESTS):

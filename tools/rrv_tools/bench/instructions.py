@@ -77,11 +77,8 @@ def failures(table: Mapping[str, list[float]], bounds: Sequence[float]) -> Itera
 
 def main(words: Sequence[str]) -> int:
     """Counts, and prints."""
-    asked = parser("instructions", __doc__)
-    for name, _, _, bound in GUESTS:
-        asked.add_argument(f"--{name}", type=float, default=bound)
-    asked.add_argument("--old", type=pathlib.Path)
-    said = asked.parse_args(words)
+    bounds = {name: float(bound) for name, _, _, bound in GUESTS}
+    said = parser("instructions", __doc__, old=None, **bounds).parse_args(words)
     plain = {"plain Rust": build_plain("decoded"), "plain, old": build_plain("main")}
     rows: dict[str, tuple[Count, list[str]]] = {STEP: (counted, [*build("rates"), "step"])}
     rows.update({name: (counted, it) for name, it in plain.items() if it})
@@ -97,4 +94,4 @@ def main(words: Sequence[str]) -> int:
             table[name] = [for_one(count, program, *pair) for pair in pairs]
             print(f"{name:12}" + "".join(f"{number:12.1f}" for number in table[name]))
     print_machine()
-    return print_failures(list(dict.fromkeys(failures(table, [vars(said)[name] for name, *_ in GUESTS]))))
+    return print_failures(list(dict.fromkeys(failures(table, [vars(said)[name] for name in bounds]))))

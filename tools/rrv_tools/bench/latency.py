@@ -26,7 +26,6 @@ pipe; if half of those of this disk take ten milliseconds, or 0.4 milliseconds m
 guest's output also waits for the end of its slice (0.5 more than two bare syncs, if rustc isn't installed); or if less
 than 8 records share a body of the busy guest.
 """
-import argparse
 import dataclasses
 import os
 import pathlib
@@ -133,19 +132,10 @@ def failures(disk: Disk, slow: Disk, shared: float) -> Iterator[str]:
         yield f"fewer than {LEAST_SHARED} records share a body"
 
 
-def parsed(words: Sequence[str]) -> argparse.Namespace:
-    """What the words ask for."""
-    asked = parser("latency", __doc__)
-    for name, number in (("writes", 100), ("apart", 6_000_000), ("busy", 20_000), ("quantum", 262_144)):
-        asked.add_argument(f"--{name}", type=int, default=number)
-    asked.add_argument("--folder", type=pathlib.Path)
-    asked.add_argument("--slower", type=float, default=4)
-    return asked.parse_args(words)
-
-
 def main(words: Sequence[str]) -> int:
     """Measures, and prints."""
-    said = parsed(words)
+    said = parser("latency", __doc__, writes=100, apart=6_000_000, busy=20_000, quantum=262_144, folder=None,
+                  slower=4.0).parse_args(words)
     rrv, commits = programs.build("rrv"), programs.build_plain("commits")
     qemu, slower = programs.qemu(), said.slower / 1000
     with tempfile.TemporaryDirectory(dir=said.folder) as folder:

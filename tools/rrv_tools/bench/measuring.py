@@ -134,10 +134,14 @@ def tenths(numbers: Sequence[float]) -> tuple[float, float, float]:
 # ---- the words, and where and when was measured
 
 
-def parser(name: str, about: str | None) -> argparse.ArgumentParser:
-    """A parser of the words of a measurement, whose help is the module's docstring."""
+def parser(name: str, about: str | None, **defaults: float | str | None) -> argparse.ArgumentParser:
+    """A parser of the words of a measurement, whose help is the module's docstring, with these options; one without a
+    default is a path."""
     how = argparse.RawDescriptionHelpFormatter
-    return argparse.ArgumentParser(prog=f"tools/run bench {name}", description=about, formatter_class=how)
+    asked = argparse.ArgumentParser(prog=f"tools/run bench {name}", description=about, formatter_class=how)
+    for option, default in defaults.items():
+        asked.add_argument(f"--{option}", type=pathlib.Path if default is None else type(default), default=default)
+    return asked
 
 
 def processor_name() -> str:

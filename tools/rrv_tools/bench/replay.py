@@ -48,11 +48,7 @@ def found_by(ran: Ran) -> int:
 
 def main(words: Sequence[str]) -> int:
     """Measures, and prints."""
-    asked = parser("replay", __doc__)
-    asked.add_argument("--rounds", type=int, default=5)
-    asked.add_argument("--millions", type=int, default=100)
-    asked.add_argument("--every", type=int, default=1_048_576)
-    said = asked.parse_args(words)
+    said = parser("replay", __doc__, rounds=5, millions=100, every=1_048_576).parse_args(words)
     program, count, stores_at = guests.stores_byte(said.millions)
     with tempfile.TemporaryDirectory() as folder:
         path = written(pathlib.Path(folder, "guest.elf"), program)

@@ -105,9 +105,7 @@ def print_guests(rounds: int, rrv: list[str]) -> None:
 
 def main(words: Sequence[str]) -> int:
     """Measures, and prints."""
-    asked = parser("run", __doc__)
-    asked.add_argument("--rounds", type=int, default=20)
-    said = asked.parse_args(words)
+    said = parser("run", __doc__, rounds=20).parse_args(words)
     rrv = programs.build("rrv")
     print_guests(said.rounds, rrv)
     print_calls(said.rounds, rrv)

@@ -118,9 +118,7 @@ class Row:
 
 def main(words: Sequence[str]) -> int:
     """Measures, and prints."""
-    asked = parser("sessions", __doc__)
-    asked.add_argument("--rounds", type=int, default=5)
-    asked.add_argument("--millions", type=int, default=200)
+    asked = parser("sessions", __doc__, rounds=5, millions=200)
     asked.add_argument("guests", nargs="*", type=int, default=[1, 2, 4, 16], metavar="GUESTS")
     said = asked.parse_args(words)
     rates = build("rates")

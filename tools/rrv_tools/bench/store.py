@@ -84,18 +84,14 @@ def measure(rrv: list[str], file: pathlib.Path, rounds: int) -> list[str]:
 
 def main(words: Sequence[str]) -> int:
     """Measures, and prints."""
-    asked = parser("store", __doc__)
-    for name, number in (("megabytes", 1024), ("every", 250_000), ("quantum", 50_000), ("rounds", 3)):
-        asked.add_argument(f"--{name}", type=int, default=number)
-    asked.add_argument("--guest", type=pathlib.Path, default=GUEST)
-    asked.add_argument("--at", type=pathlib.Path)
-    said = asked.parse_args(words)
+    said = parser("store", __doc__, megabytes=1024, every=250_000, quantum=50_000, rounds=3, guest=None,
+                  at=None).parse_args(words)
     rrv = programs.build("rrv")
     with tempfile.TemporaryDirectory() as folder:
         file: pathlib.Path = said.at or pathlib.Path(folder, "store")
         run(*rrv, "new", file)
         options = ["--quantum", said.quantum, "--every", said.every]
-        record(file, said.megabytes, [*rrv, "record", *options, file, *[said.guest] * GUESTS])
+        record(file, said.megabytes, [*rrv, "record", *options, file, *[said.guest or GUEST] * GUESTS])
         failed = measure(rrv, file, said.rounds)
     print_machine()
     return print_failures(failed)
