@@ -51,22 +51,25 @@ class Reader:
 
 @dataclasses.dataclass
 class Item:
-    """What a record has beside its guest and index: its kind and its payload."""
+    """What a record has beside its guest and index: its kind and its payload. That of most kinds is its fields, in the
+    form that `struct` takes; and `printed` is the line that `dump` prints of them, without its number."""
 
     kind: ClassVar[int]
+    form: ClassVar[str] = "<"
+    printed: ClassVar[str]
 
     @classmethod
     def read(cls, data: Reader) -> Self:
         """Reads a payload of this kind."""
-        raise NotImplementedError
+        return cls(*struct.unpack(cls.form, data.take(struct.calcsize(cls.form))))
 
     def text(self) -> bytes:
         """The payload."""
-        raise NotImplementedError
+        return struct.pack(self.form, *dataclasses.astuple(self))
 
     def line(self) -> str:
         """The line that `dump` prints, without its number."""
-        raise NotImplementedError
+        return self.printed.format(**vars(self))
 
 
 @dataclasses.dataclass
@@ -104,17 +107,7 @@ class Preempt(Item):
     tid: int
     count: int
 
-    kind = 1
-
-    @classmethod
-    def read(cls, data: Reader) -> Self:
-        return cls(*data.words(2))
-
-    def text(self) -> bytes:
-        return struct.pack("<II", self.tid, self.count)
-
-    def line(self) -> str:
-        return f"preempt tid={self.tid} count={self.count}"
+    kind, form, printed = 1, "<II", "preempt tid={tid} count={count}"
 
 
 @dataclasses.dataclass
@@ -151,35 +144,14 @@ class Fault(Item):
     count: int
     fault: int
 
-    kind = 3
-
-    @classmethod
-    def read(cls, data: Reader) -> Self:
-        tid, count = data.words(2)
-        return cls(tid, count, data.byte())
-
-    def text(self) -> bytes:
-        return struct.pack("<IIB", self.tid, self.count, self.fault)
-
-    def line(self) -> str:
-        return f"fault tid={self.tid} count={self.count} kind={self.fault}"
+    kind, form, printed = 3, "<IIB", "fault tid={tid} count={count} kind={fault}"
 
 
 @dataclasses.dataclass
 class Stuck(Item):
     """The guest's end, since all its threads wait."""
 
-    kind = 4
-
-    @classmethod
-    def read(cls, data: Reader) -> Self:
-        return cls()
-
-    def text(self) -> bytes:
-        return b""
-
-    def line(self) -> str:
-        return "stuck"
+    kind, printed = 4, "stuck"
 
 
 @dataclasses.dataclass
@@ -188,7 +160,7 @@ class Expire(Item):
 
     tid: int
 
-    kind = 6
+    kind, printed = 6, f"expire tid={{tid}} result={TIMED_OUT:08x}"
 
     @classmethod
     def read(cls, data: Reader) -> Self:
@@ -198,9 +170,6 @@ class Expire(Item):
 
     def text(self) -> bytes:
         return struct.pack("<II", self.tid, TIMED_OUT)
-
-    def line(self) -> str:
-        return f"expire tid={self.tid} result={TIMED_OUT:08x}"
 
 
 @dataclasses.dataclass

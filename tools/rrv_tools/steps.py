@@ -1,10 +1,10 @@
 """Steps of scenes: files are written, cut and changed, lines are run over them, and what these print and leave is
 compared."""
-import dataclasses
 import fcntl
 import os
 import pathlib
-from collections.abc import Sequence
+from collections.abc import Callable, Sequence
+from typing import NamedTuple
 
 from rrv_tools import elf
 from rrv_tools.testing import Case, Text, bad_text, difference
@@ -13,148 +13,97 @@ from rrv_tools.testing import Case, Text, bad_text, difference
 UNREAD = b"not to be read\n"
 
 
-class Step:
-    """A step in the folder of a case."""
+class Step(NamedTuple):
+    """A step in the folder of a case: what it is, and what takes it, which fails the case if something is otherwise
+    than it is wanted."""
 
-    def take(self, case: Case) -> None:
-        """Takes it, and fails the case if something is otherwise than it is wanted."""
-        raise NotImplementedError
+    what: str
+    take: Callable[[Case], object]
 
 
-@dataclasses.dataclass(frozen=True)
-class Write(Step):
+# ---- files
+
+
+def write(name: str, data: bytes) -> Step:
     """A file is written."""
-
-    name: str
-    data: bytes
-
-    def take(self, case: Case) -> None:
-        pathlib.Path(self.name).write_bytes(self.data)
+    return Step(f"write {name}", lambda case: pathlib.Path(name).write_bytes(data))
 
 
-@dataclasses.dataclass(frozen=True)
-class Cut(Step):
+def cut(name: str, length: int) -> Step:
     """A file is cut to this many bytes."""
-
-    name: str
-    length: int
-
-    def take(self, case: Case) -> None:
-        os.truncate(self.name, self.length)
+    return Step(f"cut {name}", lambda case: os.truncate(name, length))
 
 
-@dataclasses.dataclass(frozen=True)
-class Change(Step):
+def change(name: str, place: int, byte: int) -> Step:
     """A byte of a file is changed."""
-
-    name: str
-    place: int
-    byte: int
-
-    def take(self, case: Case) -> None:
-        path = pathlib.Path(self.name)
-        path.write_bytes(elf.changed(path.read_bytes(), self.place, bytes([self.byte])))
+    path = pathlib.Path(name)
+    return Step(f"change {name}", lambda case: path.write_bytes(elf.changed(path.read_bytes(), place, bytes([byte]))))
 
 
-@dataclasses.dataclass(frozen=True)
-class Link(Step):
+def link(name: str, target: str) -> Step:
     """A file gets another name."""
-
-    name: str
-    target: str
-
-    def take(self, case: Case) -> None:
-        os.link(self.target, self.name)
+    return Step(f"link {name}", lambda case: os.link(target, name))
 
 
-@dataclasses.dataclass(frozen=True)
-class SymbolicLink(Step):
+def symbolic_link(name: str, target: str) -> Step:
     """A symbolic link leads to a file."""
-
-    name: str
-    target: str
-
-    def take(self, case: Case) -> None:
-        os.symlink(self.target, self.name)
+    return Step(f"symbolic link {name}", lambda case: os.symlink(target, name))
 
 
-@dataclasses.dataclass(frozen=True)
-class Lock(Step):
+def lock(name: str) -> Step:
     """A file, which is made if it isn't there, is locked until the case is over."""
+    def take(case: Case) -> None:
+        fcntl.flock(case.enterContext(open(name, "ab")), fcntl.LOCK_EX | fcntl.LOCK_NB)
 
-    name: str
-
-    def take(self, case: Case) -> None:
-        file = case.enterContext(open(self.name, "ab"))
-        fcntl.flock(file, fcntl.LOCK_EX | fcntl.LOCK_NB)
+    return Step(f"lock {name}", take)
 
 
-@dataclasses.dataclass(frozen=True)
-class Holds(Step):
+def found(what: str, name: str, wanted: object, find: Callable[[bytes], object]) -> Step:
+    """In the bytes of a file this is found."""
+    return Step(what, lambda case: case.need(what, wanted, find(pathlib.Path(name).read_bytes())))
+
+
+def holds(name: str, data: bytes) -> Step:
     """A file has these bytes."""
-
-    name: str
-    data: bytes
-
-    def take(self, case: Case) -> None:
-        case.need(f"what {self.name} holds", self.data, pathlib.Path(self.name).read_bytes())
+    return found(f"what {name} holds", name, data, lambda has: has)
 
 
-@dataclasses.dataclass(frozen=True)
-class Begins(Step):
+def begins(name: str, data: bytes) -> Step:
     """A file begins with these bytes."""
-
-    name: str
-    data: bytes
-
-    def take(self, case: Case) -> None:
-        case.need(f"how {self.name} begins", self.data, pathlib.Path(self.name).read_bytes()[: len(self.data)])
+    return found(f"how {name} begins", name, data, lambda has: has[: len(data)])
 
 
-@dataclasses.dataclass(frozen=True)
-class HoldsOnce(Step):
+def holds_once(name: str, part: bytes) -> Step:
     """A file has these bytes once, somewhere."""
-
-    name: str
-    part: bytes
-
-    def take(self, case: Case) -> None:
-        count = pathlib.Path(self.name).read_bytes().count(self.part)
-        case.need(f"how often {self.name} holds {self.part!r}", 1, count)
+    return found(f"how often {name} holds {part!r}", name, 1, lambda has: has.count(part))
 
 
-@dataclasses.dataclass(frozen=True)
-class Line(Step):
-    """A line, by its words with blanks between them, is run, and has this status, this output and these errors, of
-    which None leaves open what they are."""
-
-    words: str
-    status: int
-    out: Text | None
-    err: Text | None
-
-    def take(self, case: Case) -> None:
-        case.need_line(*self.words.split(), status=self.status, out=self.out, err=self.err, stdin=UNREAD)
+# ---- lines, by their words with blanks between them
 
 
-def done(words: str, out: Text = b"", err: Text = b"") -> Line:
+def line(words: str, status: int, out: Text | None, err: Text | None) -> Step:
+    """A line has this status, this output and these errors, of which None leaves open what they are."""
+    return Step(words, lambda case: case.need_line(*words.split(), status=status, out=out, err=err, stdin=UNREAD))
+
+
+def done(words: str, out: Text = b"", err: Text = b"") -> Step:
     """A line that is done."""
-    return Line(words, 0, out, err)
+    return line(words, 0, out, err)
 
 
-def refused(words: str, err: Text) -> Line:
+def refused(words: str, err: Text) -> Step:
     """A line that is refused, and prints nothing to its output."""
-    return Line(words, 1, b"", err)
+    return line(words, 1, b"", err)
 
 
-def bad(words: str, message: str, usage: str = "<COMMAND>") -> Line:
+def bad(words: str, message: str, usage: str = "<COMMAND>") -> Step:
     """A line that is none."""
-    return Line(words, 2, b"", bad_text(message, usage))
+    return line(words, 2, b"", bad_text(message, usage))
 
 
-def ends(words: str, status: int) -> Line:
+def ends(words: str, status: int) -> Step:
     """A line of which just the status is wanted."""
-    return Line(words, status, None, None)
+    return line(words, status, None, None)
 
 
 def play(case: Case, steps: Sequence[Step]) -> None:
@@ -167,7 +116,7 @@ def play(case: Case, steps: Sequence[Step]) -> None:
         except AssertionError as error:
             wrong.append(str(error))
         except (OSError, IndexError) as error:
-            wrong.append(difference(f"{step!r:.100}", "a step that can be taken", error))
+            wrong.append(difference(step.what, "a step that can be taken", error))
             break
     if wrong:
         raise case.failureException("\n".join(wrong))

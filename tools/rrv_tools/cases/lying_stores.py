@@ -32,7 +32,7 @@ from rrv_tools.records import (
     Rest, records_of,
 )  # fmt: skip
 from rrv_tools.riscv import A0, A2, addi, call, lui
-from rrv_tools.steps import Holds, Step, done, play, refused
+from rrv_tools.steps import Step, done, holds, play, refused
 from rrv_tools.store import MARK, mark_of, store_of
 from rrv_tools.testing import Case, rows
 
@@ -459,7 +459,7 @@ class Stores(Case):
         """Runs lines over a store of these bytes."""
         pathlib.Path("store").write_bytes(data)
         os.utime("store", (1_000_000_000, 1_000_000_000))
-        play(self, [*lines, Holds("store", data)])
+        play(self, [*lines, holds("store", data)])
         self.need("the time of change", 1_000_000_000, os.stat("store").st_mtime)
 
     def try_refused(self, data: bytes, refusal: str) -> None:

@@ -6,12 +6,6 @@ docs/FORMATS.md.
 Each scene is a case. Of a line the status, the output and the errors are wanted; of some bad lines, whose text is the
 parser's, only the status. Standard input has bytes that no line may read. In some scenes stores are marked, by
 recordings and by hand, and guests wait for a time: what these leave, and which copies are refused.
-
-Stores are new, damaged and locked. There are bad lines, files that are no programs, and files with several faults, of
-which the right one has to be reported. Guests are listed, dumped, verified and replayed, also 16 at once and by records
-that are written by hand, with their input, seeds and clocks, and with the states at places. Copies are compared byte
-for byte, also those to stores that are not marked, and each refusal of a copy comes up. `ask` refuses a guest that is
-no recording.
 """
 from collections.abc import Mapping, Sequence
 
@@ -28,7 +22,7 @@ from rrv_tools.records import (
 )  # fmt: skip
 from rrv_tools.riscv import A0, A1, A2, S0, SP, X5, ZERO, addi, call, counted_down, lui, lw, srli, sw
 from rrv_tools.steps import (
-    Begins, Change, Cut, Holds, HoldsOnce, Line, Link, Lock, Step, SymbolicLink, Write, bad, done, ends, play, refused,
+    Step, bad, begins, change, cut, done, ends, holds, holds_once, line, link, lock, play, refused, symbolic_link, write,
 )  # fmt: skip
 from rrv_tools.store import EMPTY, MARK, MARK_ADDS, segment, store_of
 from rrv_tools.testing import Case, rows
@@ -87,7 +81,7 @@ def scene(name: str, *steps: Step) -> None:
 
 def in_store(name: str, files: Mapping[str, bytes], *steps: Step) -> None:
     """Adds a scene that begins with these files and a new store `s`."""
-    scene(name, *(Write(*it) for it in files.items()), done("new s"), *steps)
+    scene(name, *(write(*it) for it in files.items()), done("new s"), *steps)
 
 
 def recorded(name: str, known: Known, *steps: Step) -> None:
@@ -125,29 +119,29 @@ SIXTEEN = b"RRVTRC1\n\0\0\0\0\0\0\0\0"
 scene(
     "a new store is empty",
     done("new s"),
-    Holds("s", EMPTY),
+    holds("s", EMPTY),
     done("list s"),
-    Holds("s", EMPTY),
+    holds("s", EMPTY),
     refused("new s", CANNOT_OPEN),
     refused("verify s 0", NO_GUEST),
-    Holds("s", EMPTY),
+    holds("s", EMPTY),
 )
 scene(
     "new leaves other files alone",
-    Write("text", b"a text"),
+    write("text", b"a text"),
     refused("new text", CANNOT_OPEN),
-    Holds("text", b"a text"),
+    holds("text", b"a text"),
     refused("new .", CANNOT_OPEN),
     refused("new missing/s", CANNOT_OPEN),
 )
 scene(
     "files that are no stores are refused",
-    Write("sixteen", SIXTEEN),
+    write("sixteen", SIXTEEN),
     refused("list sixteen", NOT_A_STORE),
-    Holds("sixteen", SIXTEEN),
-    Write("zeros", bytes(17)),
+    holds("sixteen", SIXTEEN),
+    write("zeros", bytes(17)),
     refused("dump zeros 0", NOT_A_STORE),
-    Write("none", b""),
+    write("none", b""),
     refused("verify none 0", NOT_A_STORE),
     refused("list missing", CANNOT_OPEN),
     refused("list .", CANNOT_OPEN),
@@ -155,38 +149,38 @@ scene(
 recorded(
     "a store that is cut is damaged",
     FIVE,
-    Cut("s", 100),
+    cut("s", 100),
     *(refused(it, DAMAGED) for it in ("list s", "dump s 0", "verify s 0", "replay s 0", "back s 0 3 1")),
     *(refused(it, DAMAGED) for it in ("last s 0 3 0", "record s f", "ask s 0", "elf s 0", "copy s 0 s")),
-    Cut("s", 17),
+    cut("s", 17),
     refused("list s", DAMAGED),
-    Cut("s", 16),
+    cut("s", 16),
     refused("list s", NOT_A_STORE),
 )
 recorded(
     "a store with another byte is refused",
     FIVE,
-    Change("s", 57, 1),
+    change("s", 57, 1),
     refused("list s", DAMAGED),
-    Change("s", 57, 0),
+    change("s", 57, 0),
     done("list s", FIVE_LISTED),
-    Change("s", 8, 1),
+    change("s", 8, 1),
     refused("list s", NOT_A_STORE),
 )
 recorded(
     "a store is repaired where it is opened",
     FIVE,
     # The first gate, which was open.
-    Change("s", 16, 0x37),
+    change("s", 16, 0x37),
     done("list s"),
-    Holds("s", EMPTY),
+    holds("s", EMPTY),
     done("record s f", b"", b"g0: end exited 5, records 2\n"),
     done("list s", FIVE_LISTED),
 )
 # It is looked at, and has no bytes yet.
 scene(
     "a store of another program is left alone",
-    Lock("s"),
+    lock("s"),
     refused("record s f", CANNOT_OPEN),
     refused("list s", NOT_A_STORE),
 )
@@ -268,7 +262,7 @@ in_store(
     ),
     done("verify s 0", b"ok records=7 instructions=256 end none\n"),
     # A record's head, and how its payload of 158 bytes begins: the flag and the number of pages.
-    HoldsOnce("s", bytes.fromhex("00000000 03000000 05 9e000000 01 00000000")),
+    holds_once("s", bytes.fromhex("00000000 03000000 05 9e000000 01 00000000")),
 )
 in_store(
     "no checkpoint follows the end",
@@ -283,7 +277,7 @@ in_store(
     done("record --choices choices_2 --then none --every 8 s F", HI.out, b"g0: end exited 0, records 4\n"),
     # The payload has 235 bytes: after its number of pages stand the number of a page, its permissions, its mask and
     # its line.
-    HoldsOnce(
+    holds_once(
         "s",
         bytes.fromhex("00000000 02000000 05 eb000000 01 01000000 ffff0700 06 0000000000000040") + bytes(16) + b"hi\n\0",
     ),
@@ -333,13 +327,13 @@ def five_line(guest: int) -> bytes:
 ROUNDS = [Opening(guests.SPIN, b"round", bytes(16)), *[Preempt(1, 64)] * 100]
 scene(
     "a guest is copied",
-    Write("s", five_in(0, 1)),
-    Write("t", EMPTY),
+    write("s", five_in(0, 1)),
+    write("t", EMPTY),
     done("copy s 1 t", five_line(0)),
-    Holds("t", five_in(0)),
+    holds("t", five_in(0)),
     done("copy s 0 t", five_line(1)),
-    Holds("t", five_in(0, 1)),
-    Holds("s", five_in(0, 1)),
+    holds("t", five_in(0, 1)),
+    holds("s", five_in(0, 1)),
     done("copy t 1 s", five_line(2)),
     done("verify s 2", FIVE_VERIFIED),
     done("dump s 2", FIVE_DUMPED),
@@ -347,10 +341,10 @@ scene(
 )
 scene(
     "as many records as may be stand in each body of a copy",
-    Write("s", store_of(bodies_of(records_of(3, ROUNDS), 7))),
-    Write("t", five_in(8)),
+    write("s", store_of(bodies_of(records_of(3, ROUNDS), 7))),
+    write("t", five_in(8)),
     done("copy s 3 t", b"9 round records=101 frames=100 instructions=6400\n"),
-    Holds(
+    holds(
         "t", store_of(bodies_of(records_of(8, FIVE_ITEMS)) + bodies_of(records_of(9, ROUNDS)))
     ),
     done("verify t 9", b"ok records=101 instructions=6400 end none\n"),
@@ -359,24 +353,24 @@ scene(
 TORN = five_in(0)[:-1] + b"\x37torn"
 scene(
     "a store from which a guest is copied is only read, and the other is mended",
-    Write("s", TORN),
-    Write("t", TORN),
+    write("s", TORN),
+    write("t", TORN),
     done("copy s 0 t", five_line(1)),
-    Holds("s", TORN),
-    Holds("t", five_in(0, 1)),
-    Lock("s"),
+    holds("s", TORN),
+    holds("t", five_in(0, 1)),
+    lock("s"),
     done("copy s 0 t", five_line(2)),
-    Holds("s", TORN),
-    Holds("t", five_in(0, 1, 2)),
+    holds("s", TORN),
+    holds("t", five_in(0, 1, 2)),
 )
 scene(
     "copies are refused by name, and change nothing",
-    Write("s", five_in(0)),
-    Write("t", five_in(0)),
-    Write("text", b"a text"),
-    Write("cut", five_in(0)[:100]),
-    Link("other", "s"),
-    SymbolicLink("symbolic", "other"),
+    write("s", five_in(0)),
+    write("t", five_in(0)),
+    write("text", b"a text"),
+    write("cut", five_in(0)[:100]),
+    link("other", "s"),
+    symbolic_link("symbolic", "other"),
     *(refused(f"copy s 0 {it}", SAME_STORE) for it in ("s", "./s", "other", "symbolic")),
     refused("copy symbolic 0 s", SAME_STORE),
     refused("copy s 1 s", NO_GUEST),
@@ -390,31 +384,31 @@ scene(
     refused("copy missing 0 t", CANNOT_OPEN),
     refused("copy . 0 t", CANNOT_OPEN),
     refused("copy text 0 t", NOT_A_STORE),
-    Holds("s", five_in(0)),
-    Holds("text", b"a text"),
-    Holds("cut", five_in(0)[:100]),
-    Lock("t"),
+    holds("s", five_in(0)),
+    holds("text", b"a text"),
+    holds("cut", five_in(0)[:100]),
+    lock("t"),
     refused("copy s 0 t", CANNOT_OPEN),
-    Holds("t", five_in(0)),
+    holds("t", five_in(0)),
     refused("copy t 0 u", CANNOT_OPEN),
     bad("copy s 0", "the following required arguments were not provided:\n  <TO>", "copy <STORE> <GUEST> <TO>"),
 )
 scene(
     "the numbers of guests come to an end",
-    Write("s", five_in(0)),
-    Write("t", five_in(4_294_967_293)),
+    write("s", five_in(0)),
+    write("t", five_in(4_294_967_293)),
     done("copy s 0 t", five_line(4_294_967_294)),
-    Holds("t", five_in(4_294_967_293, 4_294_967_294)),
+    holds("t", five_in(4_294_967_293, 4_294_967_294)),
     refused("copy s 0 t", TOO_MANY_GUESTS),
-    Holds("t", five_in(4_294_967_293, 4_294_967_294)),
+    holds("t", five_in(4_294_967_293, 4_294_967_294)),
     done("copy t 4294967294 s", five_line(1)),
 )
 # A record that doesn't follow, and so a guest that verify refuses.
 LYING = [Opening(FIVE.file, b"g0", bytes(16)), Call(1, 4, 0, [])]
 scene(
     "a guest that isn't a recording is copied as it is, and not asked about",
-    Write("s", store_of(bodies_of(records_of(0, LYING)))),
-    Write("t", EMPTY),
+    write("s", store_of(bodies_of(records_of(0, LYING)))),
+    write("t", EMPTY),
     refused("verify s 0", b"rrv: record 1 does not replay\n"),
     refused("ask s 0", b"rrv: record 1 does not replay\n"),
     done("copy s 0 t", b"0 g0 records=2 frames=1 instructions=4\n"),
@@ -477,7 +471,7 @@ READ_DUMPED = b"0 opening name=g%d elf=300\n" + READ_DUMPED + b"11 call tid=1 co
 in_store(
     "each guest reads the input from its start",
     {"R": reader(5), "digits": b"0123456789"},
-    Line("record --input digits s R R", 0, None, b"g0: end exited 0, records 12\ng1: end exited 0, records 12\n"),
+    line("record --input digits s R R", 0, None, b"g0: end exited 0, records 12\ng1: end exited 0, records 12\n"),
     *(done(f"replay s {it}", b"0123456789") for it in range(2)),
     *(done(f"dump s {it}", READ_DUMPED % it) for it in range(2)),
 )
@@ -550,17 +544,17 @@ A_TEXT = b"This is a text and no program, though it has more than the 52 bytes o
 scene(
     "bad files are refused by name",
     done("new s"),
-    Write("f", b""),
+    write("f", b""),
     refused("record s f", b"rrv: guest 0: elf refusal 1\n"),
-    Write("f", A_TEXT),
+    write("f", A_TEXT),
     refused("record s f", b"rrv: guest 0: elf refusal 2\n"),
-    Write("f", FIVE.file[:51]),
+    write("f", FIVE.file[:51]),
     refused("record s f", b"rrv: guest 0: elf refusal 1\n"),
-    Write("f", FIVE.file[:83]),
+    write("f", FIVE.file[:83]),
     refused("record s f", b"rrv: guest 0: elf refusal 8\n"),
-    Write("f", FIVE.file[:95]),
+    write("f", FIVE.file[:95]),
     refused("record s f", b"rrv: guest 0: elf refusal 10\n"),
-    Write("f", COMPRESSED),
+    write("f", COMPRESSED),
     refused("record s f", b"rrv: guest 0: elf refusal 7\n"),
     refused("record s missing", CANNOT_READ),
     refused("record s .", CANNOT_READ),
@@ -568,8 +562,8 @@ scene(
 )
 scene(
     "faults of a recording come in their order",
-    Write("E", FIVE.file),
-    Write("bad", COMPRESSED),
+    write("E", FIVE.file),
+    write("bad", COMPRESSED),
     ends("record --quantum 1 --seed 0 missing missing", 2),
     refused("record --seed 0 --input missing missing missing", b"rrv: bad seed\n"),
     refused("record --seed 0000000000000000000000000000000g missing E", b"rrv: bad seed\n"),
@@ -580,7 +574,7 @@ scene(
     refused("record s E bad missing", b"rrv: guest 1: elf refusal 7\n"),
     refused("record s E missing bad", CANNOT_READ),
     refused("record s bad E bad", b"rrv: guest 0: elf refusal 7\n"),
-    Holds("s", EMPTY),
+    holds("s", EMPTY),
 )
 recorded(
     "faults of a replay come in their order",
@@ -602,7 +596,7 @@ OF_0: list[Item] = [
 MADE = [*records_of(0, OF_0), *records_of(1, [BY_HAND, Fault(1, 1, 2)])]
 scene(
     "dump prints the lines of records",
-    Write("s", store_of(bodies_of(MADE))),
+    write("s", store_of(bodies_of(MADE))),
     done(
         "dump s 0",
         b"0 opening name=g0 elf=96\n1 preempt tid=1 count=1\n2 call tid=3 count=9 result=ffffffea written=20\n"
@@ -650,16 +644,16 @@ def timed_bodies(guest: int) -> list[bytes]:
 
 scene(
     "guests wait for a time once their store is marked",
-    Write("s", five_in(0)),
-    Write("timed", TIMED),
-    Write("f", FIVE.file),
+    write("s", five_in(0)),
+    write("timed", TIMED),
+    write("f", FIVE.file),
     done("record s timed", b"", UNTIMED_REPORT),
     done("record --upgrade s timed", b"", TIMED_REPORT),
-    HoldsOnce("s", MARK),
+    holds_once("s", MARK),
     done("record s timed", b"", TIMED_REPORT),
     done("record s timed --upgrade", b"", TIMED_REPORT),
-    HoldsOnce("s", MARK),
-    Begins("s", five_in(0)[:-1]),
+    holds_once("s", MARK),
+    begins("s", five_in(0)[:-1]),
     done("record s f", FIVE.out, FIVE.report),
     done("list s", five_line(0) + UNTIMED_LINE + b"".join(map(timed_line, (2, 3, 4))) + five_line(5)),
     *(done(f"verify s {it}", FIVE_VERIFIED) for it in (0, 5)),
@@ -681,69 +675,69 @@ in_store(
     ),
     done("verify s 0", b"ok records=5 instructions=12 end exited 146\n"),
     # It waits at 7FFFFF80 for no second and 5,000,000 nanoseconds, and has no clear address.
-    HoldsOnce("s", bytes.fromhex("02 80ffff7f 0000000000000000 404b4c00 00000000")),
+    holds_once("s", bytes.fromhex("02 80ffff7f 0000000000000000 404b4c00 00000000")),
     done("record s without", b"", b"g0: end stuck, records 3\nthread 1 waits at 7fffff80\n"),
     done("verify s 1", b"ok records=3 instructions=10 end stuck\n"),
 )
 scene(
     "a store is marked before another file is read",
-    Write("s", five_in(0)),
+    write("s", five_in(0)),
     refused("record --upgrade s nothere", CANNOT_READ),
-    Holds("s", FIVE_MARKED),
+    holds("s", FIVE_MARKED),
     refused("record s nothere --upgrade", CANNOT_READ),
-    Holds("s", FIVE_MARKED),
+    holds("s", FIVE_MARKED),
     done("list s", five_line(0)),
     done("dump s 0", FIVE_DUMPED),
     done("verify s 0", FIVE_VERIFIED),
-    Write("t", EMPTY),
-    Write("bad", COMPRESSED),
+    write("t", EMPTY),
+    write("bad", COMPRESSED),
     refused("record --upgrade --seed 0 t nothere", b"rrv: bad seed\n"),
     ends("record --upgrade --quantum 1 t nothere", 2),
     refused("record --upgrade missing nothere", CANNOT_OPEN),
     refused("record bad nothere --upgrade", NOT_A_STORE),
-    Holds("t", EMPTY),
+    holds("t", EMPTY),
     refused("record --upgrade t bad", b"rrv: guest 0: elf refusal 7\n"),
-    Holds("t", store_of([MARK])),
+    holds("t", store_of([MARK])),
     refused("record --upgrade --input nothere t bad", CANNOT_READ),
-    Holds("t", store_of([MARK])),
+    holds("t", store_of([MARK])),
     done("list t"),
     refused("verify t 0", NO_GUEST),
-    Write("u", EMPTY),
-    Lock("u"),
+    write("u", EMPTY),
+    lock("u"),
     refused("record --upgrade u nothere", CANNOT_OPEN),
-    Holds("u", EMPTY),
+    holds("u", EMPTY),
 )
 scene(
     "a Mark after a torn gate is none",
-    Write("s", TORN),
+    write("s", TORN),
     refused("record --upgrade s nothere", CANNOT_READ),
-    Holds("s", FIVE_MARKED),
-    Write("s", five_in(0)[:-1] + b"\x37" + segment(len(FIVE_BODIES), MARK)),
-    Write("timed", TIMED),
+    holds("s", FIVE_MARKED),
+    write("s", five_in(0)[:-1] + b"\x37" + segment(len(FIVE_BODIES), MARK)),
+    write("timed", TIMED),
     done("list s", five_line(0)),
-    Holds("s", five_in(0)),
+    holds("s", five_in(0)),
     done("record s timed", b"", UNTIMED_REPORT),
     done("record --upgrade s timed", b"", TIMED_REPORT),
     done("list s", five_line(0) + UNTIMED_LINE + timed_line(2)),
 )
 scene(
     "a guest that may wait for a time is copied to marked stores alone",
-    Write("s", store_of([*FIVE_BODIES, MARK, *timed_bodies(1)])),
-    Write("t", five_in(0)),
+    write("s", store_of([*FIVE_BODIES, MARK, *timed_bodies(1)])),
+    write("t", five_in(0)),
     done("verify s 1", TIMED_VERIFIED),
     refused("copy s 1 t", NEEDS_MARK),
-    Holds("t", five_in(0)),
+    holds("t", five_in(0)),
     refused("record --upgrade t nothere", CANNOT_READ),
     done("copy s 1 t", timed_line(1)),
-    Holds("t", store_of([*FIVE_BODIES, MARK, *timed_bodies(1)])),
+    holds("t", store_of([*FIVE_BODIES, MARK, *timed_bodies(1)])),
     done("verify t 1", TIMED_VERIFIED),
     done("dump t 1", TIMED_DUMPED),
     # A guest of version 1 is copied from a marked store to any.
-    Write("u", EMPTY),
+    write("u", EMPTY),
     done("copy s 0 u", five_line(0)),
-    Holds("u", five_in(0)),
+    holds("u", five_in(0)),
     refused("copy s 1 u", NEEDS_MARK),
-    Holds("u", five_in(0)),
+    holds("u", five_in(0)),
 )
 
 
