@@ -25,6 +25,7 @@ import unittest
 from collections.abc import Callable, Iterable, Iterator, Mapping
 from typing import Any, ClassVar, TypeVar
 
+from rrv_tools import preload
 from rrv_tools import program as programs
 from rrv_tools.program import Limits, Program, Result, Word
 
@@ -37,6 +38,7 @@ Text = bytes | str
 # Rows by their names.
 Table = Mapping[str, Any] | Iterable[tuple[str, Any]]
 Class = TypeVar("Class", bound=type[unittest.TestCase])
+Made = TypeVar("Made")
 
 
 @dataclasses.dataclass(frozen=True)
@@ -72,6 +74,8 @@ class Case(unittest.TestCase):
     is_alone: ClassVar[bool] = False
     # Programs without which it is left out.
     needs: ClassVar[tuple[str, ...]] = ()
+    # The library that lines may run over, `preloaded` or `refusing` (preload), without which it is left out too.
+    library: ClassVar[str] = ""
     # Whether all cases of the class run in one folder, which `setUpClass` of the class fills.
     shares_folder: ClassVar[bool] = False
     maxDiff = None
@@ -80,6 +84,9 @@ class Case(unittest.TestCase):
 
     program: ClassVar[Program]
     class_folder: ClassVar[pathlib.Path]
+    shared: ClassVar[pathlib.Path]
+    # What cases of the class made for all of them.
+    kept: ClassVar[dict[Any, Any]]
     folder: pathlib.Path
 
     @classmethod
@@ -88,11 +95,13 @@ class Case(unittest.TestCase):
         missing = [it for it in cls.needs if shutil.which(it) is None]
         if missing:
             raise unittest.SkipTest(f"{' and '.join(missing)} is not installed")
-        cls.program = programs.needed()
+        cls.program, cls.kept = programs.needed(), {}
         cls.class_folder = pathlib.Path(cls.enterClassContext(tempfile.TemporaryDirectory(prefix="rrv-")))
         # Some lines are run by another user, who has to reach the files.
         cls.class_folder.chmod(0o755)
         cls.enterClassContext(contextlib.chdir(cls.class_folder))
+        if cls.library:
+            cls.shared = preload.needed(cls.class_folder, cls.library)
 
     def setUp(self) -> None:
         super().setUp()
@@ -101,6 +110,13 @@ class Case(unittest.TestCase):
             self.folder = pathlib.Path(self.enterContext(tempfile.TemporaryDirectory(dir=self.class_folder)))
             self.folder.chmod(0o755)
             self.enterContext(contextlib.chdir(self.folder))
+
+    def once(self, make: Callable[..., Made], *of: Any) -> Made:
+        """What `make` returns of these, for which it is called once in the class."""
+        if (make, of) not in self.kept:
+            self.kept[make, of] = make(*of)
+        made: Made = self.kept[make, of]
+        return made
 
     def run_line(self, *words: Word, stdin: bytes = b"", limits: Limits = programs.NO_LIMITS,
                  timeout: float = programs.PATIENCE) -> Result:

@@ -20,7 +20,7 @@ import pathlib
 import random
 import re
 from collections.abc import Iterator, Sequence
-from typing import ClassVar, NamedTuple
+from typing import NamedTuple
 
 from rrv_tools import by_hand, printed
 from rrv_tools.cases.random_guests import AT_ONCE, recorded, written
@@ -166,8 +166,10 @@ class Asked:
 class Session:
     """The lines that are asked about a guest, and what was printed of each, which a line of a point ends."""
 
-    def __init__(self, asked: Asked, draw: random.Random) -> None:
-        self.asked, self.lines = asked, [*asked.lines(draw)]
+    def __init__(self, program: Program, batch: Batch, guest: int) -> None:
+        draw = batch.draw(guest)
+        self.asked = asked = Asked(program, f"{batch.number}.store", guest)
+        self.lines = [*asked.lines(draw)]
         self.quits = draw.random() < 0.5
         text = "".join(f"{it}\n" for it in self.lines) + "quit\nat 0\n" * self.quits
         stdin = text.encode("utf-8", "surrogateescape")
@@ -192,27 +194,11 @@ class Looked(Case):
     """Sessions, each of which is made once for all looks at it."""
 
     shares_folder = True
-    sessions: ClassVar[dict[tuple[Batch, int], Session]]
-    batches: ClassVar[set[Batch]]
-
-    @classmethod
-    def setUpClass(cls) -> None:
-        super().setUpClass()
-        cls.sessions, cls.batches = {}, set()
-
-    def session(self, batch: Batch, guest: int) -> Session:
-        """The session about a guest."""
-        if batch not in self.batches:
-            batch.record(self.program)
-            self.batches.add(batch)
-        if (batch, guest) not in self.sessions:
-            asked = Asked(self.program, f"{batch.number}.store", guest)
-            self.sessions[batch, guest] = Session(asked, batch.draw(guest))
-        return self.sessions[batch, guest]
 
     def look(self, look: Look) -> None:
         """Compares a question, or the end."""
-        of = self.session(look.batch, look.guest)
+        self.once(look.batch.record, self.program)
+        of = self.once(Session, self.program, look.batch, look.guest)
         if look.question is None:
             count = len(of.lines) + of.quits
             wanted = 0, b"", "", count, [""] * of.quits

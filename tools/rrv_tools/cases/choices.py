@@ -1,18 +1,14 @@
 """Guests that are recorded again by the choices that are printed of them.
 
 Expected values: the records of the guest, from which its choices follow by docs/FORMATS.md.
-
-Each guest of tools/guests is recorded with some quanta and checkpoints. The choices that are printed of it have to be
-those that its records have. Recorded by these choices, with nothing after them, it has to end as before, with the same
-output and the same records. So it has to if the first of the choices are followed by turns of the same quantum. And if
-nothing follows the first of them, it has to have the records up to there, the output so far and no end.
 """
 import pathlib
 from collections.abc import Callable
-from typing import ClassVar, NamedTuple
+from typing import NamedTuple
 
 from rrv_tools import printed
 from rrv_tools.guests import path_of
+from rrv_tools.program import Program
 from rrv_tools.testing import Case, add_rows
 
 # Instructions of a slice, and between two checkpoints.
@@ -42,8 +38,8 @@ def part_of(records: list[str], count: int) -> list[str]:
 class Recorder:
     """Records a guest into one store, again and again."""
 
-    def __init__(self, case: Case, guest: str, quantum: int, every: int) -> None:
-        self.program, self.count, self.guest = case.program, 0, path_of(guest)
+    def __init__(self, program: Program, guest: str, quantum: int, every: int) -> None:
+        self.program, self.count, self.guest = program, 0, path_of(guest)
         self.store = f"{guest}.{quantum}"
         self.options = ["--quantum", str(quantum), "--every", str(every)]
         self.program.run_well("new", self.store)
@@ -70,21 +66,7 @@ class Recorder:
 class Choices(Case):
     """Recordings by choices. A guest is recorded once for all cases of it."""
 
-    seconds = 20
-    shares_folder = True
-    recorders: ClassVar[dict[str, Recorder]]
-
-    @classmethod
-    def setUpClass(cls) -> None:
-        super().setUpClass()
-        cls.recorders = {}
-
-    def of(self, guest: str, quantum: int, every: int) -> Recorder:
-        """The recorder of a guest."""
-        name = f"{guest}.{quantum}"
-        if name not in self.recorders:
-            self.recorders[name] = Recorder(self, guest, quantum, every)
-        return self.recorders[name]
+    seconds, shares_folder = 20, True
 
     def need_choices(self, of: Recorder) -> None:
         """The choices that are printed are those of the records."""
@@ -126,4 +108,4 @@ for share_and_name in SHARES.items():
     add_looks(*share_and_name)
 ROWS = {f"{guest} by {recording[0]} {look}": (guest, recording, look)
         for guest in printed.NAMES for recording in RECORDINGS for look in LOOKS}
-add_rows(Choices, ROWS, lambda case, row: LOOKS[row[2]](case, case.of(row[0], *row[1])))
+add_rows(Choices, ROWS, lambda case, row: LOOKS[row[2]](case, case.once(Recorder, case.program, row[0], *row[1])))

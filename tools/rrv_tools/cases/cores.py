@@ -2,22 +2,16 @@
 
 Expected values: the states that `replay --at` prints. The core files are read by `tools/run core_file`, which is in
 Python, and by gdb-multiarch.
-
-Of each guest of tools/guests, and of one with symbols, core files are written at some places. What `core_file` reads of
-each has to be the threads, the registers and the digest of all pages that `replay --at` prints there, and the first
-thread that whose instruction comes next by the records, or at the end that of the last one. gdb-multiarch has to show
-the same threads in that order, with their program counters, stack pointers and first arguments.
 """
 import pathlib
 import re
 import subprocess
 from collections.abc import Callable, Sequence
-from typing import ClassVar
 
 from rrv_tools import core_file, printed
 from rrv_tools.guests import path_of
 from rrv_tools.printed import Frame
-from rrv_tools.program import ROOT
+from rrv_tools.program import ROOT, Program
 from rrv_tools.riscv import A0, SP
 from rrv_tools.testing import Case, add_rows
 
@@ -38,24 +32,21 @@ PLACES: dict[str, Callable[[Sequence[int]], int]] = {
 }  # fmt: skip
 
 
+def recorded(program: Program, guest: str) -> list[Frame]:
+    """Records a guest, and returns its frames."""
+    program.run_well("new", guest)
+    program.run_well("record", "--quantum", 1000, guest, GUESTS[guest])
+    return printed.frames_in(printed.text_of(program, "dump", guest, 0))
+
+
 class Looked(Case):
     """Recordings of guests, each made once for all cases of it."""
 
     shares_folder = True
-    frames: ClassVar[dict[str, list[Frame]]]
-
-    @classmethod
-    def setUpClass(cls) -> None:
-        super().setUpClass()
-        cls.frames = {}
 
     def core_at(self, guest: str, name: str) -> tuple[str, int, pathlib.Path]:
         """The state at a place of a guest, the thread that comes first, and a core file of it."""
-        if guest not in self.frames:
-            self.program.run_well("new", guest)
-            self.program.run_well("record", "--quantum", 1000, guest, GUESTS[guest])
-            self.frames[guest] = printed.frames_in(printed.text_of(self.program, "dump", guest, 0))
-        frames = self.frames[guest]
+        frames = self.once(recorded, self.program, guest)
         ends = printed.ends_of(frames)
         place = min(PLACES[name](ends), ends[-1])
         core = self.folder / f"{guest}.{name}"

@@ -107,21 +107,10 @@ def need_quiet(call: Moment, after: Sequence[Moment]) -> None:
         raise Wrong(f"after the {call.call} these came: {loud}")
 
 
-class Library(Case):
-    """Cases that run the program over the library."""
-
-    shared: ClassVar[pathlib.Path]
-
-    @classmethod
-    def setUpClass(cls) -> None:
-        super().setUpClass()
-        cls.shared = preload.needed(cls.class_folder)
-
-
-class Recordings(Library):
+class Recordings(Case):
     """Recordings of guests, of which one call fails."""
 
-    shares_folder = True
+    library, shares_folder = "preloaded", True
     guests: ClassVar[list[Printer]]
     quantum: ClassVar[int]
     # How many calls of each kind have to fail at least, and how many bytes have to be printed before.
@@ -260,10 +249,10 @@ LOCKED = {"new that cannot lock its file": failing(errno.EWOULDBLOCK), "new that
 @rows(LINES, "look_at_line")
 @rows(REFUSED, "look_at_refused")
 @rows({f"{name} after another program wrote to it": how for name, how in LOCKED.items()}, "look_at_kept")
-class Syncs(Library):
+class Syncs(Case):
     """The syncs of a line, which are failed in turn."""
 
-    seconds = 2
+    seconds, library = 2, "preloaded"
 
     def run_over(self, line: Line, options: Options) -> Ran:
         """Runs a line in a new folder."""

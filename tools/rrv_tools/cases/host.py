@@ -2,24 +2,6 @@
 
 Expected values: the guests' instructions, from which it follows what they print, their clocks and their sleep; of lines
 docs/FORMATS.md and docs/GUEST.md.
-
-A line whose stream is closed has the status of one that takes nothing, and its store has, byte for byte, what it had
-before, with what was committed since after it. Output that takes parts of writes gets all of it. A refusal, and help,
-leave in one write. After the reader of a pipe went away, lines end without a word. A refusal's status is the same if
-nobody reads errors. A stream that doesn't wait, and a pipe that was full for a while, get all output.
-
-A recording whose stream fails ends with `device failed`. No store, and no core file, has a byte of what was printed. If
-output takes n bytes of a write, or n in all, just these are printed. A copy whose line finds no stream has all records.
-Beside a guest whose output is full just the others that ended are reported, by their numbers and with the place of a
-fault, and still so if one of them can't be read again. `ask` prints the answer of each line before the next line is
-written, and ends without a text once nobody reads its answers.
-
-Each read of a program's file that fails is reported, also after some bytes. Each of sixteen guests at once is the
-program at its place. A new store that may open too few files leaves none.
-
-The monotonic clock begins near 0 and goes on. The real clock is not cut past 2^31 and 2^32 seconds. A guest that sleeps
-for two seconds takes less than 30 milliseconds of processor time, at one of three tries, and what it printed before
-leaves before it wakes.
 """
 import errno
 import itertools
@@ -30,7 +12,7 @@ import subprocess
 import time
 import unittest
 from collections.abc import Callable, Mapping, Sequence
-from typing import IO, Any, ClassVar
+from typing import IO, Any
 
 from rrv_tools import elf, guests, preload, store
 from rrv_tools.guests import CLOCK, EXIT, Printer, exits, timed_wait, writes
@@ -396,12 +378,7 @@ class Sleeps(Host):
 class Preloaded(Host):
     """The program runs over that library."""
 
-    shared: ClassVar[pathlib.Path]
-
-    @classmethod
-    def setUpClass(cls) -> None:
-        super().setUpClass()
-        cls.shared = preload.needed(cls.class_folder)
+    library = "preloaded"
 
     def run_over(self, *words: str, options: Mapping[str, object] | None = None,
                  **how: Any) -> tuple[Result, list[preload.Moment]]:

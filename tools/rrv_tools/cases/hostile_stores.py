@@ -8,10 +8,6 @@ The stores have records that are allowed, in an order or of a size that the prog
 what is there, and `verify` of the first guest how it ends or what is refused, in at most 40 milliseconds of processor
 time a megabyte and 100 megabytes of memory. Other work may slow this down, so a case fails only at three times that
 time. Of parts of a checkpoint, and of the most records, just the time of `verify` is compared: it takes more memory.
-
-The stores have 100,000 guests in rising, falling and shuffled order, and bodies of up to 8 MiB of the largest and the
-smallest records. They are of 3.5 to 101 megabytes. So a case fails past 120 milliseconds of processor time a megabyte,
-or past 100 megabytes of memory.
 """
 import contextlib
 import itertools

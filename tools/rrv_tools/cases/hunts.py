@@ -1,10 +1,6 @@
 """The faults of the programs of examples/hunt, as `hunt` finds them, and recordings by what it found.
 
 Expected values: the table of examples/hunt/README.md, which has the end of each fault and how many switches it takes.
-
-Each hunt has a fixed seed and a fixed number of lists. It has to find a list, shorten it to as many switches at most as
-the table of examples/hunt/README.md has, and print it with the end that stands there. Recorded by the printed list the
-guest has to end so again, and its recording has to verify.
 """
 import pathlib
 import re

@@ -2,15 +2,6 @@
 
 Expected values: the words of the line, the instructions of its guests, and docs/FORMATS.md; of headers the System V
 ABI; of the guests of tools/guests the files beside them, which qemu-riscv32 or a restatement in Python gave.
-
-Of the guests of tools/guests the output is what they have there, as they are recorded and again as they are replayed,
-and so are the records and the end.
-
-A C program, and four threads under a futex lock, print what they print under qemu. The records of a race are those that
-a restatement in Python has.
-
-`check` refuses a file for each refusal, by fields of the System V ABI. Names, limits, the long list and the status of a
-guest that failed are what follows from the line.
 """
 import hashlib
 import os

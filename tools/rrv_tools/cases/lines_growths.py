@@ -11,7 +11,7 @@ import contextlib
 import itertools
 import pathlib
 import re
-from typing import ClassVar, NamedTuple
+from typing import NamedTuple
 
 from rrv_tools import preload
 from rrv_tools.cases.lines import MIXED
@@ -88,14 +88,11 @@ def numbered(words: str, number: int) -> list[str]:
 class Growths(Case):
     """Each growth of a line is refused in turn."""
 
-    seconds = 160
-    shares_folder = True
-    library: ClassVar[pathlib.Path]
+    seconds, library, shares_folder = 160, "refusing", True
 
     @classmethod
     def setUpClass(cls) -> None:
         super().setUpClass()
-        cls.library = preload.needed(cls.class_folder, "refusing")
         write_files(FILES)
         for it in MADE:
             cls.program.run_well(*it.split())
@@ -103,7 +100,7 @@ class Growths(Case):
     def ended(self, words: list[str], nth: int) -> tuple[bool, End]:
         """Whether a line came to its growth of this number, which is refused, and how it ended."""
         read = READ if words[:1] == ["ask"] else b""
-        reached, result = preload.refuse(self.library, self.program.words(*words), nth, input=read)
+        reached, result = preload.refuse(self.shared, self.program.words(*words), nth, input=read)
         if result is None:
             raise self.failureException(f"without growth {nth} it did not end")
         core = None

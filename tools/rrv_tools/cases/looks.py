@@ -7,14 +7,6 @@ Four guests that print are recorded without end into a store in a real file. Mea
 was killed and the store repaired. They are done a hundred times over. Each has to show all that the guests had printed
 before.
 
-Nine copies that are torn, damaged or no store, an empty one and a whole one are looked at as files that can't be
-written in a folder that can't be, by another user if this one is root; and while something else has their lock. What is
-shown, or why it is refused, has to be that of a copy that may be repaired, and not a byte is changed. A store is
-changed while `dump` reads it: what that prints has to be a beginning of what the store held, and all of it unless it is
-refused by name. A store that is made longer or replaced is printed whole. One that is cut, or overwritten with zeros,
-is printed up to a refusal by name. A body is committed before each read of a look in turn: what is shown has to be the
-store without it or with it.
-
 `storage_cases` has the moments of such a look by rows: a gate that is opened after the file was, and after the look was
 ended, half a segment, a torn gate.
 """
@@ -382,13 +374,11 @@ class Changed(Case):
 class Committed(Case):
     """A store to which a body is committed before each read of a look in turn is shown without it or with it."""
 
-    seconds = 8
-    shared: ClassVar[pathlib.Path]
+    seconds, library = 8, "preloaded"
 
     @classmethod
     def setUpClass(cls) -> None:
         super().setUpClass()
-        cls.shared = preload.needed(cls.class_folder)
         write("short.elf", Printer(9, 20, 1, 1).elf())
         # Beside other work all records, or all that the guest prints, may be committed at once, in one body.
         assert any(cls.is_longer(f"short.{it}") for it in range(50)), "there is no store of two bodies"

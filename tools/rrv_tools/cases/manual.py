@@ -1,10 +1,6 @@
 """The program's help beside the manual page, docs/rrv.1, and what the completions, docs/rrv.bash, offer.
 
 Expected values: of the page the program's help; of the completions the page; of the refusals docs/FORMATS.md.
-
-The commands of the help, and the arguments and options of each with their defaults, have to be those of the page. The
-completions have to offer those commands and options, and files or words if a value may be one: nothing more, nothing
-less. The refusals of the page have to be those of docs/FORMATS.md, if each number in them stands for any.
 """
 import re
 import subprocess

@@ -3,10 +3,8 @@
 Expected values: the files of the tree, what `readelf` finds of the program, the errors of `lintian`, and the
 instructions of what is run.
 
-Nothing is installed, so no root is needed. The package's fields have to fit what `readelf` finds of the program, its
-files to be those of the tree at Debian's places, and a package that is made a second time, of a copy of the tree, to
-have the same bytes. From the unpacked files `rrv`, a recording, the manual pages, the completions, a hunt and the kit's
-compiler are run. `lintian` may find no error.
+Nothing is installed, so no root is needed. `lintian` may find no error.
+
 """
 import gzip
 import os

@@ -258,7 +258,7 @@ WAYS: dict[str, Callable[[Moments], Moments]] = {
 class PowerLoss(Case):
     """Contents of the store of these recordings."""
 
-    seconds, shares_folder = 33, True
+    seconds, library, shares_folder = 33, "preloaded", True
     count, seed = 2000, 1
     opening: ClassVar[Opening]
     start: ClassVar[bytes]
@@ -267,7 +267,6 @@ class PowerLoss(Case):
     @classmethod
     def setUpClass(cls) -> None:
         super().setUpClass()
-        shared = preload.needed(cls.class_folder)
         cls.program.run_well("new", "store")
         store, cls.moments = pathlib.Path("store"), []
         cls.start = store.read_bytes()
@@ -276,10 +275,10 @@ class PowerLoss(Case):
             for name, guest in zip(names, guests, strict=True):
                 pathlib.Path(name).write_bytes(guest.elf() + PADDING)
             words = cls.program.words("record", *options, store, *names)
-            ended, noted = preload.run(shared, words, {"SKIPS_SYNCS": 1})
+            ended, noted = preload.run(cls.shared, words, {"SKIPS_SYNCS": 1})
             assert ended.status == 0, f"record ended with {ended}"
             cls.moments += noted
-        cls.opening = Opening(cls.program, shared, store.read_bytes())
+        cls.opening = Opening(cls.program, cls.shared, store.read_bytes())
 
     def try_all(self, moments: Moments, count: int) -> list[tuple[Content, str]]:
         """What is wrong of this many contents of these moments."""

@@ -20,7 +20,7 @@ import subprocess
 import termios
 import time
 from collections.abc import Sequence
-from typing import IO, ClassVar, NamedTuple
+from typing import IO, NamedTuple
 
 from rrv_tools import elf, preload
 from rrv_tools.guests import Printer, exits
@@ -261,15 +261,13 @@ SEARCHES: dict[str, Search] = {
 class EachRecord(Shows):
     """A shorter guest, with checkpoints and without, over a clock that lets the line come at each record."""
 
-    seconds = 2
-    shared: ClassVar[pathlib.Path]
+    seconds, library = 2, "preloaded"
 
     @classmethod
     def setUpClass(cls) -> None:
         super().setUpClass()
         cls.make({"short.elf": guest(FEW_ROUNDS)}, "new short", f"{RECORD_SHORT} {EVERY}", f"{RECORD_SHORT} 0",
                  "new whole", "record --quantum 1048576 --every 0 whole short.elf")
-        cls.shared = preload.needed(cls.class_folder)
 
     def run_each(self, words: str, given: bytes = b"") -> Shown:
         """Runs a line over that clock."""

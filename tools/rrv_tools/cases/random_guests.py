@@ -172,19 +172,16 @@ class Looked(Case):
     """Batches, each of which is recorded once for all looks at it."""
 
     shares_folder = True
-    batches: ClassVar[dict[Batch, Recorded]]
     ends: ClassVar[collections.Counter[str]]
 
     @classmethod
     def setUpClass(cls) -> None:
         super().setUpClass()
-        cls.batches, cls.ends = {}, collections.Counter()
+        cls.ends = collections.Counter()
 
     def look(self, look: Look) -> None:
         """Takes a look at a batch."""
-        if look.batch not in self.batches:
-            self.batches[look.batch] = Recorded(self.program, look.batch)
-        look.take(self, look.batch, self.batches[look.batch], *look.of)
+        look.take(self, look.batch, self.once(Recorded, self.program, look.batch), *look.of)
 
     def need_recorded(self, _: Batch, of: Recorded) -> None:
         """All guests are recorded."""

@@ -86,9 +86,8 @@ def report(choices: int) -> bytes:
 class Sessions(Case):
     """Sessions of the four, with these options."""
 
-    seconds, shares_folder = 6, True
+    seconds, library, shares_folder = 6, "preloaded", True
     options: ClassVar[tuple[str, ...]] = ()
-    shared: ClassVar[pathlib.Path]
     numbers: ClassVar["itertools.count[int]"]
     # What was left of contents that were opened, and what was found as four more were recorded to them.
     left: ClassVar[dict[tuple[bytes, int, int], tuple[bytes, bool]]]
@@ -97,8 +96,7 @@ class Sessions(Case):
     @classmethod
     def setUpClass(cls) -> None:
         super().setUpClass()
-        shared = preload.needed(cls.class_folder)
-        cls.shared, cls.numbers, cls.left, cls.gone_on = shared, itertools.count(), {}, {}
+        cls.numbers, cls.left, cls.gone_on = itertools.count(), {}, {}
         choices = {f"choices_{it}": b"1 64\n" * it for it in (CHOICES, MANY_CHOICES)}
         for name, data in {**FOUR, **choices}.items():
             pathlib.Path(name).write_bytes(data)

@@ -2,23 +2,17 @@
 
 Expected values: the sums of the counts that `dump` prints, and the states there; the names of calls are those of Linux;
 the address of a fault is computed from the instruction's word and the registers.
-
-Each guest of tools/guests, and each of examples/hunt, is recorded. The places of its frames have to be sums of the
-counts that `dump` prints, and the address after a frame that of its thread in the state there. The events are read by
-Python's json: each has the fields of its frame, and a call the name that Linux has for the number in a7 just before it.
-What `verify --long` prints, and `record` after its report, has to be in the state at the end: a fault's address is
-computed here from the instruction's word and the registers.
 """
 import json
 import pathlib
 import random
 from collections.abc import Callable
-from typing import Any, ClassVar, NamedTuple
+from typing import Any, NamedTuple
 
 from rrv_tools import printed
 from rrv_tools.guests import path_of
 from rrv_tools.printed import Frame, text_of, threads_in
-from rrv_tools.program import ROOT
+from rrv_tools.program import ROOT, Program
 from rrv_tools.riscv import MASK
 from rrv_tools.testing import Case, add_rows
 from rrv_tools.threads import extended
@@ -99,8 +93,8 @@ def event_of(frame: Frame, pc: str | None, name: str) -> dict[str, Any]:
 class Recorded:
     """A guest that is recorded into a store of its own, and what is printed of it."""
 
-    def __init__(self, case: Case, name: str) -> None:
-        self.program, self.store, guest = case.program, f"store of {name}", GUESTS[name]
+    def __init__(self, program: Program, name: str) -> None:
+        self.program, self.store, guest = program, f"store of {name}", GUESTS[name]
         self.program.run_well("new", self.store)
         result = self.program.run_well("record", *guest.options(), self.store, guest.path)
         self.report = result.err.decode("latin-1")
@@ -146,20 +140,7 @@ class Recorded:
 class Turns(Case):
     """Places, events, states and ends of guests. A guest is recorded once for all cases of it."""
 
-    seconds = 15
-    shares_folder = True
-    recorded: ClassVar[dict[str, Recorded]]
-
-    @classmethod
-    def setUpClass(cls) -> None:
-        super().setUpClass()
-        cls.recorded = {}
-
-    def of(self, name: str) -> Recorded:
-        """A guest, by its name."""
-        if name not in self.recorded:
-            self.recorded[name] = Recorded(self, name)
-        return self.recorded[name]
+    seconds, shares_folder = 15, True
 
     def need_all(self, what: str, wanted: list[Any], came: list[Any]) -> None:
         """Compares as many as there are on either side."""
@@ -223,4 +204,4 @@ LOOKS: dict[str, Callable[[Turns, Recorded], None]] = {
     "report": Turns.need_report,
 }  # fmt: skip
 add_rows(Turns, {f"{guest} {look}": (guest, look) for guest in GUESTS for look in LOOKS},
-         lambda case, row: LOOKS[row[1]](case, case.of(row[0])))
+         lambda case, row: LOOKS[row[1]](case, case.once(Recorded, case.program, row[0])))
