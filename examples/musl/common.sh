@@ -1,0 +1,52 @@
+# What the scripts of this folder share: `name` is the script's, and $here their folder.
+name=$(basename "$0")
+
+fail() {
+    printf '%s: %s\n' "$name" "$1" >&2
+    exit 1
+}
+
+say() { printf '%s: %s\n' "$name" "$1" >&2; }
+
+# A line that is written over on a terminal.
+progress() { if [ -t 2 ]; then printf '\r%s: %s ' "$name" "$1" >&2; fi; }
+progress_end() { if [ -t 2 ]; then printf '\n' >&2; fi; }
+
+# need PROGRAM PACKAGE
+need() { command -v "$1" >/dev/null || fail "$1 is not installed: apt-get install $2"; }
+
+# The folder that build-musl fills.
+musl_folder() { printf '%s\n' "${RRV_MUSL:-${XDG_DATA_HOME:-$HOME/.local/share}/rrv/musl}"; }
+
+# fetch PACKAGE SUITE FOLDER FILE LINE: has apt-get fetch a source package of Debian into a folder, from the places that
+# apt has already, whatever suites it takes from there. FILE is what has to be in the package, and LINE how to do
+# without. Nothing of the system's own lists changes.
+fetch() {
+    need apt-get apt
+    mkdir -p "$3/apt/lists/partial" "$3/apt/cache/archives/partial"
+    places=$(apt-get indextargets --format '$(ORIGIN) $(COMPONENT) $(REPO_URI) $(RELEASE)' 2>/dev/null |
+        sed -n 's/^Debian main \([^ ]*\) .*/\1/p' | grep -v -e security | sort -u | head -n 1)
+    [ -n "$places" ] || fail "apt has no place of Debian's packages: $5"
+    key=/usr/share/keyrings/debian-archive-keyring.gpg
+    {
+        printf 'Types: deb-src\nURIs: %s\nSuites: %s\nComponents: main\n' "$places" "$2"
+        if [ -f $key ]; then printf 'Signed-By: %s\n' $key; fi
+    } >"$3/apt/$2.sources"
+    set -- "$@" -o Dir::Etc::sourcelist="$3/apt/$2.sources" -o Dir::Etc::sourceparts=/dev/null -o Dir::State::lists="$3/apt/lists" \
+        -o Dir::Cache="$3/apt/cache" -o APT::Sandbox::User=root -o APT::Update::Error-Mode=any -o Acquire::Retries=2
+    package=$1 suite=$2 folder=$3 file=$4 line=$5
+    shift 5
+    (
+        cd "$folder"
+        apt-get "$@" -q update && apt-get "$@" -q source --download-only "$package"
+    ) >"$folder/apt.log" 2>&1 || fail "apt-get can't fetch the source of $package from $suite ($folder/apt.log). With its files at hand: $line"
+    [ -f "$folder/$file" ] || fail "$suite has no $file, but $(cd "$folder" && echo "$package"_*.orig.tar.*): $line"
+}
+
+# put_words WORDS IN OUT: writes a guest with these words, in the section that start.c reads.
+put_words() {
+    bytes=$(wc -c <"$1")
+    [ "$bytes" -lt 4096 ] || fail "the arguments and the environment have $bytes bytes, and there is room for 4095"
+    truncate -s 4096 "$1"
+    riscv64-unknown-elf-objcopy --update-section guest_words="$1" "$2" "$3" 2>/dev/null || fail "$2 is no guest that cc linked"
+}
