@@ -27,6 +27,7 @@ fetch() {
     places=$(apt-get indextargets --format '$(ORIGIN) $(COMPONENT) $(REPO_URI) $(RELEASE)' 2>/dev/null |
         sed -n 's/^Debian main \([^ ]*\) .*/\1/p' | grep -v -e security | sort -u | head -n 1)
     [ -n "$places" ] || fail "apt has no place of Debian's packages: $5"
+    say "fetching the source of $1 from Debian's $2"
     key=/usr/share/keyrings/debian-archive-keyring.gpg
     {
         printf 'Types: deb-src\nURIs: %s\nSuites: %s\nComponents: main\n' "$places" "$2"
@@ -43,10 +44,15 @@ fetch() {
     [ -f "$folder/$file" ] || fail "$suite has no $file, but $(cd "$folder" && echo "$package"_*.orig.tar.*): $line"
 }
 
-# put_words WORDS IN OUT: writes a guest with these words, in the section that start.c reads.
-put_words() {
+# need_room WORDS: the section that start.c reads is a page.
+need_room() {
     bytes=$(wc -c <"$1")
     [ "$bytes" -lt 4096 ] || fail "the arguments and the environment have $bytes bytes, and there is room for 4095"
+}
+
+# put_words WORDS IN OUT: writes a guest with these words.
+put_words() {
+    need_room "$1"
     truncate -s 4096 "$1"
     riscv64-unknown-elf-objcopy --update-section guest_words="$1" "$2" "$3" 2>/dev/null || fail "$2 is no guest that cc linked"
 }

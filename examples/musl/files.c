@@ -328,7 +328,7 @@ static long descriptor_call(long n, unsigned fd, long b, long c, long d, long e)
         return b;
     case SYS_fcntl64: return control(o, b, c);
     case SYS__llseek: return seek(o, (nanos)b << 32 | (unsigned long)c, (void *)d, e);
-    case SYS_ftruncate64: return d || c < 0 ? -ENOSPC : cut(o, c);
+    case SYS_ftruncate64: return c || b < 0 ? -ENOSPC : cut(o, b);
     case SYS_statx: return status(o->file, o->std, (void *)e);
     case SYS_ioctl: return -ENOTTY;
     }

@@ -3,6 +3,7 @@
 usage: ./check                       runs every case and look that needs no prover
        ./check -k WORD ..            those whose name is or has one of the words, or matches one with `*`
        ./check --list [-k WORD ..]   prints the names, one a line
+       ./check --real [-k WORD ..]   builds programs over musl, records them, and compares; takes half an hour or more
        ./check --proofs [--times]    is the gate: proves all, compares the release, and then does all of ./check
        --junit FILE                  writes what was found as JUnit's XML too
 
@@ -18,12 +19,17 @@ earlier run on this machine proved or refused, if no file of that crate or of on
 they were built by different kits, the rows of two looks are run on both. Then come the looks at what the gate built,
 and all others.
 
+With --real it runs just the cases of classes with `is_real`, which no other line runs. They need Debian's package
+gcc-riscv64-unknown-elf, and its sources, which apt-get fetches. First examples/musl/build-musl fills the folder RRV_MUSL,
+or a temporary one if that isn't set. What is missing is said, and what needs it is left out.
+
 With --times the gate also prints how many minutes of processor time each crate took: its proof, its tests, its edits.
 They are looked up twice a second while the checks run, so each may be some seconds short.
 
 The last line counts all, as 'N passed, M failed'; the status is 0 only for 0 failed.
 """
 import argparse
+import contextlib
 import fnmatch
 import importlib
 import os
@@ -40,7 +46,7 @@ from collections.abc import Iterator, Sequence
 
 import rrv_tools.cases
 import rrv_tools.tests
-from rrv_tools import gate, jobs
+from rrv_tools import gate, jobs, musl
 from rrv_tools import program as programs
 from rrv_tools.jobs import Counts, Done, Job
 from rrv_tools.program import ROOT
@@ -101,8 +107,8 @@ def jobs_of_class(of: type[unittest.TestCase], words: Sequence[str]) -> Iterator
         yield Job(title, seconds / shards, is_alone, tuple(cases[shard::shards]))
 
 
-def jobs_of_module(name: str, words: Sequence[str]) -> Iterator[Job]:
-    """The jobs of a module; one that can't be imported has one, which fails by that."""
+def jobs_of_module(name: str, words: Sequence[str], is_real: bool) -> Iterator[Job]:
+    """The jobs of a module's classes of one kind; a module that can't be imported has a job, which fails by that."""
     try:
         module = importlib.import_module(name)
     except Exception:  # whatever it raises, its job shows
@@ -110,15 +116,16 @@ def jobs_of_module(name: str, words: Sequence[str]) -> Iterator[Job]:
         yield Job(short, 0, cases=(short,))
         return
     for it in classes_in(module):
-        yield from jobs_of_class(it, words)
+        if getattr(it, "is_real", False) == is_real:
+            yield from jobs_of_class(it, words)
 
 
-def jobs_found(words: Sequence[str] = ()) -> list[Job]:
-    """All jobs of which the names fit the words."""
+def jobs_found(words: Sequence[str] = (), is_real: bool = False) -> list[Job]:
+    """All jobs of which the names fit the words: those that build programs, or all others."""
     packages = (pkgutil.iter_modules(it.__path__, f"{it.__name__}.") for it in (rrv_tools.cases, rrv_tools.tests))
     modules = sorted(it.name for package in packages for it in package)
-    of_modules = [job for name in modules for job in jobs_of_module(name, words)]
-    return [*of_modules, *(it for it in LOOKS if fits(it.name, words))]
+    of_modules = [job for name in modules for job in jobs_of_module(name, words, is_real)]
+    return [*of_modules, *(it for it in LOOKS if not is_real and fits(it.name, words))]
 
 
 def chosen(names: Sequence[str], words: Sequence[str]) -> list[str]:
@@ -188,11 +195,11 @@ def parsed(words: Sequence[str]) -> argparse.Namespace:
     usage = (__doc__ or "").partition("usage: ")[2].partition("\n\n")[0]
     parser = argparse.ArgumentParser(prog="./check", add_help=False, usage=usage)
     parser.add_argument("-k", dest="names", nargs="+", default=[])
-    for it in ("--list", "--proofs", "--times", "-h", "--help"):
+    for it in ("--list", "--proofs", "--real", "--times", "-h", "--help"):
         parser.add_argument(it, action="store_true")
     parser.add_argument("--junit", type=pathlib.Path)
     asked = parser.parse_args(words)
-    if asked.times and not asked.proofs or asked.proofs and (asked.names or asked.list):
+    if asked.times and not asked.proofs or asked.proofs and (asked.names or asked.list or asked.real):
         parser.error("--proofs runs all, and --times goes with it alone")
     return asked
 
@@ -203,7 +210,7 @@ def main(words: Sequence[str]) -> int:
     if asked.h or asked.help:
         print(__doc__, end="")
         return 0
-    some = [] if asked.proofs else jobs_found(asked.names)
+    some = [] if asked.proofs else jobs_found(asked.names, asked.real)
     if asked.list:
         print("\n".join(name for it in some for name in it.cases or [it.name]))
     if not asked.proofs and (asked.list or not some):
@@ -215,7 +222,8 @@ def main(words: Sequence[str]) -> int:
             signal.signal(it, end)
     start = time.monotonic()
     found: list[Done] = []
-    counts = run_gate(asked.times, found) if asked.proofs else run_jobs(some, programs.found(), found)
+    with musl.prepared() if asked.real else contextlib.nullcontext():
+        counts = run_gate(asked.times, found) if asked.proofs else run_jobs(some, programs.found(), found)
     use = resource.getrusage(resource.RUSAGE_CHILDREN)
     minutes = (use.ru_utime + use.ru_stime) / 60, (time.monotonic() - start) / 60
     print(f"minutes: {minutes[0]:.1f} of processors, {minutes[1]:.1f} by the clock")

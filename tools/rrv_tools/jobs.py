@@ -88,7 +88,8 @@ def again(name: str) -> str:
     of, _, last = name.rpartition(".")
     program = os.environ.get("RRV_PROGRAM")
     before = f"RRV_PROGRAM={shlex.quote(program)} " if program else ""
-    return f"{before}./check -k {f'{of}.' if last in AROUND else name}"
+    real = "--real " if os.environ.get("RRV_REAL") else ""
+    return f"{before}./check {real}-k {f'{of}.' if last in AROUND else name}"
 
 
 def counts_in(text: str, status: int) -> Counts:

@@ -76,6 +76,8 @@ class Case(unittest.TestCase):
     needs: ClassVar[tuple[str, ...]] = ()
     # The library that lines may run over, `preloaded` or `refusing` (preload), without which it is left out too.
     library: ClassVar[str] = ""
+    # Whether it builds programs, or fetches them, so that only `./check --real` runs it.
+    is_real: ClassVar[bool] = False
     # Whether all cases of the class run in one folder, which `setUpClass` of the class fills.
     shares_folder: ClassVar[bool] = False
     maxDiff = None
