@@ -35,13 +35,13 @@ fetch() {
     } >"$3/apt/$2.sources"
     set -- "$@" -o Dir::Etc::sourcelist="$3/apt/$2.sources" -o Dir::Etc::sourceparts=/dev/null -o Dir::State::lists="$3/apt/lists" \
         -o Dir::Cache="$3/apt/cache" -o APT::Sandbox::User=root -o APT::Update::Error-Mode=any -o Acquire::Retries=2
-    package=$1 suite=$2 folder=$3 file=$4 line=$5
+    fetched=$1 from=$2 into=$3 wanted=$4 without=$5
     shift 5
     (
-        cd "$folder"
-        apt-get "$@" -q update && apt-get "$@" -q source --download-only "$package"
-    ) >"$folder/apt.log" 2>&1 || fail "apt-get can't fetch the source of $package from $suite ($folder/apt.log). With its files at hand: $line"
-    [ -f "$folder/$file" ] || fail "$suite has no $file, but $(cd "$folder" && echo "$package"_*.orig.tar.*): $line"
+        cd "$into"
+        apt-get "$@" -q update && apt-get "$@" -q source --download-only "$fetched"
+    ) >"$into/apt.log" 2>&1 || fail "apt-get can't fetch the source of $fetched from $from ($into/apt.log). With its files at hand: $without"
+    [ -e "$into/$wanted" ] || fail "$from has no $wanted, but $(cd "$into" && echo "$fetched"_*.orig.tar.*): $without"
 }
 
 # need_room WORDS: the section that start.c reads is a page.

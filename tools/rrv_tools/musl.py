@@ -3,6 +3,7 @@
 Where it lies is told to the processes of cases by the environment: RRV_MUSL has the folder, or MISSING why there is none.
 """
 import contextlib
+import fcntl
 import os
 import pathlib
 import subprocess
@@ -19,6 +20,9 @@ KIT, REAL = ROOT / "examples" / "musl", ROOT / "examples" / "real"
 FOLDER, MISSING, IS_REAL = "RRV_MUSL", "RRV_MUSL_MISSING", "RRV_REAL"
 # How long a compiler, and how long a build of a library or a program may take.
 SECONDS, BUILD_SECONDS = 120, 7200
+
+# What a script prints of a source that it can't fetch, or of a program that isn't there.
+ABSENT = ("can't fetch", "is not installed", "has no place of Debian's packages")
 
 Ran = subprocess.CompletedProcess[bytes]
 
@@ -51,6 +55,24 @@ def prepared() -> Iterator[None]:
                     os.environ[name] = value
 
 
+def need() -> None:
+    """Leaves out a class if there is no musl, and says what is missing."""
+    if os.environ.get(MISSING) or not os.environ.get(FOLDER):
+        raise unittest.SkipTest(os.environ.get(MISSING) or f"{FOLDER} names no folder: ./check --real sets it")
+
+
+def need_cxx() -> None:
+    """Builds libstdc++, or leaves out a class if its source can't be had. One process builds it for all."""
+    with open(f"{os.environ[FOLDER]}/cxx.lock", "ab") as lock:
+        fcntl.flock(lock, fcntl.LOCK_EX)
+        done = ran([KIT / "build-cxx"], BUILD_SECONDS)
+    text = done.stderr.decode(errors="replace").strip().rpartition("\n")[2]
+    if any(it in text for it in ABSENT):
+        raise unittest.SkipTest(text)
+    if done.returncode != 0:
+        raise AssertionError(text)
+
+
 class MuslCase(Case):
     """A class of cases that compile programs over musl."""
 
@@ -60,8 +82,7 @@ class MuslCase(Case):
     @classmethod
     def setUpClass(cls) -> None:
         super().setUpClass()
-        if os.environ.get(MISSING) or not os.environ.get(FOLDER):
-            raise unittest.SkipTest(os.environ.get(MISSING) or f"{FOLDER} names no folder: ./check --real sets it")
+        need()
 
     def need_run(self, *words: Word, seconds: int = SECONDS) -> bytes:
         """Runs a command that has to end with 0, and returns what it prints."""

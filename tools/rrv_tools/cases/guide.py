@@ -8,7 +8,8 @@ and standard error: `...` alone on a line stands for any lines, also for none, a
 digits and signs without a space. All commands of a page are run by one shell, in a folder that has a copy of
 examples/, the release, the tools, and the program as ./rrv, which is first on the PATH.
 
-Those that LEFT_OUT lists aren't run. Those of the compiler's package, which begin with `riscv64-`, are run only if the
+Those that LEFT_OUT lists aren't run. The guide's section on one's own program needs a C library, so only `./check --real`
+runs it. Those of the compiler's package, which begin with `riscv64-`, are run only if the
 environment variable RRV_COMPILER is set: they print what its version prints.
 
 One page kills `rrv` while it records four guests. What each guest had printed has to be a beginning of what is
@@ -23,6 +24,7 @@ import signal
 import subprocess
 from typing import ClassVar, NamedTuple
 
+from rrv_tools import musl
 from rrv_tools.program import ROOT
 from rrv_tools.testing import Case, rows
 
@@ -30,12 +32,15 @@ PAGES = ("README.md", "docs/GUIDE.md", "docs/BUILDING.md")
 INDENT, PROMPT, COMPILER, DEBUGGER = "    ", "$ ", "riscv64-", "gdb-multiarch"
 END = "-- end of a command --"
 SECONDS = 600
+# The section of the guide whose commands compile over musl.
+OWN = "## Your own program"
 # The commands that no page's run can have, by how they begin, and why.
 LEFT_OUT = {
     "git clone ": "it needs the place of a repository",
     "./check": "it runs these cases itself, and takes minutes to hours",
     "tools/run release": "it writes the release of the repository",
     "tools/run package": "it takes the program of the repository, and cases look at what it makes",
+    "examples/musl/build-": "it takes minutes, and ./check --real builds what it builds",
 }
 
 
@@ -55,11 +60,15 @@ class Command(NamedTuple):
         return next((reason for begins, reason in LEFT_OUT.items() if self.words.startswith(begins)), "")
 
 
-def commands_of(page: str) -> dict[str, Command]:
-    """The commands of a page, in order, by the names of their cases."""
+def commands_of(page: str, of_own: bool = False) -> dict[str, Command]:
+    """The commands of a page, in order, by the names of their cases: those of the section OWN, or all others."""
     found: list[Command] = []
-    is_inside = False
+    is_inside, is_own = False, False
     for number, line in enumerate((ROOT / page).read_text(encoding="utf-8").splitlines(), 1):
+        if line.startswith("## "):
+            is_own = line == OWN
+        if is_own != of_own:
+            continue
         if line.startswith(INDENT + PROMPT):
             found.append(Command(number, line.removeprefix(INDENT + PROMPT), []))
             is_inside = True
@@ -116,10 +125,15 @@ class Page(Case):
     @classmethod
     def setUpClass(cls) -> None:
         super().setUpClass()
+        cls.prepare()
         furnish(cls.class_folder, cls.program.path)
         kept = [it for it in cls.commands.values() if not it.reason()]
         printed = run_all([it.words for it in kept], cls.class_folder)
         cls.printed = {it.number: text for it, text in zip(kept, printed, strict=False)}
+
+    @classmethod
+    def prepare(cls) -> None:
+        """What has to be there before the commands."""
 
     def follow(self, command: Command) -> None:
         """Compares what a command printed with what stands there."""
@@ -147,6 +161,20 @@ class Guide(Page):
     commands = commands_of("docs/GUIDE.md")
 
 
+@rows(commands_of("docs/GUIDE.md", of_own=True), "follow")
+class OwnProgram(Page):
+    """The section of docs/GUIDE.md that compiles a program."""
+
+    is_real = True
+    seconds = 300
+    commands = commands_of("docs/GUIDE.md", of_own=True)
+
+    @classmethod
+    def prepare(cls) -> None:
+        musl.need()
+        musl.need_cxx()
+
+
 @rows(commands_of("docs/BUILDING.md"), "follow")
 class Building(Page):
     """docs/BUILDING.md, and that each entry of LEFT_OUT is needed."""
@@ -155,5 +183,5 @@ class Building(Page):
 
     def test_left_out(self) -> None:
         """Each entry of LEFT_OUT is the beginning of a command of a page."""
-        words = [it.words for page in PAGES for it in commands_of(page).values()]
+        words = [it.words for page in PAGES for own in (False, True) for it in commands_of(page, own).values()]
         self.need("entries that no page has", [], [it for it in LEFT_OUT if not any(w.startswith(it) for w in words)])

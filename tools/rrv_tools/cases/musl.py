@@ -13,7 +13,7 @@ import re
 import shutil
 from typing import ClassVar, NamedTuple
 
-from rrv_tools.musl import BUILD_SECONDS, KIT, MuslCase, ran
+from rrv_tools.musl import KIT, MuslCase, need_cxx, ran
 from rrv_tools.program import Word
 from rrv_tools.testing import Case, rows
 
@@ -268,11 +268,7 @@ class Cxx(MuslCase):
 
     def test_threads(self) -> None:
         """Threads, exceptions between threads, conditions and streams."""
-        done = ran([KIT / "build-cxx"], BUILD_SECONDS)
-        text = done.stderr.decode(errors="replace").strip().rpartition("\n")[2]
-        if "can't fetch" in text or "is not installed" in text:
-            self.skipTest(text)
-        self.need(f"build-cxx: {text}", 0, done.returncode)
+        need_cxx()
         source = self.folder / "program.cc"
         source.write_text(CXX, encoding="ascii")
         elf = self.compiled(source, "-std=c++17", compiler="c++")
