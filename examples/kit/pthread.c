@@ -10,6 +10,7 @@
 #include <string.h>
 
 enum { PAGE = 4096, STACK_BYTES = 65536, WAIT = 0, WAKE = 1, PROT_RW = 3, MAP_PRIVATE_ANONYMOUS = 0x22 };
+static const unsigned DESTROYED = 0x80000000; /* of a condition's waiters */
 
 /* A thread: one range of pages has a page that nobody may touch, its stack, this, and its thread-local variables, where tp points. */
 struct pthread {
@@ -19,6 +20,7 @@ struct pthread {
     char *map;
     size_t map_bytes;
     struct pthread *next_detached;
+    unsigned values_end; /* no key from here on has a value */
     void *values[PTHREAD_KEYS_MAX];
 } __attribute__((aligned(16)));
 
@@ -137,7 +139,7 @@ void kit_run(void)
 static void drop_values(struct pthread *thread)
 {
     for (int round = 0; round < 4; round++)
-        for (int key = 0; key < PTHREAD_KEYS_MAX; key++) {
+        for (unsigned key = 0; key < thread->values_end; key++) {
             void *value = thread->values[key];
             thread->values[key] = 0;
             if (value && keys[key].used && keys[key].destructor)
@@ -241,18 +243,18 @@ int pthread_cond_init(pthread_cond_t *cond, const pthread_condattr_t *attr)
     return 0;
 }
 
-/* A signal between the unlocking and the wait raises the sequence, so the wait ends at once. */
+/* A signal between the unlocking and the wait raises the sequence, so the wait ends at once. Who was woken looks at the condition no
+   more once it has left: it may be freed then. */
 int pthread_cond_wait(pthread_cond_t *cond, pthread_mutex_t *mutex)
 {
     unsigned seen = __atomic_load_n(&cond->sequence, __ATOMIC_ACQUIRE);
     __atomic_add_fetch(&cond->waiters, 1, __ATOMIC_ACQ_REL);
     int error = pthread_mutex_unlock(mutex);
-    if (!error) {
+    if (!error)
         wait_while(&cond->sequence, seen);
-        pthread_mutex_lock(mutex);
-    }
-    __atomic_sub_fetch(&cond->waiters, 1, __ATOMIC_ACQ_REL);
-    return error;
+    if (__atomic_sub_fetch(&cond->waiters, 1, __ATOMIC_ACQ_REL) == DESTROYED)
+        wake(&cond->waiters, 1);
+    return error ? error : pthread_mutex_lock(mutex);
 }
 
 static int signal_some(pthread_cond_t *cond, int count)
@@ -274,9 +276,13 @@ int pthread_cond_broadcast(pthread_cond_t *cond)
     return signal_some(cond, INT_MAX);
 }
 
+/* Waits until those who were woken have left. */
 int pthread_cond_destroy(pthread_cond_t *cond)
 {
-    return cond->waiters ? EBUSY : 0;
+    unsigned left = __atomic_or_fetch(&cond->waiters, DESTROYED, __ATOMIC_ACQ_REL);
+    for (; left != DESTROYED; left = __atomic_load_n(&cond->waiters, __ATOMIC_ACQUIRE))
+        wait_while(&cond->waiters, left);
+    return 0;
 }
 
 int pthread_once(pthread_once_t *once, void (*work)(void))
@@ -324,7 +330,10 @@ int pthread_setspecific(pthread_key_t key, const void *value)
 {
     if (key >= PTHREAD_KEYS_MAX || !keys[key].used)
         return EINVAL;
-    pthread_self()->values[key] = (void *)value;
+    struct pthread *thread = pthread_self();
+    thread->values[key] = (void *)value;
+    if (key >= thread->values_end)
+        thread->values_end = key + 1;
     return 0;
 }
 

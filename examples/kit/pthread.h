@@ -8,7 +8,7 @@
 #include <stddef.h>
 #include <time.h>
 
-#define PTHREAD_KEYS_MAX 16
+#define PTHREAD_KEYS_MAX 128
 #define PTHREAD_STACK_MIN 4096
 #define PTHREAD_CREATE_JOINABLE 0
 #define PTHREAD_CREATE_DETACHED 1
@@ -42,7 +42,7 @@ typedef struct {
 
 typedef struct {
     unsigned sequence; /* raised by each signal */
-    unsigned waiters;
+    unsigned waiters;  /* bit 31: a thread waits in pthread_cond_destroy until there are none */
 } pthread_cond_t;
 
 typedef unsigned pthread_once_t; /* 0 not begun, 1 begun, 2 done */
