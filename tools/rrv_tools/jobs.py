@@ -19,8 +19,9 @@ from collections.abc import Iterator, Sequence
 from rrv_tools.program import ROOT
 from rrv_tools.testing import FAILED, LEFT_OUT, PASSED, Outcome
 
-# A job may run for this many seconds, and has this many to end itself once it is stopped.
-PATIENCE, ENDS = 900, 5
+# A job may run for this many seconds, or for so many times what it takes if that is more; and it has this many to end
+# itself once it is stopped.
+PATIENCE, TIMES, ENDS = 900, 10, 5
 COUNT = re.compile(r"(?m)^(\d+) passed, (\d+) failed\n?\Z")
 # What stands for a class as a whole, if it failed or was left out before its first case.
 OF_CLASS = ("setUpClass", "setUpModule")
@@ -167,7 +168,7 @@ class Runner:
         with tempfile.TemporaryFile() as printed, tempfile.NamedTemporaryFile() as results:
             try:
                 ran = self.begin(job, pathlib.Path(results.name), printed.fileno())
-                more, status = self.wait(ran) if ran else ("stopped\n", 1)
+                more, status = self.wait(ran, max(PATIENCE, TIMES * job.seconds)) if ran else ("stopped\n", 1)
             except OSError as error:
                 more, status = f"{error}\n", 1
             with self.lock:
@@ -183,13 +184,13 @@ class Runner:
         return Done(job, counts, seconds, text, tuple(outcomes))
 
     @staticmethod
-    def wait(ran: "subprocess.Popen[bytes]") -> tuple[str, int]:
+    def wait(ran: "subprocess.Popen[bytes]", patience: float = PATIENCE) -> tuple[str, int]:
         """Waits for a job to end, and returns its status. One that doesn't is ended, and so is what one left."""
         text = ""
         try:
-            ran.wait(PATIENCE)
+            ran.wait(patience)
         except subprocess.TimeoutExpired:
-            text = f"it did not end in {PATIENCE} seconds\n"
+            text = f"it did not end in {patience:.0f} seconds\n"
         with contextlib.suppress(ProcessLookupError):
             os.killpg(ran.pid, signal.SIGKILL)
         return text, ran.wait()

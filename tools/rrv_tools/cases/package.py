@@ -40,6 +40,8 @@ ok records=2 instructions=3 end exited 5
 """
 # Offers what bash completes of the last word.
 OFFER = 'source "$0"; COMP_WORDS=("$@"); COMP_CWORD=$(($# - 1)); _rrv; printf "%s\\n" "${COMPREPLY[@]}"'
+# How the paths of files end that may be run.
+RUNS = (".elf", *(f"/{it}" for it in ("cc", "c++", "hunt", "build", "build-musl", "build-cxx", "guest-words", "try")))
 COUNTER, TRUE = "examples/lost_update/counter.elf", shutil.which("true") or "true"
 HUNTED, OPTIONS = "deadlock", ("--seed", "3", "--lists", "32")
 # Two threads add up the numbers from 1 to 100 each, which are 5050.
@@ -227,7 +229,7 @@ class Package(Case):
         lines = ran("dpkg-deb", "-c", self.deb).out.splitlines()
         for line in lines:
             mode, owner, _, day, hour, path = line.split(maxsplit=5)
-            runs = path.startswith("./usr/bin/") or path.endswith((".elf", "/cc", "/hunt", "/build"))
+            runs = path.startswith("./usr/bin/") or path.endswith(RUNS)
             bits = {"d": "rwxr-xr-x", "l": "rwxrwxrwx"}.get(mode[0], "rwxr-xr-x" if runs else "rw-r--r--")
             wrong += [line] if mode[1:] != bits or f"{owner} {day} {hour}" != wanted else []
         self.need("lines that are wrong", [], wrong if lines else ["no line"])

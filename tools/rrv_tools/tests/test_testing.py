@@ -213,6 +213,13 @@ class Names(unittest.TestCase):
         self.assertEqual(check.chosen(names, ["A.test_b"]), names[:2])
         self.assertEqual(check.chosen(names, []), names)
 
+    def test_real(self) -> None:
+        """Classes that build programs are run by --real alone, and no look is."""
+        plain, real = ({it.name.partition(" ")[0] for it in check.jobs_found(is_real=it)} for it in (False, True))
+        self.assertEqual(plain & real, set())
+        self.assertLess({"cases.musl.Programs", "cases.real.Recipes", "cases.guide.OwnProgram"}, real)
+        self.assertLess({"cases.musl.RefusedLines", "cases.guide.Guide", "tools/places"}, plain)
+
     def test_shards(self) -> None:
         """A class of 90 seconds has three jobs, and each case is in one of them; of a third of it there is one job."""
         body = {f"test_{it}": lambda self: None for it in range(9)}
