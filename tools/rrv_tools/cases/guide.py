@@ -166,7 +166,7 @@ class OwnProgram(Page):
     """The section of docs/GUIDE.md that compiles a program."""
 
     is_real = True
-    seconds = 300
+    seconds = 30
     commands = commands_of("docs/GUIDE.md", of_own=True)
 
     @classmethod
