@@ -1,6 +1,6 @@
 """The C library of examples/musl, as the cases need it that build programs over it.
 
-Where it lies is told to the processes of cases by the environment: RRV_MUSL has the folder, or MISSING why there is none.
+The processes of cases find it by the environment: RRV_MUSL has the folder, or RRV_MUSL_MISSING why there is none.
 """
 import contextlib
 import fcntl
@@ -100,7 +100,8 @@ class MuslCase(Case):
     def recorded(self, elf: pathlib.Path, *options: Word, name: str = "g0") -> bytes:
         """What a guest prints that is recorded to a marked store and has to end with 0. It is verified and replayed."""
         self.need_line("new", "store")
-        done = self.need_line("record", "--fail", "--upgrade", "--name", name, *options, "store", elf, out=None, err=None)
+        words: tuple[Word, ...] = ("record", "--fail", "--upgrade", "--name", name, *options, "store", elf)
+        done = self.need_line(*words, out=None, err=None)
         self.need_line("verify", "store", 0, out=None)
         self.need_line("replay", "store", 0, out=done.out)
         return done.out

@@ -8,8 +8,8 @@ and standard error: `...` alone on a line stands for any lines, also for none, a
 digits and signs without a space. All commands of a page are run by one shell, in a folder that has a copy of
 examples/, the release, the tools, and the program as ./rrv, which is first on the PATH.
 
-Those that LEFT_OUT lists aren't run. The guide's section on one's own program needs a C library, so only `./check --real`
-runs it. Those of the compiler's package, which begin with `riscv64-`, are run only if the
+Those that LEFT_OUT lists aren't run. The guide's section on one's own program needs a C library, so only
+`./check --real` runs it. Those of the compiler's package, which begin with `riscv64-`, are run only if the
 environment variable RRV_COMPILER is set: they print what its version prints.
 
 One page kills `rrv` while it records four guests. What each guest had printed has to be a beginning of what is

@@ -1,4 +1,4 @@
-"""The small kit, examples/kit: what POSIX promises of conditions that are destroyed, keys and signals, and its compiler.
+"""The small kit, examples/kit: what POSIX promises of conditions that are destroyed, of keys and of signals.
 
 Expected values: IEEE Std 1003.1-2017, and what the program counts itself.
 
@@ -111,7 +111,8 @@ class Kit(Case):
 
     def run_compiler(self, *words: Word) -> None:
         """Runs the kit's compiler, which has to end with 0 and print nothing."""
-        done = subprocess.run([CC, *map(str, words)], stdin=subprocess.DEVNULL, capture_output=True, text=True, check=False)
+        done = subprocess.run([CC, *map(str, words)], stdin=subprocess.DEVNULL, capture_output=True, text=True,
+                              check=False)
         if "picolibc.specs" in done.stderr:
             self.skipTest("picolibc is not installed")
         self.need(f"{words}", ("", 0), (done.stderr, done.returncode))
@@ -125,7 +126,7 @@ class Kit(Case):
             self.need_line("record", "--fail", "--quantum", quantum, "store", "program.elf", out=wanted, err=None)
 
     def test_destroyed_conditions(self) -> None:
-        """A condition may be destroyed after a broadcast, and its memory used anew: who was woken looks at it no more."""
+        """A condition may be destroyed after a broadcast, and its memory used anew."""
         self.need_prints(DESTROYED, b"passed 20, refused 0\n")
 
     def test_keys(self) -> None:

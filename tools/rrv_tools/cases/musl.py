@@ -227,7 +227,8 @@ class Programs(MuslCase):
 
     def test_machine(self) -> None:
         """Arguments, the environment and the number of processors are those that `cc` and `guest-words` were given."""
-        elf = self.compiled(self.written(MACHINE), "--processors", "7", "--args", r"a 'b  c' d\ e", "--env", "PLACE=x=y")
+        options = ("--processors", "7", "--args", r"a 'b  c' d\ e", "--env", "PLACE=x=y")
+        elf = self.compiled(self.written(MACHINE), *options)
         self.need("of cc", b"7 processors, PLACE=x=y 'a' 'b  c' 'd e'\n", self.recorded(elf))
         self.need_run(KIT / "guest-words", elf, "other.elf", "--env", "PLACE=", "", "$HOME `x`")
         self.need_line("record", "store", "other.elf", out=b"7 processors, PLACE= '' '$HOME `x`'\n", err=None)
@@ -243,8 +244,8 @@ class Programs(MuslCase):
         self.assertRegex(self.need_run(cc, "--version"), rb"(?s)riscv64-unknown-elf-gcc .*\n")
         self.assertIn(b"sched_yield", self.need_run(cc, "-E", source))
         lines: list[tuple[Word, ...]] = [
-            ("-S", source), ("-c", source, "-o", "a.o"), ("-pthread", "a.o", "-o", "a.elf", "-lpthread", "-lm"), (source,),
-            ("-print-libgcc-file-name",), ("-M", source)]
+            ("-S", source), ("-c", source, "-o", "a.o"), ("-pthread", "a.o", "-o", "a.elf", "-lpthread", "-lm"),
+            (source,), ("-print-libgcc-file-name",), ("-M", source)]
         for words in lines:
             self.need_run(cc, *words)
         self.need("what is made", ["a.elf", "a.o", "a.out", "program.c", "program.s"], sorted(os.listdir()))
@@ -283,35 +284,49 @@ class Line(NamedTuple):
 
 
 # No line has a compiler, but a program of its name that does nothing.
+LARGEST = "there is room for 4095"
 REFUSED_LINES = {
-    "another tarball": Line("build-musl --to made file", "build-musl: file isn't the tarball of musl 1.2.5: its SHA-256 isn't \\w+"),
+    "another tarball": Line("build-musl --to made file",
+                            "build-musl: file isn't the tarball of musl 1.2.5: its SHA-256 isn't \\w+"),
     "no tarball": Line("build-musl --to made none", "build-musl: none is no file: name the tarball of musl 1.2.5"),
     "two tarballs": Line("build-musl a b", "build-musl: two tarballs: a and b"),
     "an option of build-musl": Line("build-musl --fast", "build-musl: no option --fast: .*"),
-    "no place of packages": Line("build-musl --to made", "build-musl: apt has no place of Debian's packages: build-musl musl_1.2.5.orig.tar.gz"),
-    "no musl for C++": Line("build-cxx --to none x", "build-cxx: there is no musl in none: run \\S*/build-musl first"),
+    "no place of packages": Line("build-musl --to made", "build-musl: apt has no place of Debian's packages: "
+                                 "build-musl musl_1.2.5.orig.tar.gz"),
+    "no musl for C++": Line("build-cxx --to none x", r"build-cxx: there is no musl in none: run \S*/build-musl first"),
     "no GCC": Line("build-cxx --to musl none", "build-cxx: none is no file: name the tarball of GCC .*"),
-    "no libstdc++": Line("c++ x.cc", "c\\+\\+: there is no libstdc\\+\\+ in musl: run \\S*/build-cxx"),
+    "no libstdc++": Line("c++ x.cc", r"c\+\+: there is no libstdc\+\+ in musl: run \S*/build-cxx"),
     "a file that isn't there": Line("cc --file a=none x.c", "cc: --file: none is no file"),
     "a file without a name": Line("cc --file file x.c", "cc: --file needs NAME=PATH, and has file"),
-    "files that are too large": Line("cc --file a=large --file b=large x.c", "cc: the linked files have 2400000 bytes, up to large, and a guest's file 2097152 at most"),
-    "arguments above a page": Line(f"cc --args {'a' * 4095} x.c", "cc: the arguments and the environment have 4097 bytes, and there is room for 4095"),
-    "an environment above a page": Line(f"cc --env A={'a' * 4095} x.c", "cc: the arguments and the environment have 4099 bytes, and there is room for 4095"),
+    "files that are too large": Line("cc --file a=large --file b=large x.c",
+                                     "cc: the linked files have 2400000 bytes, up to large, "
+                                     "and a guest's file 2097152 at most"),
+    "arguments above a page": Line(f"cc --args {'a' * 4095} x.c",
+                                   f"cc: the arguments and the environment have 4097 bytes, and {LARGEST}"),
+    "an environment above a page": Line(f"cc --env A={'a' * 4095} x.c",
+                                        f"cc: the arguments and the environment have 4099 bytes, and {LARGEST}"),
     "quotes": Line("cc --args 'a x.c", "cc: --args: quotes don't match in 'a"),
     "a variable": Line("cc --env A x.c", "cc: --env needs NAME=VALUE, and has A"),
     "processors": Line("cc --processors 0 x.c", "cc: --processors needs a number from 1 on, and has 0"),
     "a last option": Line("cc x.c --args", "cc: --args needs a word after it"),
-    "words above a page": Line(f"guest-words file out {'a' * 4095}", "guest-words: the arguments and the environment have 4097 bytes, and there is room for 4095"),
+    "words above a page": Line(f"guest-words file out {'a' * 4095}",
+                               f"guest-words: the arguments and the environment have 4097 bytes, and {LARGEST}"),
     "words for no file": Line("guest-words none out a", "guest-words: none is no file"),
     "one word": Line("guest-words file", "guest-words: needs IN.elf and OUT.elf"),
 }  # fmt: skip
 COMPILERS = ("gcc", "g++", "ld", "objcopy")
+MISSING, PACKAGE = "riscv64-unknown-elf-", "is not installed: apt-get install"
 # Without a compiler.
 MISSING_LINES = {
-    "cc": Line("cc x.c", "cc: riscv64-unknown-elf-gcc is not installed: apt-get install gcc-riscv64-unknown-elf"),
-    "build-musl": Line("build-musl", "build-musl: riscv64-unknown-elf-gcc is not installed: apt-get install gcc-riscv64-unknown-elf"),
-    "guest-words": Line("guest-words a b", "guest-words: riscv64-unknown-elf-objcopy is not installed: apt-get install binutils-riscv64-unknown-elf"),
-}  # fmt: skip
+    "cc": Line("cc x.c", f"cc: {MISSING}gcc {PACKAGE} gcc-riscv64-unknown-elf"),
+    "build-musl": Line("build-musl", f"build-musl: {MISSING}gcc {PACKAGE} gcc-riscv64-unknown-elf"),
+    "guest-words": Line("guest-words a b", f"guest-words: {MISSING}objcopy {PACKAGE} binutils-riscv64-unknown-elf"),
+}
+
+
+# The programs that the scripts use before they compile.
+USED = ("sh basename dirname readlink sed cat cut sha256sum wc mktemp rm mkdir tr xargs printf date grep sort head "
+        "truncate tar").split()
 
 
 class Scripts(Case):
@@ -321,8 +336,7 @@ class Scripts(Case):
         super().setUp()
         bin_folder = self.folder / "bin"
         bin_folder.mkdir()
-        for name in ("sh", "basename", "dirname", "readlink", "sed", "cat", "cut", "sha256sum", "wc", "mktemp", "rm", "mkdir", "tr",
-                     "xargs", "printf", "date", "grep", "sort", "head", "truncate", "tar"):  # fmt: skip
+        for name in USED:
             path = shutil.which(name)
             if path:
                 (bin_folder / name).symlink_to(path)
@@ -355,6 +369,17 @@ class RefusedLines(Scripts):
         """It is refused before anything is compiled."""
         self.stand_in(*(f"riscv64-unknown-elf-{it}" for it in COMPILERS), "make", "apt-get")
         self.need_one_line(line)
+
+    def test_no_network(self) -> None:
+        """What apt-get can't fetch can be named."""
+        self.stand_in(*(f"riscv64-unknown-elf-{it}" for it in COMPILERS), "make", "apt-get")
+        script = ("#!/bin/sh\ncase $1 in indextargets) echo Debian main http://none.invalid/debian bookworm ;; "
+                  "*) exit 100 ;; esac\n")
+        (self.folder / "bin" / "apt-get").write_text(script, encoding="ascii")
+        done = ran([KIT / "build-musl", "--to", "made"], environment={"PATH": str(self.folder / "bin")})
+        self.need("status", 1, done.returncode)
+        self.assertRegex(done.stderr.decode(), "\\A(.*\n)?build-musl: apt-get can't fetch the source of musl from trixie "
+                         r"\(.*/apt\.log\)\. With its files at hand: build-musl musl_1\.2\.5\.orig\.tar\.gz\n\Z")
 
 
 @rows(MISSING_LINES, "miss")

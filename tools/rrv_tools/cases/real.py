@@ -2,8 +2,8 @@
 
 Expected values: what the same source prints on the same input, built by the machine's own compiler.
 
-`examples/real/try` fetches a source, builds it twice, runs it, records it, verifies and replays it. Only `./check --real`
-does. Without the source, or a program that a recipe needs, a case is left out.
+`examples/real/try` fetches a source, builds it twice, runs it, records it, verifies and replays it. Only `./check
+--real` does. Without the source, or a program that a recipe needs, a case is left out.
 """
 import os
 import re
