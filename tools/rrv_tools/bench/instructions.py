@@ -5,8 +5,8 @@ usage: tools/run bench instructions [--arithmetic N] [--memory N] [--mixed N] [-
 
 Each guest of bench/guests is built with few turns and with more (riscv64-unknown-elf-gcc, with the flags in programs.py
 and -DTURNS=N); each program runs both, and what the few take is taken off: the start of the process, the opening of the
-guest, and the decoding of its pages. It fails if rrv's step takes more than N for a guest's instruction (22, 31 and
-26).
+guest, and the decoding of its pages. It fails if rrv's step takes more than N for a guest's instruction (21, 30 and
+25).
 
 The last rows are of `rrv record --quantum 64`, a slice and a record for each 64 instructions, by all threads of the
 process: of the program that stands, and with --old of another rrv, as one that was built before. Threads that wait for
@@ -25,7 +25,7 @@ from rrv_tools.bench.programs import build, build_guest, build_plain
 from rrv_tools.program import Word
 
 # A guest, its few turns, its more turns, and the bound.
-GUESTS = [("arithmetic", 1_000, 51_000, 22), ("memory", 1_000, 51_000, 31), ("mixed", 1, 2, 26)]
+GUESTS = [("arithmetic", 1_000, 51_000, 21), ("memory", 1_000, 51_000, 30), ("mixed", 1, 2, 25)]
 # The bounds with slices of 64, in that order.
 MOST_64, RUNS_64 = [114, 96, 92], 3
 STEP, SLICES, OLD = "rrv, step", "rrv, 64", "old rrv, 64"
