@@ -27,12 +27,18 @@ NEIGHBOURS = {
     "To add a record kind": r"(?i)\bstuck\b",
     "To add a command": "|".join(BACK),
 }
-# Where a spelling means something else: the command's cursor has moves of its own, and goes back in a library.
-OTHERS = {"To add a command": r"(crates/(reverse_step|replay_cases|session_tests)|tools/rrv_tools/makers)/"}
+# Where a spelling means something else: the command's cursor has moves of its own, and goes back in a library; and
+# programs over a C library only use the neighbour, as any program does.
+OTHERS = {
+    "To add a call": r"(examples/musl/t(ests/|our)|tools/rrv_tools/cases/kit)",
+    "To add a record kind": r"tools/rrv_tools/cases/musl",
+    "To add a command": r"(crates/(reverse_step|replay_cases|session_tests)|tools/rrv_tools/makers)/",
+}
 # What is looked through, and what is passed over: this tool, its tests, and pages that list no neighbour's files.
 TOPS = ("bench", "check", "crates", "docs", "examples", "README.md", "tools")
 PAGES = ("ARCHITECTURE", "BUILDING", "DECISIONS", "GUIDE", "MENDING", "PROOFS", "SPEED")
 PASSED = {*(f"docs/{it}.md" for it in PAGES), "examples/hunt/README.md", "examples/hunt/rrv-hunt.1"}
+PASSED |= {"examples/musl/README.md"}
 PASSED |= {"tools/rrv_tools/prover/places.py", "tools/rrv_tools/tests/test_looks.py"}
 COMMENTS = {".rt": r"(?m)^\s*//.*", ".antt": r"(?m)^\s*--.*"}
 
