@@ -17,7 +17,7 @@ from rrv_tools.tests.repository import ROOT, Done, InRepository
 from rrv_tools.tests.test_release import BUILT, PROGRAM, SOURCE, sum_of
 
 PACKAGE, FROM, RELEASE = "tools/rrv_tools", "release/FROM", "release/rrv"
-MODULES = ("check", "gate", "jobs", "musl", "program", "testing")
+MODULES = ("check", "gate", "jobs", "musl", "preload", "program", "testing")
 # Has a command of the toolchain do this for `rt ci`.
 RT = "#!/bin/sh\ncase $1 in\nversion) echo 'kit-1 logic 5eed' ;;\nci) echo proving\n{} ;;\nesac\n"
 WELL = "echo '3 passed, 0 failed'"

@@ -6,7 +6,7 @@ from rrv_tools.tests.repository import ROOT, Done, InRepository
 PACKAGE, PAGE = "tools/rrv_tools", "docs/TESTS.md"
 SMALL, MANY = f"{PACKAGE}/cases/small.py", f"{PACKAGE}/cases/many.py"
 # The tool, and what it stands on.
-MODULES = ("check", "gate", "jobs", "musl", "program", "testing", "tests_page")
+MODULES = ("check", "gate", "jobs", "musl", "preload", "program", "testing", "tests_page")
 FILES = {
     PAGE: "# Tests\n\nAbove.\n\n<!-- tools/run tests_page --write makes this of the docstrings of modules -->\n"
           "<!-- and this is its end -->\n\nBelow.\n",
