@@ -59,7 +59,8 @@ _rrv() {
         --input | --choices) _rrv_files && return ;;
         --then) _rrv_words 'turns none' && return ;;
         --at) _rrv_words end && return ;;
-        --quantum | --every | --seed | --name | --limit | --times | --memory | :) return ;;
+        --every) _rrv_words auto && return ;;
+        --quantum | --seed | --name | --limit | --times | --memory | :) return ;;
     esac
     if [[ $word == -* ]]; then
         _rrv_words "$options"

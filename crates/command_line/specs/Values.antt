@@ -10,6 +10,8 @@ use Rattle.clap.specs.declared.parser.matches.ArgMatches.{ArgMatches}
 use Rattle.rrv_model.specs.Opening.{IsName}
 use Rattle.command_line.specs.declared.request.DumpForm.{DumpForm}
 use Rattle.command_line.specs.declared.request.DumpForm.TheVariants as forms
+use Rattle.command_line.specs.declared.request.Every.{Every}
+use Rattle.command_line.specs.declared.request.Every.TheVariants as everys
 use Rattle.command_line.specs.declared.request.GuestOf.{GuestOf}
 use Rattle.command_line.specs.declared.request.MemoryRange.{MemoryRange}
 use Rattle.command_line.specs.declared.request.Place.{Place}
@@ -47,6 +49,11 @@ pub record IsAddress (text : Text) (n : ℕ) : Type 0 where
 pub record IsMemoryRange (text : Text) (range : MemoryRange) : Type 0 where
   pub address : IsAddress (before_first (λ c. c == 58) text) range.address
   pub length_is : IsNumberIn 1 65536 (after_first (λ c. c == 58) text) range.length
+
+-- decimal digits that write a number of instructions, which 32 bits hold, or `auto`
+abbrev pub IsEvery : Text → Every → Type 0
+IsEvery text (everys.Instructions n) = IsNumberIn 0 4294967295 text n
+IsEvery text everys.Auto = text ≡ codes "auto"
 
 -- what follows the last of the choices
 abbrev pub IsThen : Text → Then → Type 0
@@ -96,6 +103,9 @@ texts_of name rows = unwrap_or (all_of name rows) []
 abbrev pub HasMemory : List Row → List MemoryRange → Type 0
 HasMemory rows ranges = AllZip IsMemoryRange (texts_of (codes "memory") rows) ranges
 
+abbrev pub HasEvery : List Row → Every → Type 0
+HasEvery rows = HasWritten IsEvery rows (codes "every")
+
 abbrev pub HasThen : List Row → Then → Type 0
 HasThen rows = HasWritten IsThen rows (codes "then")
 
@@ -133,7 +143,7 @@ pub record NamesRecording (rows : List Row) (r : Recording) : Type 0 where
   pub store : HasText rows (codes "STORE") r.store.now
   pub files : all_of (codes "ELF") rows ≡ Some (map (λ s. s.now) r.files.items)
   pub quantum : HasNumberIn 64 1048576 rows (codes "quantum") r.quantum
-  pub every : HasNumberIn 0 4294967295 rows (codes "every") r.every
+  pub every : HasEvery rows r.every
   pub input : HasOption rows (codes "input") r.input
   pub seed : HasOption rows (codes "seed") r.seed
   pub names : HasNames rows (map (λ s. s.now) r.names.items)

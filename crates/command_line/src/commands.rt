@@ -17,7 +17,7 @@ use clap::{ArgMatches, Command};
 use std::alloc::{AllocError, Global};
 
 /// The version of the program.
-const VERSION: &str = "0.2.0";
+const VERSION: &str = "0.3.0";
 
 const STORE: Argument = Argument::Needed("STORE", "the file of the store");
 
@@ -58,7 +58,7 @@ const SUBCOMMANDS: &[Subcommand] = &[
                 "every",
                 "N",
                 "1048576",
-                "instructions between checkpoints, 0 for none",
+                "instructions between checkpoints, 0 for none; auto: as what they cost says",
             ),
             Argument::Optional(
                 "input",

@@ -39,6 +39,6 @@ pub use commands::program;
 pub use digits::{BadSeed, seed};
 pub use lines::{help, line};
 pub use request::{
-    DumpForm, GuestOf, MemoryRange, Place, Question, Recording, Request, Then, Watched,
+    DumpForm, Every, GuestOf, MemoryRange, Place, Question, Recording, Request, Then, Watched,
 };
 pub use unread::Wanted;

@@ -94,7 +94,7 @@ fn asked_help(alloc: Global, words: &[&str]) -> Result<Error, AllocError>
 /// No word at all asks for the demonstration. A word that the command line doesn't have, or lacks, and a call for help or the
 /// version, are the parser's error, whose text says so. So is a value that its argument can't have: GUEST, N and the places
 /// FROM, T and AT are decimal and have 64 bits, or a place is `end`; `--quantum` lies from 64 to 1,048,576, `--every` from 0 to
-/// 4,294,967,295; `--limit` has 64 bits; ADDR has 1 to 8 hexadecimal digits, with `0x` before them or not, and LEN lies from 1
+/// 4,294,967,295, or is `auto`; `--limit` has 64 bits; ADDR has 1 to 8 hexadecimal digits, with `0x` before them or not, and LEN lies from 1
 /// to 65,536; `--then` is `turns` or `none`; a name is 1 to 32 visible characters of ASCII, fewer by two behind which places
 /// stand. So are `--choices` and `--name` given neither once nor once for each program, `replay` with `--memory` and no `--at`,
 /// and `dump` with both `--places` and `--trace-events`.

@@ -1,10 +1,11 @@
 //! The numbers of a line.
 
 ghost use Rattle.std.specs.Prelude.{◌≡◌, ℕ, IfSome, None};
-ghost use Rattle.command_line.specs.Values.{IsAddress, IsNumberIn, IsPlace, without_0x};
+ghost use Rattle.command_line.specs.Values.{IsAddress, IsEvery, IsNumberIn, IsPlace, without_0x};
+ghost use Rattle.command_line.specs.declared.request.Every.{Every};
 ghost use Rattle.command_line.specs.declared.request.Place.{Place};
 
-use crate::request::Place;
+use crate::request::{Every, Place};
 
 /// The number that decimal digits write, with a plus before them or none; None where they write none within the bounds.
 pub(crate) fn number_in(text: &str, least: u64, most: u64) -> Option<u64>
@@ -39,6 +40,20 @@ pub(crate) fn address_in(text: &str) -> Option<u32>
     match u32::from_str_radix(digits, 16) {
         Ok(address) => Some(address),
         Err(_) => None,
+    }
+}
+
+/// How far apart checkpoints are to be, which decimal digits or `auto` write; None where a text is no such.
+pub(crate) fn every_in(text: &str) -> Option<Every>
+    ensures some { IfSome result (IsEvery text.now) }
+    ensures none { result ≡ None → (every : Every) → IsEvery text.now every → ⊥ }
+{
+    if text == "auto" {
+        return Some(Every::Auto);
+    }
+    match number_in(text, 0, u64::from(u32::MAX)) {
+        Some(number) => Some(Every::Instructions(number as u32)),
+        None => None,
     }
 }
 

@@ -10,7 +10,7 @@ ghost use Rattle.command_line.specs.Values.{longest_name, rows_in};
 use crate::request::Recording;
 use crate::unread::{Unread, Wanted};
 use crate::values::{
-    flag, number, number_or_none, several_or_none, text, text_or_none, texts, then,
+    every, flag, number, number_or_none, several_or_none, text, text_or_none, texts, then,
 };
 use clap::ArgMatches;
 use rrv_model::name::is_name;
@@ -119,7 +119,7 @@ pub(crate) fn recording<'a>(
 {
     let store = text(values, "STORE")?;
     let quantum = number_of_32_bits(values, "quantum", 64, 1_048_576)?;
-    let every = number_of_32_bits(values, "every", 0, 4_294_967_295)?;
+    let every = every(values)?;
     let then = then(values)?;
     let limit = number_or_none(values, "limit")?;
     let files = files(alloc, values)?;

@@ -149,6 +149,15 @@ pub struct GuestOf<'a> {
     pub number: u64,
 }
 
+/// How far apart checkpoints are to be.
+#[derive(Clone, Copy, Debug, PartialEq, Eq)]
+pub enum Every {
+    /// So many instructions. 0: there are none.
+    Instructions(u32),
+    /// As far as what they cost says.
+    Auto,
+}
+
 /// What is to be recorded, and how.
 #[derive(Drop)]
 pub struct Recording<'a> {
@@ -157,8 +166,7 @@ pub struct Recording<'a> {
     pub files: Vec<&'a str>,
     /// How many instructions a slice runs at most, 64 to 1,048,576.
     pub quantum: u32,
-    /// How many instructions lie between two checkpoints; 0 for none.
-    pub every: u32,
+    pub every: Every,
     /// The file that each guest reads.
     pub input: Option<&'a str>,
     /// The seed of random bytes, as it was given.

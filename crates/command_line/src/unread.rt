@@ -59,6 +59,8 @@ pub enum Wanted {
     Name { most: usize },
     /// One of the two that `--then` can have.
     Then,
+    /// What `--every` can have.
+    Every,
 }
 
 impl Display for Wanted {
@@ -76,6 +78,7 @@ impl Display for Wanted {
             Wanted::Command => f.write_str("a command"),
             Wanted::Name { most } => write!(f, "1 to {most} characters from ! to ~"),
             Wanted::Then => f.write_str("turns or none"),
+            Wanted::Every => f.write_str("a number from 0 to 4294967295, or auto"),
         }
     }
 }

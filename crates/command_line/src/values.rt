@@ -3,11 +3,11 @@
 ghost use Rattle.std.specs.Prelude.{◌≡◌, if◌then◌else◌, map, option_map};
 ghost use Rattle.clap.specs.Words.{all_of};
 ghost use Rattle.command_line.specs.Unread.{Reads, ReadsAs};
-ghost use Rattle.command_line.specs.Values.{HasAddress, HasFlag, HasForm, HasNumberIf, HasNumberIn, HasOption, HasPlace, HasText, HasThen};
+ghost use Rattle.command_line.specs.Values.{HasAddress, HasEvery, HasFlag, HasForm, HasNumberIf, HasNumberIn, HasOption, HasPlace, HasText, HasThen};
 ghost use Rattle.command_line.specs.Values.{HasWatched, NamesGuest, rows_in, texts_of};
 
-use crate::numbers::{address_in, number_in, place_in};
-use crate::request::{DumpForm, GuestOf, Place, Then, Watched};
+use crate::numbers::{address_in, every_in, number_in, place_in};
+use crate::request::{DumpForm, Every, GuestOf, Place, Then, Watched};
 use crate::unread::{Unread, Wanted};
 use clap::ArgMatches;
 
@@ -132,6 +132,21 @@ pub(crate) fn watched<'a>(values: &ArgMatches<'a>) -> Result<Watched, Unread<'a>
         address: first,
         count,
     })
+}
+
+/// How far apart checkpoints are to be.
+pub(crate) fn every<'a>(values: &ArgMatches<'a>) -> Result<Every, Unread<'a>>
+    ensures { Reads (HasEvery (rows_in values.now)) result }
+{
+    let text = text(values, "every")?;
+    match every_in(text) {
+        Some(every) => Ok(every),
+        None => Err(Unread::Bad {
+            name: "every",
+            text,
+            wanted: Wanted::Every,
+        }),
+    }
 }
 
 /// What follows the last of the choices.

@@ -8,9 +8,10 @@ ghost use Rattle.recover.specs.Opened.{IsOpened, IsRead, IsReady};
 ghost use Rattle.recover.specs.Spots.{records_of};
 ghost use Rattle.trace_log.specs.Committed.{HasMarked};
 ghost use Rattle.line_io.specs.Stores.{IsFailed, ReadsStore, RefusesMark, RefusesStore};
+ghost use Rattle.line_io.specs.Told.{read_told};
 
 use crate::refusal::Refusal;
-use recover::{Lists, open, read, settle};
+use recover::{Lists, ReadFault, open, read, settle};
 use rrv_model::record::Record;
 use std::alloc::Global;
 use std::fs::File;
@@ -141,8 +142,9 @@ pub fn record_in<D: Disk>(
     index: u32,
 ) -> Result<Record, Refusal>
     requires { index < length (of_guest guest (records_of lists.now)) }
-    ensures { ReadsStore D.Disk lists.now result disk.old disk.new
+    ensures read { ReadsStore D.Disk lists.now result disk.old disk.new
         (λ r. slice_get (of_guest guest (records_of lists.now)) index ≡ Some r) }
+    ensures told { IfErr result (λ e. (fault : ReadFault) × (e ≡ read_told index fault)) }
 {
     match lists.item(alloc, disk, guest, index) {
         Ok(entry) => Ok(entry),

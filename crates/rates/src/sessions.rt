@@ -5,7 +5,7 @@ use crate::words::number_and_file;
 use recorder::MemSink;
 use rrv_model::machine::Version;
 use serial_sched::RoundRobin;
-use session::{Job, OpenGate, SessionReport, record_all};
+use session::{Every, Job, OpenGate, SessionReport, record_all};
 use std::alloc::Global;
 use std::io;
 use std::rt::Files;
@@ -40,7 +40,7 @@ fn jobs_of(
             elf: Vec::from_slice(alloc, elf).ok()?,
             name: Vec::from_slice(alloc, b"g").ok()?,
             random: [0; 16],
-            every: 0,
+            every: Every::Instructions(0),
             chooser: RoundRobin::new(QUANTUM),
             outside: Nothing,
             sink: MemSink::new(alloc),

@@ -39,7 +39,7 @@ released_more old new put seen same seen_is rises low leaves out has = record {
 
 pub keeps_none : (r : GuestRecorder) → KeepsMade r r
 keeps_none r =
-    record { made_is = refl; guest = refl; group = refl; place = refl; here = refl; checkpoints = (refl, refl); deadlines = (refl, refl) }
+    record { made_is = refl; guest = refl; group = refl; place = refl; here = refl; checkpoints = (refl, refl, refl); deadlines = (refl, refl) }
 
 pub keeps_both : (a b c : GuestRecorder) → KeepsMade a b → KeepsMade b c → KeepsMade a c
 keeps_both a b c h k = record {
@@ -48,7 +48,11 @@ keeps_both a b c h k = record {
   group = k.group ∙ h.group;
   place = k.place ∙ h.place;
   here = k.here ∙ h.here;
-  checkpoints = (k.checkpoints.0 ∙ h.checkpoints.0, k.checkpoints.1 ∙ h.checkpoints.1);
+  checkpoints = (
+    k.checkpoints.0 ∙ h.checkpoints.0,
+    k.checkpoints.1 ∙ h.checkpoints.1,
+    k.checkpoints.2 ∙ h.checkpoints.2,
+  );
   deadlines = (k.deadlines.0 ∙ h.deadlines.0, k.deadlines.1 ∙ h.deadlines.1);
 }
 

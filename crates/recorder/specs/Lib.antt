@@ -1,6 +1,7 @@
 pub mod Recorded
 pub mod Told
 pub mod Owed
+pub mod Gaps
 pub mod Checkpoints
 pub mod Deadlines
 pub mod Recorders

@@ -18,6 +18,7 @@ use Rattle.rrv_model.specs.Checkpoint.{EndsWithRest, all_pages}
 use Rattle.recorder.specs.declared.checkpoints.Parts.{Parts}
 use Rattle.recorder.specs.declared.checkpoints.Parts.TheVariants as outcomes
 use Rattle.recorder.specs.Checkpoints.{IsDue}
+use Rattle.recorder.specs.Gaps.{gap_behind}
 use Rattle.rrv_model.specs.declared.record.Opening.{Opening}
 use Rattle.outcomes.specs.Failures.{HasFailed}
 use Rattle.rrv_model.specs.Ends.{call_in}
@@ -27,6 +28,7 @@ use Rattle.rrv_model.specs.Recording.{frame_record, items_of}
 use Rattle.rrv_model.specs.RecordText.{HasText}
 use Rattle.rrv_model.specs.Recovered.{OpensAtZero}
 use Rattle.rrv_model.specs.State.{State, thread_at, IsRunning}
+use Rattle.rrv_model.specs.Memory.{page_count}
 use Rattle.rrv_model.specs.Step.{ThreadMayTakeMemory}
 use Rattle.guest_calls.specs.declared.put.Put.{Put}
 use Rattle.guest_calls.specs.Asking.{Clock}
@@ -134,7 +136,7 @@ Notes gives tid s old clock new clock' before after = MatchOption (began tid s)
 
 -- checkpoints are as far apart, and the last is the same
 abbrev pub KeepsCheckpoints : GuestRecorder → GuestRecorder → Type 0
-KeepsCheckpoints old new = (new.every ≡ old.every) × (new.last ≡ old.last)
+KeepsCheckpoints old new = (new.every ≡ old.every) × (new.gap ≡ old.gap) × (new.last ≡ old.last)
 
 -- the deadlines are the same, and the last answer of the clock
 abbrev pub KeepsDeadlines : GuestRecorder → GuestRecorder → Type 0
@@ -168,17 +170,23 @@ pub record NamesWhatChanged (old : GuestRecorder) (parts : List Part) : Type 0 w
   pub behind : StandsBehind (items_of (made old)) base [] (state_of old.guest)
   pub changes : NamesChanges base.memory (state_of old.guest).memory (all_pages parts)
 
+-- the next checkpoint is as far behind that at the guest's place as its parts say
+abbrev pub BeginsGap : GuestRecorder → List Part → (gap last : ℕ) → Type 0
+BeginsGap old parts gap last = (gap ≡ gap_behind old.every parts (page_count (state_of old.guest).memory)) × (last ≡ old.guest.ran)
+
 -- what became of the parts of a checkpoint: these were kept, all of one, where one was due, or none
-abbrev pub TellsParts : Parts → GuestRecorder → List Part → ℕ → Type 0
-TellsParts outcomes.NotDue old parts last = ¬ IsDue old.every old.last old.guest × (parts ≡ []) × (last ≡ old.last)
-TellsParts outcomes.Kept old parts last = IsDue old.every old.last old.guest
-    × ((rest : CheckpointRest) × EndsWithRest parts rest) × (last ≡ old.guest.ran) × NamesWhatChanged old parts
-TellsParts outcomes.LeftOut old parts last = IsDue old.every old.last old.guest × (parts ≡ []) × (last ≡ old.last)
+abbrev pub TellsParts : Parts → GuestRecorder → List Part → (gap last : ℕ) → Type 0
+TellsParts outcomes.NotDue old parts gap last =
+    ¬ IsDue old.gap old.last old.guest × (parts ≡ []) × (gap ≡ old.gap) × (last ≡ old.last)
+TellsParts outcomes.Kept old parts gap last = IsDue old.gap old.last old.guest
+    × ((rest : CheckpointRest) × EndsWithRest parts rest) × BeginsGap old parts gap last × NamesWhatChanged old parts
+TellsParts outcomes.LeftOut old parts gap last =
+    IsDue old.gap old.last old.guest × (parts ≡ []) × (gap ≡ old.gap) × (last ≡ old.last)
 
 -- Parts were made as this tells. The guest stays, and what had left.
 pub record KeepsParts (old : GuestRecorder) (outcome : Parts) (new : GuestRecorder) : Type 0 where
   pub parts : List Part
-  pub told : TellsParts outcome old parts new.last
+  pub told : TellsParts outcome old parts new.gap new.last
   pub made_is : made new ≡ made old ++ part_records old parts
   pub seat : new.seat ≡ old.seat
   pub released : new.owed.released ≡ old.owed.released

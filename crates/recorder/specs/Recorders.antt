@@ -13,21 +13,23 @@ use Rattle.commit_group.specs.Numbers.{base}
 use Rattle.commit_group.specs.Reports.{HasEnded}
 use Rattle.commit_group.specs.Seats.{FlusherValue, RecorderValue}
 use Rattle.recorder.specs.declared.checkpoints.Checkpoints.{Checkpoints}
-use Rattle.recorder.specs.Checkpoints.{KeepsBase, every_of, last_of}
+use Rattle.recorder.specs.declared.every.Every.{Every}
+use Rattle.recorder.specs.Checkpoints.{KeepsBase, every_of, gap_of, last_of}
 use Rattle.recorder.specs.Deadlines.{AreDeadlinesOf}
 use Rattle.recorder.specs.Owed.{Owed, left_of}
 use Rattle.recorder.specs.Recorded.{IsRecorded}
 
 -- A guest's recorder: its seat, the records that it made and didn't send, the output that waits, and the guest. The guest
--- of each record is the place in the group. Then how many instructions lie between two checkpoints at the least, or 0 where
--- there are none, and how many had run at the last one, or at the start. Then the deadlines of its waits, and the last answer
--- of the monotonic clock, in nanoseconds, or 0 before the first.
+-- of each record is the place in the group. Then how far apart checkpoints are, how many instructions lie behind the last one, or
+-- the start, at the least, or 0 where there are none, and how many had run there. Then the deadlines of its waits, and the last
+-- answer of the monotonic clock, in nanoseconds, or 0 before the first.
 pub record GuestRecorder : Type 0 where
   pub seat : RecorderValue
   pub backlog : List Record
   pub owed : Owed
   pub guest : GuestValue
-  pub every : ℕ
+  pub every : Every
+  pub gap : ℕ
   pub last : ℕ
   pub deadlines : List (ℕ × ℕ)
   pub clock : ℕ
@@ -71,6 +73,7 @@ recorder_of seat items owed guest checkpoints deadlines clock = record {
   owed = owed;
   guest = guest;
   every = every_of checkpoints;
+  gap = gap_of checkpoints;
   last = last_of checkpoints;
   deadlines = deadlines;
   clock = clock;

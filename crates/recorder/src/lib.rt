@@ -18,7 +18,7 @@
 //!   a thread began a wait with a timeout the clock is asked once more. There is a deadline of each such wait, and no other.
 //!   What was made is again a recording, which ends in the guest's state, so that the parts describe just that state. It
 //!   returns `Kept` or `LeftOut` exactly if a checkpoint is due: the guest has not ended, and has run as many instructions as
-//!   were asked for since the last checkpoint or the start. At `Kept` all parts of one were made, at `LeftOut` and `NotDue`
+//!   are to lie behind the last checkpoint or the start: as were asked for, or by what that checkpoint cost (`Every`). At `Kept` all parts of one were made, at `LeftOut` and `NotDue`
 //!   none. The parts name exactly the pages that differ from those of the last complete checkpoint, or of the start, each with
 //!   the lines that do. That `LeftOut` comes only for want of memory or of indexes is in no contract; a test sees the parts.
 //!   `Full` comes only if a record waits to be sent, `TooManyRecords` only at 4,294,967,295 of them, and what `slice` refuses
@@ -42,17 +42,21 @@
 
 mod checkpoints;
 mod deadlines;
+mod every;
 mod fault;
 mod mem_sink;
 mod outputs;
+mod pause;
 mod recorder;
 mod world;
 
 pub use checkpoints::Parts;
 pub use deadlines::due_is_earliest;
+pub use every::Every;
 pub use fault::RecorderFault;
 pub use mem_sink::MemSink;
 pub use outputs::Outputs;
+pub use pause::Pause;
 pub use recorder::Recorder;
 pub use world::{
     output_is_of_durable_records, releases_are_events, sends_are_events, settles_are_events,

@@ -10,6 +10,10 @@ use Rattle.rrv_model.specs.declared.machine.Version.{Version}
 use Rattle.rrv_model.specs.declared.machine.Version.TheVariants.{One, Two}
 use Rattle.rrv_model.specs.declared.record.Choice.{Choice}
 use Rattle.session.specs.declared.job.Job.{Job}
+use Rattle.recorder.specs.declared.every.Every.{Every}
+use Rattle.recorder.specs.declared.every.Every.TheVariants as everys
+use Rattle.command_line.specs.declared.request.Every.{Every as Asked}
+use Rattle.command_line.specs.declared.request.Every.TheVariants as asked
 use Rattle.recording.specs.declared.shared.Shared.{Shared}
 use Rattle.recording.specs.declared.names.Names.{Names}
 use Rattle.recording.specs.Limits.{Limit}
@@ -22,7 +26,7 @@ pub record Terms : Type 0 where
   pub seed : List ℕ
   pub names : Names
   pub quantum : ℕ
-  pub every : ℕ
+  pub every : Every
   pub choices : List (List Choice)
   pub after : Then
   pub limit : Option ℕ
@@ -42,6 +46,11 @@ terms_of shared = record {
   after = shared.then;
   limit = shared.limit;
 }
+
+-- how far apart checkpoints are, by what the line asks for
+abbrev pub distance_of : Asked → Every
+distance_of (asked.Instructions n) = everys.Instructions n
+distance_of asked.Auto = everys.Auto
 
 -- guests are of version 2 in a store that holds the Mark, and of version 1 in any other
 abbrev pub version_in : (marked : Bool) → Version

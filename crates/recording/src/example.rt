@@ -8,6 +8,7 @@ use command_line::Then;
 use elf_load::Image;
 use line_io::{Refusal, Store, image_of, opened};
 use rrv_model::machine::Version;
+use session::Every;
 use std::alloc::Global;
 use std::io::Write;
 use std::sync::Wait;
@@ -50,7 +51,7 @@ pub fn record_example<
             count: 1,
         },
         quantum: QUANTUM,
-        every: 0,
+        every: Every::Instructions(0),
         choices: &[],
         then: Then::Turns,
         limit: None,

@@ -1,6 +1,6 @@
 //! A schedule that ends at a limit of instructions.
 
-ghost use Rattle.std.specs.Prelude.{◌≡◌, ◌↔◌, ◌≤◌, false, max, min, None};
+ghost use Rattle.std.specs.Prelude.{◌≡◌, ◌↔◌, ◌≤◌, IfOk, false, length, max, min, None};
 ghost use Rattle.serial_sched.specs.Slices.{IsQuantum};
 ghost use Rattle.recording.specs.Limits.{ChoosesWithin, IsOver};
 
@@ -120,9 +120,11 @@ fn shortened(choice: Choice, left: u64) -> Choice
 }
 
 /// How many instructions each guest of a recording has run, by its place on the line.
-pub(crate) fn counts(alloc: Global) -> Result<Vec<AtomicU64>, AllocError> {
+pub(crate) fn counts(alloc: Global) -> Result<Vec<AtomicU64>, AllocError>
+    ensures { IfOk result (λ counts. length counts.items ≡ MAX_GUESTS) }
+{
     let mut counts = Vec::new(alloc);
-    for _ in 0..MAX_GUESTS {
+    while counts.len() < MAX_GUESTS as usize {
         counts.push(AtomicU64::new(0))?;
     }
     Ok(counts)

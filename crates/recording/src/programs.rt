@@ -4,7 +4,7 @@ ghost use Rattle.std.specs.Prelude.{◌≡◌, false, true, IfErr, IfOk, List, M
 ghost use Rattle.rrv_model.specs.declared.record.Record.{Record};
 ghost use Rattle.serial_sched.specs.Slices.{IsQuantum};
 ghost use Rattle.session.specs.Sessions.{IsLeft};
-ghost use Rattle.recording.specs.Jobs.{terms_of, version_in};
+ghost use Rattle.recording.specs.Jobs.{distance_of, terms_of, version_in};
 ghost use Rattle.recording.specs.Recorded.{HasRecorded};
 ghost use Rattle.line_io.specs.Stores.{RefusesMark};
 ghost use Rattle.trace_log.specs.Committed.{HasMarked};
@@ -29,7 +29,7 @@ use line_io::{
 use progress::Clearing;
 use rrv_model::machine::Version;
 use rrv_model::record::Choice;
-use session::{GuestReport, SessionFault, record_all};
+use session::{Every, GuestReport, SessionFault, record_all};
 use std::alloc::Global;
 use std::fs::File;
 use std::io::Write;
@@ -40,6 +40,16 @@ use std::thread::Threads;
 use std::time::{Clock, Instant};
 use trace_disk::{Disk, FileDisk};
 use trace_log::Log;
+
+/// How far apart checkpoints are, by what the line asks for.
+fn distance(asked: command_line::Every) -> Every
+    ensures { result ≡ distance_of asked }
+{
+    match asked {
+        command_line::Every::Instructions(count) => Every::Instructions(count),
+        command_line::Every::Auto => Every::Auto,
+    }
+}
 
 /// The seed that a line gives, or zeros.
 fn seed_of(text: Option<&str>) -> Result<[u8; 16], Refusal> {
@@ -203,7 +213,7 @@ fn record_shown<
         seed,
         names: names_of(recording),
         quantum: recording.quantum,
-        every: recording.every,
+        every: distance(recording.every),
         choices: &choices,
         then: recording.then,
         limit: recording.limit,

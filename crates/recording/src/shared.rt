@@ -6,6 +6,7 @@ use crate::names::Names;
 use command_line::Then;
 use rrv_model::machine::Version;
 use rrv_model::record::Choice;
+use session::Every;
 use std::alloc::Global;
 use std::sync::atomic::AtomicU64;
 use std::time::{Clock, Instant};
@@ -20,7 +21,7 @@ pub(crate) struct Shared<'a, R: Clock> {
     pub(crate) seed: [u8; 16],
     pub(crate) names: Names<'a>,
     pub(crate) quantum: u32,
-    pub(crate) every: u32,
+    pub(crate) every: Every,
     /// The choices of all guests, or of each; none where there are no lists.
     pub(crate) choices: &'a [Vec<Choice>],
     pub(crate) then: Then,

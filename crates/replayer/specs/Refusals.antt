@@ -14,6 +14,8 @@ use Rattle.serial_sched.specs.Follows.{FrameMeetsNoMemory}
 use Rattle.guest_calls.specs.Openings.{RefusesOpening}
 use Rattle.guest_calls.specs.declared.fault.OpeningFault.{OpeningFault}
 use Rattle.guest_calls.specs.declared.fault.OpeningFault.TheVariants as opening_faults
+use Rattle.checkpoint.specs.declared.fault.ApplyFault.{ApplyFault}
+use Rattle.checkpoint.specs.declared.fault.ApplyFault.TheVariants as apply_faults
 use Rattle.faults.specs.declared.replay.VerifyFault.{VerifyFault}
 use Rattle.faults.specs.declared.replay.VerifyFault.TheVariants as faults
 
@@ -33,6 +35,12 @@ RefusesFirst faults.Memory first = TakesMemory first
 RefusesFirst (faults.Mismatch index) first = ⊥
 RefusesFirst (faults.BadCheckpoint index) first = ⊥
 RefusesFirst (faults.Unreadable index) first = ⊥
+
+-- what is told of a checkpoint that isn't put, of which the last part is the record of this index
+abbrev pub put_told : ℕ → ApplyFault → VerifyFault
+put_told index apply_faults.BadPart = faults.BadCheckpoint index
+put_told index apply_faults.TooManyPages = faults.BadCheckpoint index
+put_told index apply_faults.Memory = faults.Memory
 
 -- the last part of a complete checkpoint
 abbrev pub IsLastPart : Item → Type 0

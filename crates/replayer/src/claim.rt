@@ -137,6 +137,9 @@ impl Claim {
             total,
             last,
         };
+        let Ok(walk) = Box::new(alloc, walk) else {
+            return Err(Memory);
+        };
         Ok(Following { walk, number, len })
     }
 }

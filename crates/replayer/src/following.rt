@@ -18,8 +18,9 @@ use std::alloc::Global;
 use std::marker::Model;
 
 /// A guest that follows its records, one after another, each verified as [`verify`](crate::verify) does.
+// Its walk is boxed: two guests take kilobytes of the stack in each function that they go through by value.
 pub struct Following {
-    pub(crate) walk: Walk,
+    pub(crate) walk: Box<Walk>,
     pub(crate) number: u32,
     /// How many records it followed.
     pub(crate) len: usize,
@@ -32,16 +33,16 @@ impl Model for Following {
     ghost Value = { FollowingValue };
 
     ghost view = { λ f. record {
-      guest = f.walk.pair.guest;
+      guest = f.walk.value.pair.guest;
       number = f.number;
       len = f.len;
-      total = f.walk.total;
-      last = f.walk.last;
-      base = f.walk.pair.base;
-      row = f.walk.parts.items;
+      total = f.walk.value.total;
+      last = f.walk.value.last;
+      base = f.walk.value.pair.base;
+      row = f.walk.value.parts.items;
     } };
 
-    ghost invariant = { λ f. f.walk.total ≤ f.len * 2 ^ 20 };
+    ghost invariant = { λ f. f.walk.value.total ≤ f.len * 2 ^ 20 };
 }
 
 // Written out: where one goes, a proof has one call, and not one for each of its parts.
@@ -64,6 +65,9 @@ impl Following {
         ensures refused { IfErr result (λ e. RefusesFirst e first.now) }
     {
         let walk = open_first(alloc, first, false)?;
+        let Ok(walk) = Box::new(alloc, walk) else {
+            return Err(VerifyFault::Memory);
+        };
         Ok(Following {
             walk,
             number: first.guest,
@@ -130,7 +134,7 @@ impl Following {
             total,
             last,
             ..
-        } = walk;
+        } = Box::into_inner(walk);
         VerifiedEnd {
             guest: pair.into_guest(),
             total,

@@ -7,7 +7,7 @@ ghost use Rattle.rrv_model.specs.State.{State};
 ghost use Rattle.guest_calls.specs.Guest.{state_of};
 ghost use Rattle.guest_calls.specs.Snapshots.{guest_snapshots};
 ghost use Rattle.serial_sched.specs.Follows.{FrameMeetsNoMemory};
-ghost use Rattle.replayer.specs.Refusals.{CheckpointRefused};
+ghost use Rattle.replayer.specs.Refusals.{CheckpointRefused, put_told};
 
 use crate::fault::VerifyFault;
 use crate::opened::put_parts;
@@ -78,6 +78,16 @@ fn is_at_rest(guest: &Guest) -> bool
     guest.ended().is_none() && guest.reservation().is_none()
 }
 
+/// Why a checkpoint isn't put, of which the last part is the record of this index.
+fn put_fault(index: usize, fault: ApplyFault) -> VerifyFault
+    ensures { result ≡ put_told index fault }
+{
+    match fault {
+        ApplyFault::BadPart | ApplyFault::TooManyPages => VerifyFault::BadCheckpoint { index },
+        ApplyFault::Memory => VerifyFault::Memory,
+    }
+}
+
 /// Puts the parts of a checkpoint, of which the last is the record of this index, onto its base.
 fn put(alloc: Global, base: &mut Guest, parts: &[Part], index: usize) -> Result<(), VerifyFault>
     ensures put { OnOk result (Describes (state_of base.old) parts.now (state_of base.new)) }
@@ -85,9 +95,7 @@ fn put(alloc: Global, base: &mut Guest, parts: &[Part], index: usize) -> Result<
 {
     match put_parts(alloc, base, parts) {
         Ok(()) => Ok(()),
-        Err(ApplyFault::Memory) => Err(VerifyFault::Memory),
-        Err(ApplyFault::BadPart) => Err(VerifyFault::BadCheckpoint { index }),
-        Err(ApplyFault::TooManyPages) => Err(VerifyFault::BadCheckpoint { index }),
+        Err(fault) => Err(put_fault(index, fault)),
     }
 }
 

@@ -1,6 +1,6 @@
 //! Where the records of a guest come from, one at a time.
 
-ghost use Rattle.std.specs.Prelude.{◌≡◌, ◌<◌, ◌↔◌, ◌||◌, ℕ, Bool, IfOk, List, Some, ⊤, length, slice_get, true};
+ghost use Rattle.std.specs.Prelude.{◌≡◌, ◌≢◌, ◌<◌, ◌↔◌, ◌||◌, ℕ, Bool, List, MatchResult, Some, ⊤, length, slice_get, true};
 ghost use Rattle.rrv_model.specs.declared.record.Record.{Record};
 ghost use Rattle.replayer.specs.Sourced.{withholds};
 
@@ -10,7 +10,7 @@ use std::alloc::Global;
 
 /// The records of a guest, given one at a time. What is promised of them is promised of an honest source alone.
 pub trait Source {
-    /// What it gives is as the contracts say.
+    /// What it gives is as the contracts say, and none of its records is damaged.
     ghost honest: { Self → Type 0 };
 
     /// The records that it stands for.
@@ -29,7 +29,8 @@ pub trait Source {
     /// The record at this place.
     fn item(&mut self, alloc: Global, index: usize) -> Result<Record, ReadFault>
         requires { index < length (records self.old) }
-        ensures record { honest self.old → IfOk result (λ r. slice_get (records self.old) index ≡ Some r) }
+        ensures record { honest self.old → MatchResult result
+            (λ r. slice_get (records self.old) index ≡ Some r) (λ e. e ≢ ReadFault.Damaged) }
         ensures records { records self.new ≡ records self.old }
         ensures honest { honest self.new ↔ honest self.old }
         ensures withheld { withheld self.new ≡ (withholds result || withheld self.old) }
@@ -38,7 +39,8 @@ pub trait Source {
     /// The record at this place, read before it is asked for. One that isn't given so is not withheld: it may be asked for yet.
     fn ahead(&mut self, alloc: Global, index: usize) -> Result<Record, ReadFault>
         requires { index < length (records self.old) }
-        ensures record { honest self.old → IfOk result (λ r. slice_get (records self.old) index ≡ Some r) }
+        ensures record { honest self.old → MatchResult result
+            (λ r. slice_get (records self.old) index ≡ Some r) (λ e. e ≢ ReadFault.Damaged) }
         ensures records { records self.new ≡ records self.old }
         ensures honest { honest self.new ↔ honest self.old }
         ensures withheld { withheld self.new ≡ withheld self.old };

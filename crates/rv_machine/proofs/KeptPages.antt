@@ -28,7 +28,7 @@ use Rattle.rv_machine.specs.declared.flow.Flow.{Flow}
 use Rattle.rv_machine.specs.declared.flow.Flow.TheVariants as flows
 use Rattle.rv_machine.specs.declared.decoded.Decoded.TheVariants.{NoInstruction}
 use Rattle.rv_machine.specs.Flows.{address_at, hart_at, stepped_of, place_after, answer_of, place_of}
-use Rattle.rv_machine.specs.Decoded.{instr_of}
+use Rattle.rv_machine.specs.Decoded.{instr_at}
 use Rattle.rv_machine.specs.Outcome.{outcome_of, KeepsAtFault}
 use Rattle.rv_machine.specs.declared.run.RunEnd.{RunEnd}
 use Rattle.rv_machine.specs.declared.run.RunEnd.TheVariants as ends
@@ -173,7 +173,7 @@ decoded_at_same m m' a decoded cells is =
     let same : word_at m' a ≡ word_at m a = rw bytes refl in
     record {
       fetches = all_same can_execute m m' a 4 cells ∙ is.fetches;
-      decodes = subst (λ (w : ℕ). Decodes w (instr_of decoded)) (sym same) is.decodes;
+      decodes = subst (λ (w : ℕ). Decodes w (instr_at a decoded)) (sym same) is.decodes;
       read_only = λ k l. ap can_write (cells k l) ∙ is.read_only k l;
     }
 
@@ -261,18 +261,19 @@ none_ends : (pc : ℕ) (flow : Flow) (old new : Hart) {space later : SpaceValue}
 none_ends pc flows.Next old new e does = let other = does.performs.0 in absurd (cc)
 none_ends pc (flows.Stored stored) old new e does = let other = does.performs.0 in absurd (cc)
 none_ends pc (flows.Jump target) old new e does = let other = does.performs.0 in absurd (cc)
+none_ends pc (flows.In to) old new e does = let other = does.performs.0 in absurd (cc)
 none_ends pc flows.Call old new e does = absurd (cc)
 none_ends pc (flows.Fault kind) old new e does = absurd (cc)
 
 -- so what goes on is one of the page's instructions
 pub goes_on_within : (page : DecodedPage) (at : ℕ) (decoded : Decoded) (flow : Flow) (result : Result Flow Refusal) (old new : Hart)
     {pc : ℕ} {space later : SpaceValue} → at ≤ 1024 → decoded ≡ slice_index_or page.instrs.items at decoded → result ≡ Ok flow →
-    stepped_of flow ≡ stepped.Next → Does pc (instr_of decoded) result old new space later → at < 1024
+    stepped_of flow ≡ stepped.Next → Does pc (instr_at pc decoded) result old new space later → at < 1024
 goes_on_within page at decoded flow result old new {pc = pc} {space = space} {later = later} high is told next does =
     elim (cases_lt at 1024) [
       | inl w ↦ w
       | inr w ↦
-          let none : instr_of decoded ≡ None = ap instr_of (end_is_none page at decoded w high is) in
+          let none : instr_at pc decoded ≡ None = ap (instr_at pc) (end_is_none page at decoded w high is) in
           absurd (none_ends pc flow old new {space = space} {later = later} next
           (subst (λ (r : Result Flow Refusal). Does pc None r old new space later) told
           (subst (λ (i : Option Instr). Does pc i result old new space later) none does)))
@@ -285,23 +286,23 @@ address_in_page number index within = omega arith
 pub address_of_pc : (number pc : ℕ) → pc % 4 ≡ 0 → pc / 4096 ≡ number → address_at number (pc % 4096 / 4) ≡ pc
 address_of_pc number pc aligned place = omega arith
 
-pub does_at : (pc place : ℕ) (instr : Option Instr) (flow : Result Flow Refusal) (old new : Hart) {space later : SpaceValue} → place ≡ pc →
-    Does place instr flow old new space later → Does pc instr flow old new space later
-does_at pc place instr flow old new {space = space} {later = later} is does =
-    subst (λ (p : ℕ). Does p instr flow old new space later) is does
+pub does_at : (pc place : ℕ) (decoded : Decoded) (flow : Result Flow Refusal) (old new : Hart) {space later : SpaceValue} → place ≡ pc →
+    Does place (instr_at place decoded) flow old new space later → Does pc (instr_at pc decoded) flow old new space later
+does_at pc place decoded flow old new {space = space} {later = later} is does =
+    subst (λ (p : ℕ). Does p (instr_at p decoded) flow old new space later) is does
 
 -- and so is the instruction at an index of a page that was decoded some steps before
 pub page_once : (n at : ℕ) (first old new : Hart) (page : DecodedPage) (decoded : Decoded) (flow : Result Flow Refusal)
     {space later : SpaceValue} → IsDecodedPage first.memory page → HartSteps n first (hart_at (page.number * 4096 + at * 4) old) →
     at < 1024 → decoded ≡ slice_index_or page.instrs.items at decoded →
-    Does (page.number * 4096 + at * 4) (instr_of decoded) flow old new space later →
+    Does (page.number * 4096 + at * 4) (instr_at (page.number * 4096 + at * 4) decoded) flow old new space later →
     StepsOnce (answer_of flow) (hart_at (page.number * 4096 + at * 4) old) (hart_at (place_of (page.number * 4096 + at * 4) flow) new)
 page_once n at first old new page decoded flow {space = space} {later = later} are steps low is does =
     let pc : ℕ = page.number * 4096 + at * 4 in
     let aligned : pc % 4 ≡ 0 = omega arith in
     let here : IsDecodedAt old.memory pc decoded =
     page_kept first.memory old.memory page (steps_keep n first (hart_at pc old) steps) are at decoded low is in
-    word_once pc old new (instr_of decoded) flow {space = space} {later = later} aligned here.fetches here.decodes does
+    word_once pc old new (instr_at pc decoded) flow {space = space} {later = later} aligned here.fetches here.decodes does
 
 -- one that goes on is one of the page's 1,024, and is one step
 pub record GoesOn (page : DecodedPage) (at : ℕ) (flow : Flow) (old new : Hart) : Type 0 where
@@ -312,10 +313,11 @@ pub record GoesOn (page : DecodedPage) (at : ℕ) (flow : Flow) (old new : Hart)
 pub goes_on_in : (n at : ℕ) (first old new : Hart) (page : DecodedPage) (decoded : Decoded) (flow : Flow) (result : Result Flow Refusal)
     {space later : SpaceValue} → IsDecodedPage first.memory page → HartSteps n first (hart_at (page.number * 4096 + at * 4) old) →
     at ≤ 1024 → decoded ≡ slice_index_or page.instrs.items at decoded → result ≡ Ok flow → stepped_of flow ≡ stepped.Next →
-    Does (address_at page.number at) (instr_of decoded) result old new space later → GoesOn page at flow old new
+    Does (address_at page.number at) (instr_at (address_at page.number at) decoded) result old new space later →
+    GoesOn page at flow old new
 goes_on_in n at first old new page decoded flow result {space = space} {later = later} are steps high is told next does =
     let within : at < 1024 = goes_on_within page at decoded flow result old new {space = space} {later = later} high is told next does in
-    let did = does_at (page.number * 4096 + at * 4) (address_at page.number at) (instr_of decoded) result old new
+    let did = does_at (page.number * 4096 + at * 4) (address_at page.number at) decoded result old new
     {space = space} {later = later} (address_in_page page.number at within) does in
     let once = page_once n at first old new page decoded result {space = space} {later = later} are steps within is did in
     record { within = within; step = (rw (told, next) at once).step }
@@ -351,7 +353,7 @@ page_read_only m is_memory number a place read_only =
 
 pub decoded_here : (m : Memory) → IsMemory m → (number k a : ℕ) (decoded : Decoded) → a ≡ number * 4096 + k * 4 → k < 1024 →
     writable m (number * 4096) 1 ≡ false →
-    executable m a 4 ≡ true → Decodes (word_at m a) (instr_of decoded) → IsDecodedAt m (number * 4096 + k * 4) decoded
+    executable m a 4 ≡ true → Decodes (word_at m a) (instr_at a decoded) → IsDecodedAt m (number * 4096 + k * 4) decoded
 decoded_here m is_memory number k a decoded e low read_only fetches decodes = subst (λ (x : ℕ). IsDecodedAt m x decoded) e (record {
   fetches = fetches;
   decodes = decodes;

@@ -96,6 +96,7 @@ pub none_stored : (result : Result Flow Refusal) (a : ℕ) → ((stored : ℕ) �
     may_change result a ≡ false
 none_stored (Ok flows.Next) a none = refl
 none_stored (Ok (flows.Jump target)) a none = refl
+none_stored (Ok (flows.In to)) a none = refl
 none_stored (Ok (flows.Stored stored)) a none = absurd (none stored refl)
 none_stored (Ok flows.Call) a none = refl
 none_stored (Ok (flows.Fault kind)) a none = refl

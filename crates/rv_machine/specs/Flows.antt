@@ -1,5 +1,5 @@
 -- What an instruction answers that is done at a place which the registers don't tell.
-use Rattle.std.specs.Prelude.{ℕ, ◌+◌, ◌*◌, min, Bool, Result, Ok, Err}
+use Rattle.std.specs.Prelude.{ℕ, ◌+◌, ◌*◌, ◌/◌, min, Bool, Result, Ok, Err}
 use Rattle.rrv_model.specs.declared.refusal.Memory.{Memory as Refusal}
 use Rattle.rrv_model.specs.Memory.{is_within}
 use Rattle.rrv_model.specs.Step.{Hart}
@@ -13,6 +13,10 @@ use Rattle.rv_machine.specs.declared.flow.Flow.TheVariants as flows
 abbrev pub address_at : ℕ → ℕ → ℕ
 address_at page index = (page * 1024 + min index 1023) * 4
 
+-- the address at an index of the page of an address
+abbrev pub entry_at : ℕ → ℕ → ℕ
+entry_at a index = a / 4096 * 4096 + index * 4
+
 -- the hart, where its next instruction is at pc
 abbrev pub hart_at : ℕ → Hart → Hart
 hart_at pc h = record h { regs = record h.regs { pc = pc } }
@@ -22,6 +26,7 @@ abbrev pub stepped_of : Flow → Stepped
 stepped_of flows.Next = stepped.Next
 stepped_of (flows.Stored stored) = stepped.Next
 stepped_of (flows.Jump target) = stepped.Next
+stepped_of (flows.In to) = stepped.Next
 stepped_of flows.Call = stepped.Call
 stepped_of (flows.Fault kind) = stepped.Fault kind
 
@@ -30,6 +35,7 @@ abbrev pub place_after : ℕ → Flow → ℕ
 place_after pc flows.Next = plus pc 4
 place_after pc (flows.Stored stored) = plus pc 4
 place_after pc (flows.Jump target) = target
+place_after pc (flows.In to) = entry_at pc to.index
 place_after pc flows.Call = plus pc 4
 place_after pc (flows.Fault kind) = pc
 

@@ -30,6 +30,7 @@ mod flow;
 mod hart;
 mod memory;
 mod page_decoding;
+mod page_index;
 mod page_slots;
 mod registers;
 mod run;

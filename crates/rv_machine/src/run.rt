@@ -156,6 +156,13 @@ fn run_page<const LEAST: usize>(
         let flow = perform::<LEAST>(regs, space, reservation, &instrs[index], number, index);
         match flow {
             Ok(Flow::Next | Flow::Stored(_)) => index += 1,
+            Ok(Flow::In(to)) if LEAST < left_at(until, index) => {
+                let entry = to.index as usize;
+                let left = left_at(until, index) - 1;
+                index = entry;
+                until = entry + left;
+                end = (entry + left).min(PAGE_INSTRS);
+            }
             Ok(Flow::Jump(target))
                 if target.wrapping_sub(base) < 4096 && LEAST < left_at(until, index) => {
                 let first = (target.wrapping_sub(base) / 4) as usize;

@@ -119,6 +119,13 @@ fn watch_page<const LEAST: usize, const CALLER: usize>(
                 look_after(watch, space, stored, count);
                 index += 1;
             }
+            Ok(Flow::In(to)) if LEAST < left_at(until, index) => {
+                let entry = to.index as usize;
+                let left = left_at(until, index) - 1;
+                index = entry;
+                until = entry + left;
+                end = (entry + left).min(PAGE_INSTRS);
+            }
             Ok(Flow::Jump(target))
                 if target.wrapping_sub(base) < 4096 && LEAST < left_at(until, index) => {
                 let first = (target.wrapping_sub(base) / 4) as usize;

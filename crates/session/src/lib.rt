@@ -79,5 +79,6 @@ pub use fault::SessionFault;
 pub use gate::{Gate, OpenGate};
 pub use job::Job;
 pub use laws::{old_guests_lose_no_choice, sessions_can_follow, starts_are_worlds};
+pub use recorder::Every;
 pub use report::{GuestReport, SessionReport};
 pub use session::record_all;

@@ -1,6 +1,7 @@
 //! When the flusher takes its turns: each commit costs the store's writes and two syncs, so records wait a little for others.
 
 use rrv_model::limits::BATCH_ITEMS;
+use std::cell::Cell;
 use std::sync::Wait;
 use std::sync::atomic::{AtomicU64, Ordering};
 use std::time::Duration;
@@ -10,6 +11,9 @@ const ENOUGH: u64 = BATCH_ITEMS as u64;
 
 /// How long the flusher sleeps at most, in milliseconds.
 const LONGEST_SLEEP: u64 = 50;
+
+/// How long a worker waits for a turn of the flusher at most, in milliseconds: then it looks whether the group has halted.
+const LONGEST_WAIT: u64 = 10;
 
 /// What the workers and the flusher tell each other of records. No contract says it, and none needs to: what a turn commits is the
 /// queue's to tell.
@@ -23,6 +27,8 @@ pub(crate) struct Pace {
     known: AtomicU64,
     /// 1 if the flusher is to take another turn, else 0. It sleeps at this word.
     hurried: AtomicU64,
+    /// How many turns committed something. Workers sleep at this word, of which the low 32 bits are looked at.
+    turns: AtomicU64,
 }
 
 impl Pace {
@@ -32,6 +38,7 @@ impl Pace {
             committed: AtomicU64::new(0),
             known: AtomicU64::new(0),
             hurried: AtomicU64::new(0),
+            turns: AtomicU64::new(0),
         }
     }
 
@@ -65,10 +72,23 @@ impl Pace {
     pub(crate) fn wait_after<R: Wait>(&self, rt: &R, records: usize) {
         let records = records as u64;
         self.committed.fetch_add(records, Ordering::SeqCst);
+        self.turns.fetch_add(1, Ordering::SeqCst);
+        self.turns.wake_all();
         if ENOUGH <= records || records < self.known.load(Ordering::SeqCst) {
             self.begin_turn();
         } else {
             self.wait(rt);
+        }
+    }
+
+    /// Sleeps until a turn has committed something, or a worker slept as long as it may; not at all if one has since the worker was here
+    /// last. `seen` is how many there were then.
+    pub(crate) fn await_turn<R: Wait>(&self, rt: &R, seen: &Cell<u64>) {
+        let turns = self.turns.load(Ordering::SeqCst);
+        if seen.replace(turns) == turns {
+            let longest = Duration::from_millis(LONGEST_WAIT);
+            self.turns
+                .park_timeout(rt, (turns % (1 << 32)) as u32, longest);
         }
     }
 

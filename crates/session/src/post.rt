@@ -5,6 +5,7 @@ ghost use Rattle.std.specs.Prelude.{◌≡◌};
 use crate::gate::Gate;
 use crate::pace::Pace;
 use guest_calls::Guest;
+use recorder::Pause;
 use rrv_model::limits::MAX_TRANSFER;
 use rrv_model::machine::Thread;
 use rrv_model::record::Choice;
@@ -35,6 +36,8 @@ pub(crate) struct Post<'s, G: Gate> {
     has_slept: Cell<bool>,
     /// What it sleeps on: nobody wakes it.
     bed: AtomicU64,
+    /// How many turns of the flusher there were when the worker last waited for one.
+    turns: Cell<u64>,
 }
 
 impl<'s, G: Gate> Post<'s, G> {
@@ -48,6 +51,7 @@ impl<'s, G: Gate> Post<'s, G> {
             puts_out: Cell::new(false),
             has_slept: Cell::new(false),
             bed: AtomicU64::new(0),
+            turns: Cell::new(u64::MAX),
         }
     }
 
@@ -98,6 +102,13 @@ impl<'s, G: Gate> Post<'s, G> {
     /// Tells the flusher that the worker waits for it.
     pub(crate) fn hurry(&self) {
         self.pace.hurry();
+    }
+}
+
+impl<G: Gate> Pause for Post<'_, G> {
+    /// Sleeps until the flusher has committed something, for 10 milliseconds at most.
+    fn pause<R: Wait>(&self, rt: &R) {
+        self.pace.await_turn(rt, &self.turns);
     }
 }
 

@@ -13,7 +13,7 @@ ghost use Rattle.session.specs.declared.rounds.WorkFault.TheVariants as work_fau
 use crate::gate::Gate;
 use crate::post::Post;
 use guest_calls::{Guest, Outside};
-use recorder::{Recorder, RecorderFault};
+use recorder::{Pause, Recorder, RecorderFault};
 use rrv_model::limits::MIN_QUANTUM;
 use rrv_model::record::Choice;
 use rrv_model::refusal::Memory;
@@ -186,7 +186,7 @@ fn send_and_release<S: Sink, G: Gate, R: Wait>(
     sent
 }
 
-/// Lets others run where no frame was made. It answers how often in a row the gate has refused.
+/// Lets others run if the gate let no step. It returns how often in a row it has refused.
 fn rest(turn: Step, held: u32) -> Result<u32, WorkFault>
     requires { held < MOST_REFUSALS }
     ensures few { IfOk result (λ count. count < MOST_REFUSALS) }
@@ -195,11 +195,7 @@ fn rest(turn: Step, held: u32) -> Result<u32, WorkFault>
 {
     match turn {
         Step::Stepped | Step::Over => Ok(0),
-        Step::Asleep => Ok(held),
-        Step::Waits => {
-            thread::yield_now();
-            Ok(held)
-        }
+        Step::Asleep | Step::Waits => Ok(held),
         Step::Held if held + 1 == MOST_REFUSALS => Err(WorkFault::Held),
         Step::Held => {
             thread::yield_now();
@@ -235,6 +231,9 @@ fn make_frames<C: Chooser, O: Outside, S: Sink, G: Gate, R: Wait>(
         if turn == Step::Asleep {
             post.sleep(rt, recorder.time_left());
         }
+        if turn == Step::Waits {
+            post.pause(rt);
+        }
         held = rest(turn, held)?;
     }
     Ok(())
@@ -260,7 +259,7 @@ pub(crate) fn drive<C: Chooser, O: Outside, S: Sink, G: Gate, R: Wait>(
 {
     make_frames(rt, alloc, recorder, chooser, outside, sink, post)?;
     post.hurry();
-    recorder.settle(rt, sink)?;
+    recorder.settle(rt, sink, post)?;
     Ok(())
 }
 
@@ -274,6 +273,6 @@ pub(crate) fn send_rest<G: Gate, R: Wait>(rt: &R, recorder: &mut Recorder, post:
         if send(rt, recorder, post).is_err() || recorder.sent() == recorder.made() {
             break;
         }
-        thread::yield_now();
+        post.pause(rt);
     }
 }

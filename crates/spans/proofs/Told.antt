@@ -91,6 +91,15 @@ asks_err source e old new known same = record {
   told = tells_err source e old new known same;
 }
 
+-- what a later call asked of a source that stood for the same records
+pub asks_on : {S X Y : Type 0} (source : Sourcing S) (e : VerifyFault) (old mid new : S) → SameSource source old mid →
+    AsksSource {X = X} source (Err e) mid new → AsksSource {X = Y} source (Err e) old new
+asks_on source e old mid new same asks = record {
+  records = asks.records ∙ same.records;
+  honest = (λ h. same.honest.0 (asks.honest.0 h), λ h. asks.honest.1 (same.honest.1 h));
+  told = tells_on source e old mid new asks.told same.withheld;
+}
+
 -- a record of the source is there still
 pub still_there : {S : Type 0} (source : Sourcing S) (old new : S) (i : ℕ) (r : Record) → SameSource source old new →
     (source.honest new → slice_get (source.records new) i ≡ Some r) → source.honest old → slice_get (source.records old) i ≡ Some r

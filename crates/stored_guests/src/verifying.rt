@@ -6,6 +6,7 @@ ghost use Rattle.rrv_model.specs.declared.record.Record.{Record};
 ghost use Rattle.rrv_model.specs.Recovered.{of_guest};
 ghost use Rattle.recover.specs.Spots.{records_of, StandOn};
 ghost use Rattle.replayer.specs.Sourced.{IsEndOf, NamesWithheld, RefusesSource};
+ghost use Rattle.replayer.specs.Asked.{AsksSource};
 ghost use Rattle.replayer.specs.Verified.{Keeps};
 ghost use Rattle.stored_guests.specs.Guests.{RefusesGuest};
 ghost use Rattle.line_io.specs.Told.{verify_told};
@@ -43,17 +44,18 @@ pub(crate) trait Kept: Sized + Drop {
     /// That it is of just these records.
     ghost is_of: { Self → List Record → Type 0 };
 
-    /// Verifies the records that a source gives, in spans side by side, and tells how far it is.
+    /// Verifies the records that a source gives, in spans side by side, by so many workers at most, and tells how far it is.
     fn verify<S: Source, W: Watch, R: Threads + Sync>(
         rt: &R,
         alloc: Global,
+        workers: usize,
         source: &mut S,
         watch: &mut W,
     ) -> Result<Self, VerifyFault>
         requires { IsSync R.row }
         ensures is_of { S.honest source.old → IfOk result (λ kept. is_of kept (S.records source.old)) }
         ensures refused { S.honest source.old → IfErr result (λ fault. RefusesSource fault (S.records source.old)) }
-        ensures names { IfErr result (NamesWithheld S.withheld_at source.new) };
+        ensures asks { AsksSource S.Source result source.old source.new };
 }
 
 impl Kept for Verified {
@@ -62,10 +64,11 @@ impl Kept for Verified {
     fn verify<S: Source, W: Watch, R: Threads + Sync>(
         rt: &R,
         alloc: Global,
+        workers: usize,
         source: &mut S,
         watch: &mut W,
     ) -> Result<Verified, VerifyFault> {
-        verify_source(rt, alloc, workers(rt), source, watch)
+        verify_source(rt, alloc, workers, source, watch)
     }
 }
 
@@ -75,10 +78,30 @@ impl Kept for VerifiedEnd {
     fn verify<S: Source, W: Watch, R: Threads + Sync>(
         rt: &R,
         alloc: Global,
+        workers: usize,
         source: &mut S,
         watch: &mut W,
     ) -> Result<VerifiedEnd, VerifyFault> {
-        verify_source_end(rt, alloc, workers(rt), source, watch)
+        verify_source_end(rt, alloc, workers, source, watch)
+    }
+}
+
+/// Verifies the records that a source gives by as many workers as there are, and by one if there is no memory for more.
+fn verify_in_memory<K: Kept, R: Threads + Sync, S: Source, W: Watch>(
+    rt: &R,
+    alloc: Global,
+    source: &mut S,
+    watch: &mut W,
+) -> Result<K, VerifyFault>
+    requires { IsSync R.row }
+    ensures is_of { S.honest source.old → IfOk result (λ kept. K.is_of kept (S.records source.old)) }
+    ensures refused { S.honest source.old → IfErr result (λ fault. RefusesSource fault (S.records source.old)) }
+    ensures names { IfErr result (NamesWithheld S.withheld_at source.new) }
+{
+    let workers = workers(rt);
+    match K::verify(rt, alloc, workers, source, watch) {
+        Err(VerifyFault::Memory) if 1 < workers => K::verify(rt, alloc, 1, source, watch),
+        result => result,
     }
 }
 
@@ -99,7 +122,7 @@ pub fn verified<K: Kept, R: Threads + Sync + Clock, S: Source, E: Write + Drop>(
 {
     let line = AtomicBool::new(false);
     let mut progress = VerifyProgress::new(rt, err, &line, all, is_shown);
-    let result = K::verify(rt, alloc, source, &mut progress);
+    let result = verify_in_memory::<K, R, S, _>(rt, alloc, source, &mut progress);
     progress.end();
     Ok(result?)
 }

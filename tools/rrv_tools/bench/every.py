@@ -1,10 +1,10 @@
 """What checkpoints cost a recording, by how much the guest writes between two and by `--every`.
 
-usage: tools/run bench every [--rounds N] [--every N,N..] [--svg FILE] [GUEST..]
+usage: tools/run bench every [--rounds N] [--every N,auto,N..] [--svg FILE] [GUEST..]
 
 Guests: `computes` counts down, 320 million instructions. `pages` stores a word in each page of 60 megabytes, 100 times,
 and `lines` one in each 64 bytes of them, 10 times. Each is recorded in memory (/dev/shm) without checkpoints and with
-those of some `--every` (1048576, 10000000 and 100000000), for N rounds (3), and the best of the processor's seconds
+those of some `--every` (1048576, 10000000, 100000000 and auto), for N rounds (3), and the best of the processor's seconds
 counts. A row has these, how many times as long as without checkpoints that is, the megabytes of the store, and those
 for a million instructions. After it is what `sha256sum` of the store takes. The first rows of a guest are `rates step`
 and qemu-riscv32, which record nothing, if they are installed. `rates` is left out if RRV_PROGRAM names the program that
@@ -27,7 +27,7 @@ from rrv_tools.bench.plots import Plot, svg
 from rrv_tools.elf import PAGE
 
 WRITTEN, LINE = 60 * MEGABYTE, 64
-EVERY = "1048576,10000000,100000000"
+EVERY = "1048576,10000000,100000000,auto"
 GUESTS: dict[str, Callable[[], Counted]] = {
     "computes": lambda: guests.computes(160 * MILLION),
     "pages": lambda: guests.stores_words(WRITTEN, PAGE, 100),
@@ -41,7 +41,7 @@ def peers(program: pathlib.Path) -> dict[str, Callable[[], Ran]]:
     return {name: functools.partial(run, *words, program) for name, words in found.items() if words}
 
 
-def print_guest(rrv: list[str], name: str, folder: pathlib.Path, every: list[int], rounds: int) -> list[float]:
+def print_guest(rrv: list[str], name: str, folder: pathlib.Path, every: list[str], rounds: int) -> list[float]:
     """Prints the rows of a guest, and returns the processor's seconds of its recordings."""
     content, count = GUESTS[name]()
     program = written(folder / f"{name}.elf", content)
@@ -50,7 +50,7 @@ def print_guest(rrv: list[str], name: str, folder: pathlib.Path, every: list[int
     take = functools.partial(recorded, rrv)
     recordings = {f"--every {it}": functools.partial(take, kept[it], program, "--every", it) for it in every}
     best = best_of(rounds, {**beside, **recordings}, processor)
-    [line] = run(*rrv, "list", kept[0]).text.splitlines()
+    [line] = run(*rrv, "list", kept["0"]).text.splitlines()
     needed(f"{name}: {line}", line.rpartition(" ")[2], f"instructions={count}")
     print(f"{name}: {count} instructions")
     bare = best["--every 0"].processor
@@ -69,10 +69,18 @@ def print_row(name: str, taken: float, bare: float, kept: pathlib.Path, count: i
     print(f"{megabytes:10.2f} MB{megabytes / count * MILLION:9.3f} a million{summed:9.3f} s sha256sum")
 
 
-def plot_of(seconds: Mapping[str, list[float]], every: list[int]) -> Plot:
-    """The seconds of each guest's recordings, from no checkpoints to the most."""
-    order = sorted(range(len(every)), key=lambda place: (every[place] > 0, -every[place]))
-    settings = [f"{every[it]:,}" if every[it] else "none" for it in order]
+def setting(every: str) -> tuple[int, int, str]:
+    """The place of an `--every` on the axis, and its name there: none, then from the fewest checkpoints to the most, then
+    auto."""
+    if every == "auto":
+        return 2, 0, every
+    return (1, -int(every), f"{int(every):,}") if int(every) else (0, 0, "none")
+
+
+def plot_of(seconds: Mapping[str, list[float]], every: list[str]) -> Plot:
+    """The seconds of each guest's recordings, by `--every`."""
+    order = sorted(range(len(every)), key=lambda place: setting(every[place]))
+    settings = [setting(every[it])[2] for it in order]
     lines = {name: [taken[it] for it in order] for name, taken in seconds.items()}
     title = "Seconds of the processor, of a recording, by --every"
     axis = "instructions between checkpoints (--every)"
@@ -86,7 +94,7 @@ def main(words: Sequence[str]) -> int:
     said = asked.parse_args(words)
     if unknown := set(said.guests) - set(GUESTS):
         asked.error(f"no such guest: {', '.join(sorted(unknown))}")
-    every, rrv = [0, *(int(it) for it in said.every.split(","))], programs.build("rrv")
+    every, rrv = ["0", *said.every.split(",")], programs.build("rrv")
     with tempfile.TemporaryDirectory(dir=MEMORY) as folder:
         at = pathlib.Path(folder)
         seconds = {name: print_guest(rrv, name, at, every, said.rounds) for name in said.guests}

@@ -7,7 +7,7 @@ use super::same;
 use super::store::{Store, marked_log};
 use commit_group::{FlusherSeat, RecorderSeat};
 use guest_calls::Outside;
-use recorder::{Parts, Recorder, RecorderFault};
+use recorder::{Every, Parts, Recorder, RecorderFault};
 use rrv_model::machine::{GuestEnd, Version};
 use rrv_model::record::Choice;
 use serial_sched::SliceFault;
@@ -517,7 +517,7 @@ fn recorder_at_last<R: Abort>(rt: &R, alloc: Global, seat: RecorderSeat) -> Resu
     requires { (seat.sent ≡ []) × (seat.has_left ≡ false) }
 {
     let opening = opening(alloc, Version::Two, &ONE_WAIT)?;
-    match Recorder::new(alloc, seat, opening, 0) {
+    match Recorder::new(alloc, seat, opening, Every::Instructions(0)) {
         Ok(recorder) => Ok(recorder),
         Err((seat, fault)) => {
             same(rt, &"new", fault, RecorderFault::Memory);

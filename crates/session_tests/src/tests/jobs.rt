@@ -5,7 +5,7 @@ use guest_calls::Put;
 use recorder::MemSink;
 use rrv_model::machine::Version;
 use serial_sched::RoundRobin;
-use session::Job;
+use session::{Every, Job};
 use std::alloc::Global;
 use std::process::Abort;
 use std::test::Fail;
@@ -57,7 +57,7 @@ pub(super) fn jobs(alloc: Global, count: u32, times: u32) -> Result<Vec<MemJob>,
             elf: file_of(alloc, &putting(place, times))?,
             name: Vec::from_slice(alloc, b"putting")?,
             random: [7; 16],
-            every: 0,
+            every: Every::Instructions(0),
             chooser: RoundRobin::new(1000),
             outside: Nothing,
             sink: MemSink::new(alloc),

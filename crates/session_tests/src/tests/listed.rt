@@ -8,7 +8,7 @@ use guest_calls::Put;
 use rrv_model::machine::Version;
 use rrv_model::record::Choice;
 use serial_sched::Listed;
-use session::{Job, OpenGate, SessionFault, record_all};
+use session::{Every, Job, OpenGate, SessionFault, record_all};
 use std::alloc::Global;
 use std::process::Abort;
 use std::sync::Wait;
@@ -41,7 +41,7 @@ pub(super) fn listed_jobs(alloc: Global, programs: &[&[u32]]) -> Result<Vec<List
             elf: file_of(alloc, program)?,
             name: Vec::from_slice(alloc, b"listed")?,
             random: [0; 16],
-            every: 0,
+            every: Every::Instructions(0),
             chooser: Listed::new(Vec::from_elem(alloc, choice, 10)?),
             outside: Nothing,
             sink: FailSink::new(alloc, 0),

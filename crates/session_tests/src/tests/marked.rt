@@ -11,7 +11,7 @@ use recover::open;
 use rrv_model::machine::{GuestEnd, Version};
 use rrv_model::record::Choice;
 use serial_sched::Listed;
-use session::{GuestReport, Job, OpenGate, record_all};
+use session::{Every, GuestReport, Job, OpenGate, record_all};
 use std::alloc::Global;
 use std::process::Abort;
 use std::sync::Wait;
@@ -134,7 +134,7 @@ fn waiting_jobs(alloc: Global) -> Result<Vec<Job<Listed, Ticking, FailSink>>, Fa
             elf: file_of(alloc, &ONE_WAIT)?,
             name: Vec::from_slice(alloc, b"waits")?,
             random: [0; 16],
-            every: 0,
+            every: Every::Instructions(0),
             chooser: Listed::new(Vec::from_elem(alloc, choice, 10)?),
             outside: Ticking { asked: 0 },
             sink: FailSink::new(alloc, 0),

@@ -9,7 +9,7 @@ ghost use Rattle.commit_group.specs.Seats.{new_flusher_seat};
 use super::same;
 use commit_group::{FlusherSeat, Group, RecorderSeat, Turn};
 use guest_calls::Guest;
-use recorder::{MemSink, Parts, Recorder, RecorderFault};
+use recorder::{Every, MemSink, Parts, Recorder, RecorderFault};
 use rrv_model::limits::MAX_ELF;
 use rrv_model::machine::Version;
 use rrv_model::record::{Choice, Opening};
@@ -79,7 +79,7 @@ pub(super) fn recorder_of_version(
     requires { (seat.sent ≡ []) × (seat.has_left ≡ false) }
 {
     let opening = opening(alloc, version, program)?;
-    match Recorder::new(alloc, seat, opening, every) {
+    match Recorder::new(alloc, seat, opening, Every::Instructions(every)) {
         Ok(recorder) => Ok(recorder),
         Err((_, fault)) => Err(fault)?,
     }

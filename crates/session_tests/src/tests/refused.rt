@@ -7,7 +7,7 @@ use super::store::{Store, contents};
 use recorder::MemSink;
 use rrv_model::machine::Version;
 use serial_sched::RoundRobin;
-use session::{Job, OpenGate, SessionFault, record_all};
+use session::{Every, Job, OpenGate, SessionFault, record_all};
 use std::alloc::Global;
 use std::process::Abort;
 use std::sync::Wait;
@@ -59,7 +59,7 @@ fn refused_jobs(alloc: Global, refused: Refused<'_>) -> Result<Vec<MemJob>, Fail
             elf,
             name: Vec::from_slice(alloc, name)?,
             random: [3; 16],
-            every: 64,
+            every: Every::Instructions(64),
             chooser: RoundRobin::new(1000),
             outside: Nothing,
             sink: MemSink::new(alloc),

@@ -16,6 +16,6 @@ loop-index-preserved g c =
     c.new.ensures c.in_ok-print_line.ensures.printed in (
       before.0,
       λ on. printed_on (λ (r : Record). with_newline (record_line r)) (of_guest c.in_ok-guest.guest (records_of c.args.lists.now))
-          c.loop-index.index c.in_ok-entry.entry _ _ _ (c.in_ok-entry.ensures.read (before.2 on)) (before.1 on) now,
-      λ on. c.in_ok-entry.ensures.on (before.2 on),
+          c.loop-index.index c.in_ok-entry.entry _ _ _ (c.in_ok-entry.ensures.read.read (before.2 on)) (before.1 on) now,
+      λ on. c.in_ok-entry.ensures.read.on (before.2 on),
     )

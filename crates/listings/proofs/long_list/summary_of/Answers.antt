@@ -21,9 +21,9 @@ loop-index-init g c = (
   omega arith,
   λ on.
       let records = of_guest c.args.guest (records_of c.args.lists.now) in
-      let first = first_added records c.in_ok-first.first c.in_ok-following.following c.new-tally.result (c.in_ok-first.ensures.read on)
+      let first = first_added records c.in_ok-first.first c.in_ok-following.following c.new-tally.result (c.in_ok-first.ensures.read.read on)
       c.in_ok-following.ensures.behind c.new-tally.ensures in
-      (first.0, first.1, c.in_ok-first.ensures.on on),
+      (first.0, first.1, c.in_ok-first.ensures.read.on on),
 )
 
 pub returns-in_err-follow-clause-refused : goal.returns-in_err-follow-clause-refused
@@ -31,7 +31,7 @@ returns-in_err-follow-clause-refused g c = λ on.
     let records = of_guest c.args.guest (records_of c.args.lists.now) in
     let before = c.loop-index.invariant in
     let behind = (before.2 on).0 in
-    let there = c.in_ok-entry.ensures.read (before.2 on).2 in
+    let there = c.in_ok-entry.ensures.read.read (before.2 on).2 in
     let index = c.loop-index.index in
     let few : index ≤ length records = omega (arith, c.loop-index-test.true, before.0) in
     let some : 1 ≤ length records = c.requires in
@@ -51,8 +51,8 @@ loop-index-preserved g c =
       λ on.
           let at = before.2 on in
           let next = added records c.loop-index.index c.in_ok-entry.entry c.follow.new.self c.loop-index.tally _
-          (c.in_ok-entry.ensures.read at.2) (c.in_ok-follow.ensures.behind (take c.loop-index.index records) at.0) at.1 (search rules) in
-          (next.0, next.1, c.in_ok-entry.ensures.on at.2),
+          (c.in_ok-entry.ensures.read.read at.2) (c.in_ok-follow.ensures.behind (take c.loop-index.index records) at.0) at.1 (search rules) in
+          (next.0, next.1, c.in_ok-entry.ensures.read.on at.2),
     )
 
 pub returns-clause-read : goal.returns-clause-read
@@ -65,7 +65,7 @@ returns-clause-read g c = λ on.
     let few : index ≤ length records = omega (arith, c.loop-index.auto.index-end, before.0, c.requires) in
     let count : index ≡ length records = omega (arith, many, few) in
     let state = state_of c.loop-index.following.guest in
-    let file = first_is records c.in_ok-first.first (c.in_ok-first.ensures.read on) in
+    let file = first_is records c.in_ok-first.first (c.in_ok-first.ensures.read.read on) in
     record {
       state = state;
       ends = subst (λ (l : List Record). EndsIn (items_of l) state) (take_all index records many) at.0.ends;

@@ -14,9 +14,9 @@ loop-index-init g c = (
   omega arith,
   λ on.
       let records = of_guest c.args.guest (records_of c.args.lists.now) in
-      let first = first_printed c.args.form records c.in_ok-first.first c.in_ok-following.following _ _ (c.in_ok-first.ensures.read on)
+      let first = first_printed c.args.form records c.in_ok-first.first c.in_ok-following.following _ _ (c.in_ok-first.ensures.read.read on)
       c.in_ok-following.ensures.behind c.in_ok-print_turn.ensures.printed in
-      (first.0, first.1, c.in_ok-first.ensures.on on),
+      (first.0, first.1, c.in_ok-first.ensures.read.on on),
 )
 
 pub returns-in_err-follow-clause-refused : goal.returns-in_err-follow-clause-refused
@@ -24,7 +24,7 @@ returns-in_err-follow-clause-refused g c = λ on.
     let records = of_guest c.args.guest (records_of c.args.lists.now) in
     let before = c.loop-index.invariant in
     let behind = (before.2 on).0 in
-    let there = c.in_ok-entry.ensures.read (before.2 on).2 in
+    let there = c.in_ok-entry.ensures.read.read (before.2 on).2 in
     let index = c.loop-index.index in
     let few : index ≤ length records = omega (arith, c.loop-index-test.true, before.0) in
     let some : 1 ≤ length records = c.requires in
@@ -43,8 +43,8 @@ loop-index-preserved g c =
       λ on.
           let at = before.2 on in
           let next = turn_printed c.args.form records c.loop-index.index c.in_ok-entry.entry c.total-from.result c.follow.new.self _ _ _
-          (c.in_ok-entry.ensures.read at.2)
+          (c.in_ok-entry.ensures.read.read at.2)
           (c.total-from.ensures ∙ at.0.total) (c.in_ok-follow.ensures.behind (take c.loop-index.index records) at.0) at.1
           c.in_ok-print_turn-2.ensures.printed in
-          (next.0, next.1, c.in_ok-entry.ensures.on at.2),
+          (next.0, next.1, c.in_ok-entry.ensures.read.on at.2),
     )

@@ -1,6 +1,6 @@
 use Rattle.std.proofs.Common.{◌≡◌, refl, ◌%◌, arith}
 use Rattle.guest_pages.specs.Space.{memory_of}
-use Rattle.rv_machine.specs.Decoded.{instr_of}
+use Rattle.rv_machine.specs.Decoded.{instr_at}
 use Rattle.rv_machine.specs.Outcome.{hart}
 use Rattle.rv_machine.proofs.HartSteps.{StepsOnce}
 use Rattle.rv_machine.proofs.KeptPages.{address_of_pc, does_at, no_word_step, word_once}
@@ -20,7 +20,8 @@ returns c =
     (hart c.go_on.new.regs (memory_of c.perform-flow.new.space) c.perform-flow.new.reservation) =
     rw (c.go_on.ensures.answer, c.go_on.ensures.place)
     (word_once c.args.regs.now.pc (hart c.args.regs.now (memory_of c.args.space.now) c.args.reservation.now)
-    (hart c.perform-flow.new.regs (memory_of c.perform-flow.new.space) c.perform-flow.new.reservation) (instr_of c.in-Some.decoded)
+    (hart c.perform-flow.new.regs (memory_of c.perform-flow.new.space) c.perform-flow.new.reservation)
+    (instr_at c.args.regs.now.pc c.in-Some.decoded)
     c.perform-flow.result aligned c.in-Some.ensures.fetches c.in-Some.ensures.decodes did) in
     record {
       step = once.step;

@@ -51,6 +51,31 @@ loop-instrs-preserved-in-Next-1 g c =
       some = λ e. absurd (omega arith);
     }
 
+pub loop-instrs-preserved-then-left_at : goal.loop-instrs-preserved-then-left_at
+loop-instrs-preserved-then-left_at g c =
+    let now = c.loop-instrs.invariant in
+    let did = c.perform-flow.ensures in
+    let is : c.perform-flow.result ≡ Ok (flows.In c.in-Ok-In.to) =
+    c.in-Ok-In.is ∙ ap Ok (rw c.in-Ok-In.is at c.in-Ok-In.field-0-is) in
+    let goes = goes_on_in _ c.loop-instrs.index _ _ _ c.args.page.now c.index-instrs-index.result (flows.In c.in-Ok-In.to)
+    c.perform-flow.result
+    c.requires.decoded now.steps (omega arith) (rw c.as_slice-instrs.ensures.value at c.index-instrs-index.is) is refl did in
+    let within = goes.within in
+    let low : c.in-Ok-In.to.index < 1024 = c.in-Ok-In.to.low in
+    record {
+      regs = did.regs;
+      steps = one_more_at _ _ _ _ _ _
+          (hart c.perform-flow.new.regs (memory_of c.perform-flow.new.space) c.perform-flow.new.reservation) (omega arith)
+          (omega (arith, low)) now.steps goes.step;
+      snapshots = did.snapshots ∙ now.snapshots;
+      low = omega (arith, c.min-end-in-Ok-In.ensures);
+      high = omega (arith, c.min-end-in-Ok-In.ensures);
+      within = omega (arith, c.min-end-in-Ok-In.ensures);
+      left = omega arith;
+      whole = λ e. omega (arith, c.min-end-in-Ok-In.ensures, c.if-left_at.true, e);
+      some = λ e. omega (arith, c.min-end-in-Ok-In.ensures, c.if-left_at.true, c.requires.some);
+    }
+
 pub loop-instrs-preserved : goal.loop-instrs-preserved
 loop-instrs-preserved g c =
     let now = c.loop-instrs.invariant in
@@ -74,8 +99,8 @@ loop-instrs-preserved g c =
       high = omega (arith, c.min-end-in-Ok-Jump.ensures);
       within = omega (arith, c.min-end-in-Ok-Jump.ensures);
       left = omega arith;
-      whole = λ e. omega (arith, c.min-end-in-Ok-Jump.ensures, c.if-left_at.true, e);
-      some = λ e. omega (arith, c.min-end-in-Ok-Jump.ensures, c.if-left_at.true, c.requires.some);
+      whole = λ e. omega (arith, c.min-end-in-Ok-Jump.ensures, c.if-left_at-2.true, e);
+      some = λ e. omega (arith, c.min-end-in-Ok-Jump.ensures, c.if-left_at-2.true, c.requires.some);
     }
 
 pub returns-in_default-2 : goal.returns-in_default-2

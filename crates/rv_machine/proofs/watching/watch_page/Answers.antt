@@ -8,7 +8,7 @@ use Rattle.rv_machine.proofs.HartSteps.{no_steps_at, one_more_at, runs_to}
 use Rattle.rv_machine.proofs.KeptPages.{address_in_page, does_at, goes_on_in, next_aligned, page_once}
 use Rattle.rv_machine.proofs.Watches.{last_watched, looks_at, none_stored, stays_at, watched_at}
 use Rattle.rv_machine.proofs.watching.watch_page.Goals as goal
-use Rattle.rv_machine.proofs.watching.watch_page.Goals.{then-this-eq-PAGE_INSTRS, else-this-eq-PAGE_INSTRS+then-index-end, in_default-via-in-Ok-Jump+then-target-base-lt4096+else-left_at, in_default-via-in-Ok-Jump+else-target-base-lt4096, in_default-via-in-Ok+in_default, in_default-via-in_default}
+use Rattle.rv_machine.proofs.watching.watch_page.Goals.{then-this-eq-PAGE_INSTRS, else-this-eq-PAGE_INSTRS+then-index-end, in_default-via-in-Ok-Jump+then-target-base-lt4096+else-left_at-2, in_default-via-in-Ok-In+else-left_at, in_default-via-in-Ok-Jump+else-target-base-lt4096, in_default-via-in-Ok+in_default, in_default-via-in_default}
 
 pub loop-instrs-init : goal.loop-instrs-init
 loop-instrs-init g c = record {
@@ -92,6 +92,36 @@ loop-instrs-preserved-in-Stored-1 g c =
           (omega (arith, c.left_at.ensures)) (omega (arith, c.left_at.ensures)) (omega arith) goes.step looks was;
     }
 
+pub loop-instrs-preserved-then-left_at : goal.loop-instrs-preserved-then-left_at
+loop-instrs-preserved-then-left_at g c =
+    let now = c.loop-instrs.invariant in
+    let did = c.perform-flow.ensures in
+    let is : c.perform-flow.result ≡ Ok (flows.In c.in-Ok-In.to) =
+    c.in-Ok-In.is ∙ ap Ok (rw c.in-Ok-In.is at c.in-Ok-In.field-0-is) in
+    let goes = goes_on_in _ c.loop-instrs.index _ _ _ c.args.page.now c.index-instrs-index.result (flows.In c.in-Ok-In.to)
+    c.perform-flow.result
+    c.requires.decoded now.steps (omega arith) (rw c.as_slice-instrs.ensures.value at c.index-instrs-index.is) is refl did in
+    let within = goes.within in
+    let low : c.in-Ok-In.to.index < 1024 = c.in-Ok-In.to.low in
+    let kept = did.stays c.loop-instrs.watch.address (rw is refl) in
+    record {
+      regs = did.regs;
+      steps = one_more_at _ _ _ _ _ _
+          (hart c.perform-flow.new.regs (memory_of c.perform-flow.new.space) c.perform-flow.new.reservation) (omega arith)
+          (omega (arith, low)) now.steps goes.step;
+      snapshots = did.snapshots ∙ now.snapshots;
+      low = omega (arith, c.min-end-in-Ok-In.ensures);
+      high = omega (arith, c.min-end-in-Ok-In.ensures);
+      within = omega (arith, c.min-end-in-Ok-In.ensures);
+      left = omega arith;
+      whole = λ e. omega (arith, c.min-end-in-Ok-In.ensures, c.if-left_at.true, e);
+      some = λ e. omega (arith, c.min-end-in-Ok-In.ensures, c.if-left_at.true, c.requires.some);
+      address = now.address;
+      watched = λ first watched. stays_at _ _ _ _ _ first _
+          (hart c.perform-flow.new.regs (memory_of c.perform-flow.new.space) c.perform-flow.new.reservation) (omega arith)
+          (omega (arith, low)) goes.step kept (now.watched first watched);
+    }
+
 pub loop-instrs-preserved : goal.loop-instrs-preserved
 loop-instrs-preserved g c =
     let now = c.loop-instrs.invariant in
@@ -116,8 +146,8 @@ loop-instrs-preserved g c =
       high = omega (arith, c.min-end-in-Ok-Jump.ensures);
       within = omega (arith, c.min-end-in-Ok-Jump.ensures);
       left = omega arith;
-      whole = λ e. omega (arith, c.min-end-in-Ok-Jump.ensures, c.if-left_at.true, e);
-      some = λ e. omega (arith, c.min-end-in-Ok-Jump.ensures, c.if-left_at.true, c.requires.some);
+      whole = λ e. omega (arith, c.min-end-in-Ok-Jump.ensures, c.if-left_at-2.true, e);
+      some = λ e. omega (arith, c.min-end-in-Ok-Jump.ensures, c.if-left_at-2.true, c.requires.some);
       address = now.address;
       watched = λ first watched. stays_at _ _ _ _ _ first _
           (hart c.perform-flow.new.regs (memory_of c.perform-flow.new.space) c.perform-flow.new.reservation) (omega arith)
@@ -142,7 +172,8 @@ returns-in_default-2 g c =
     let left : c.left_at-in_default-2.result ≡ c.loop-instrs.until - c.loop-instrs.index = omega (arith, c.left_at-in_default-2.ensures) in
     let fits : c.args.page.now.number * 4096 + c.loop-instrs.index * 4 < 2 ^ 32 = omega arith in
     let other : (stored : ℕ) → c.perform-flow.result ≢ Ok (flows.Stored stored) = λ stored e. elim c.in_default.branch [
-      | in_default-via-in-Ok-Jump+then-target-base-lt4096+else-left_at w ↦ grind arith
+      | in_default-via-in-Ok-Jump+then-target-base-lt4096+else-left_at-2 w ↦ grind arith
+      | in_default-via-in-Ok-In+else-left_at w ↦ grind arith
       | in_default-via-in-Ok-Jump+else-target-base-lt4096 w ↦ grind arith
       | in_default-via-in-Ok+in_default w ↦ grind arith
       | in_default-via-in_default w ↦ grind arith

@@ -7,7 +7,7 @@ use Rattle.replayer.proofs.Sourced.{all_read}
 use Rattle.replayer.proofs.Steps.{take_next}
 use Rattle.spans.proofs.Batches.{next_of, read_on}
 use Rattle.spans.proofs.Reached.{batch_refused, reached_along, unread_refused}
-use Rattle.spans.proofs.Told.{same_given, same_on, same_source, stopped_known, tells_err, tells_ok, tells_on}
+use Rattle.spans.proofs.Told.{asks_err, asks_ok, asks_on, same_given, same_on, same_source, stopped_known}
 use Rattle.spans.proofs.verifying.follow_source.Goals as goal
 
 pub loop-next-init : goal.loop-next-init
@@ -74,12 +74,12 @@ returns-in_err-batch-clause-refused g c = λ h there.
     (unread_refused c.in_err-batch.field-0.0 (g.S.Source.records c.args.source.now) inv.read c.loop-next.next
     (standing_of c.loop-next.following) c.in_err-batch.ensures.refused (omega (arith, c.len-len.ensures)) inv.reached (inv.is h there))
 
-pub returns-in_err-batch-clause-told : goal.returns-in_err-batch-clause-told
-returns-in_err-batch-clause-told g c =
+pub returns-in_err-batch-clause-asks : goal.returns-in_err-batch-clause-asks
+returns-in_err-batch-clause-asks g c =
     let p = err_from_is_err_and c.from_residual.result c.from_residual.ensures.1 in
     rw (p.1, p.2)
-    (tells_on g.S.Source c.in_err-batch.field-0.0 c.args.source.now c.loop-next.source c.read_batch.new.source
-    c.in_err-batch.ensures.asks.told c.loop-next.invariant.same.withheld)
+    (asks_on g.S.Source c.in_err-batch.field-0.0 c.args.source.now c.loop-next.source c.read_batch.new.source
+    c.loop-next.invariant.same c.in_err-batch.ensures.asks)
 
 pub returns-in_err-following-clause-refused : goal.returns-in_err-following-clause-refused
 returns-in_err-following-clause-refused g c = λ h there.
@@ -92,12 +92,12 @@ returns-in_err-following-clause-refused g c = λ h there.
     (next_of g.S.Source c.args.source.now c.loop-next.source c.loop-next.next c.in_ok-batch.batch.items batch
     c.as_slice-records.ensures.value inv.same c.in_ok-batch.ensures.reads h) c.requires.some)
 
-pub returns-in_err-following-clause-told : goal.returns-in_err-following-clause-told
-returns-in_err-following-clause-told g c =
+pub returns-in_err-following-clause-asks : goal.returns-in_err-following-clause-asks
+returns-in_err-following-clause-asks g c =
     let e = c.in_err-following.field-0.0 in
     let p = err_from_is_err_and c.from_residual-in_err-following.result c.from_residual-in_err-following.ensures.1 in
     rw (p.1, p.2)
-    (tells_err g.S.Source e c.args.source.now c.read_batch.new.source
+    (asks_err g.S.Source e c.args.source.now c.read_batch.new.source
     (stopped_known e c.as_slice-records.result.now (standing_of c.loop-next.following) c.in_err-following.ensures)
     (same_on g.S.Source c.args.source.now c.loop-next.source c.read_batch.new.source c.loop-next.invariant.same
     (same_given g.S.Source c.in_ok-batch.batch c.loop-next.source c.read_batch.new.source c.in_ok-batch.ensures.asks)))
@@ -107,11 +107,11 @@ returns-in_err-keep_all-clause-refused g c = λ h there.
     let p = err_from_is_err_and c.from_residual-in_err-keep_all.result c.from_residual-in_err-keep_all.ensures.1 in
     rw (p.1, p.2, c.in_err-keep_all.ensures.memory) c.requires.some
 
-pub returns-in_err-keep_all-clause-told : goal.returns-in_err-keep_all-clause-told
-returns-in_err-keep_all-clause-told g c =
+pub returns-in_err-keep_all-clause-asks : goal.returns-in_err-keep_all-clause-asks
+returns-in_err-keep_all-clause-asks g c =
     let p = err_from_is_err_and c.from_residual-in_err-keep_all.result c.from_residual-in_err-keep_all.ensures.1 in
     rw (p.1, p.2, c.in_err-keep_all.ensures.memory)
-    (tells_err g.S.Source faults.Memory c.args.source.now c.read_batch.new.source refl
+    (asks_err g.S.Source faults.Memory c.args.source.now c.read_batch.new.source refl
     (same_on g.S.Source c.args.source.now c.loop-next.source c.read_batch.new.source c.loop-next.invariant.same
     (same_given g.S.Source c.in_ok-batch.batch c.loop-next.source c.read_batch.new.source c.in_ok-batch.ensures.asks)))
 
@@ -129,6 +129,6 @@ returns-clause-follows g c =
           (omega (arith, c.len-len.ensures));
     }
 
-pub returns-clause-told : goal.returns-clause-told
-returns-clause-told g c =
-    tells_ok g.S.Source c.loop-next.following c.args.source.now c.loop-next.source c.loop-next.invariant.same
+pub returns-clause-asks : goal.returns-clause-asks
+returns-clause-asks g c =
+    asks_ok g.S.Source c.loop-next.following c.args.source.now c.loop-next.source c.loop-next.invariant.same

@@ -4,7 +4,7 @@ use Rattle.rrv_model.specs.declared.record.Record.{Record}
 use Rattle.replayer.specs.Sourced.{RefusesSource}
 use Rattle.replayer.specs.Verified.{Keeps}
 use Rattle.replayer.proofs.Sourced.{first_refused}
-use Rattle.spans.proofs.Told.{tells_on}
+use Rattle.spans.proofs.Told.{asks_on, same_given}
 use Rattle.spans.proofs.verifying.verify_source.Goals as goal
 
 pub begin-requires-2 : goal.begin-requires-2
@@ -45,15 +45,23 @@ returns-in_err-follow_source-clause-refused g c = λ h.
     (subst (λ (rs : List Record). RefusesSource e rs) asks.records
     (c.in_err-follow_source.ensures.refused (asks.honest.1 h) (rw asks.records (c.in_ok-first.ensures.record h))))
 
-pub returns-in_err-follow_source-clause-told : goal.returns-in_err-follow_source-clause-told
-returns-in_err-follow_source-clause-told g c =
+pub returns-in_err-follow_source-clause-asks : goal.returns-in_err-follow_source-clause-asks
+returns-in_err-follow_source-clause-asks g c =
     let p = err_from_is_err_and c.from_residual-in_err-follow_source.result c.from_residual-in_err-follow_source.ensures.1 in
     rw (p.1, p.2)
-    (tells_on g.S.Source c.in_err-follow_source.field-0.0 c.args.source.now c.given.new.source c.follow_source.new.source
-    c.in_err-follow_source.ensures.told c.in_ok-first.ensures.asks.told.withheld)
+    (asks_on g.S.Source c.in_err-follow_source.field-0.0 c.args.source.now c.given.new.source c.follow_source.new.source
+    (same_given g.S.Source c.in_ok-first.first c.args.source.now c.given.new.source c.in_ok-first.ensures.asks)
+    c.in_err-follow_source.ensures.asks)
 
-pub returns-clause-told : goal.returns-clause-told
-returns-clause-told g c = record {
-  withheld = c.in_ok-follow_source.ensures.told.withheld ∙ c.in_ok-first.ensures.asks.told.withheld;
-  names = tt;
+pub returns-clause-asks : goal.returns-clause-asks
+returns-clause-asks g c = record {
+  records = c.in_ok-follow_source.ensures.asks.records ∙ c.in_ok-first.ensures.asks.records;
+  honest = (
+    λ h. c.in_ok-first.ensures.asks.honest.0 (c.in_ok-follow_source.ensures.asks.honest.0 h),
+    λ h. c.in_ok-follow_source.ensures.asks.honest.1 (c.in_ok-first.ensures.asks.honest.1 h),
+  );
+  told = record {
+    withheld = c.in_ok-follow_source.ensures.asks.told.withheld ∙ c.in_ok-first.ensures.asks.told.withheld;
+    names = tt;
+  };
 }
