@@ -39,7 +39,15 @@ released_more old new put seen same seen_is rises low leaves out has = record {
 
 pub keeps_none : (r : GuestRecorder) → KeepsMade r r
 keeps_none r =
-    record { made_is = refl; guest = refl; group = refl; place = refl; here = refl; checkpoints = (refl, refl, refl); deadlines = (refl, refl) }
+    record {
+      made_is = refl;
+      guest = refl;
+      group = refl;
+      place = refl;
+      here = refl;
+      checkpoints = (refl, refl, refl);
+      deadlines = (refl, refl);
+    }
 
 pub keeps_both : (a b c : GuestRecorder) → KeepsMade a b → KeepsMade b c → KeepsMade a c
 keeps_both a b c h k = record {

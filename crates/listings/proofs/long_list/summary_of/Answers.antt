@@ -21,7 +21,8 @@ loop-index-init g c = (
   omega arith,
   λ on.
       let records = of_guest c.args.guest (records_of c.args.lists.now) in
-      let first = first_added records c.in_ok-first.first c.in_ok-following.following c.new-tally.result (c.in_ok-first.ensures.read.read on)
+      let first = first_added records c.in_ok-first.first c.in_ok-following.following c.new-tally.result
+      (c.in_ok-first.ensures.read.read on)
       c.in_ok-following.ensures.behind c.new-tally.ensures in
       (first.0, first.1, c.in_ok-first.ensures.read.on on),
 )
@@ -51,7 +52,8 @@ loop-index-preserved g c =
       λ on.
           let at = before.2 on in
           let next = added records c.loop-index.index c.in_ok-entry.entry c.follow.new.self c.loop-index.tally _
-          (c.in_ok-entry.ensures.read.read at.2) (c.in_ok-follow.ensures.behind (take c.loop-index.index records) at.0) at.1 (search rules) in
+          (c.in_ok-entry.ensures.read.read at.2) (c.in_ok-follow.ensures.behind (take c.loop-index.index records) at.0) at.1
+          (search rules) in
           (next.0, next.1, c.in_ok-entry.ensures.read.on at.2),
     )
 
