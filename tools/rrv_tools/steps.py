@@ -53,7 +53,8 @@ def symbolic_link(name: str, target: str) -> Step:
 def lock(name: str) -> Step:
     """A file, which is made if it isn't there, is locked until the case is over."""
     def take(case: Case) -> None:
-        fcntl.flock(case.enterContext(open(name, "ab")), fcntl.LOCK_EX | fcntl.LOCK_NB)
+        file = case.enterContext(pathlib.Path(name).open("ab"))  # noqa: SIM115 (the case closes it)
+        fcntl.flock(file, fcntl.LOCK_EX | fcntl.LOCK_NB)
 
     return Step(f"lock {name}", take)
 

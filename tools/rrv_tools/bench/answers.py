@@ -83,7 +83,7 @@ def failures(seconds: Seconds) -> Iterator[str]:
         if together and times < LEAST_PART * min(together, MOST):
             yield f"{name}: {times:.2f} times the rate of one processor; {STEP} has {together:.2f} times that"
     times = seconds["last", MOST] / seconds["verify", MOST]
-    if MOST_OF_VERIFY < times:
+    if times > MOST_OF_VERIFY:
         yield f"last: {times:.2f} times as long as verify, and not {MOST_OF_VERIFY}"
 
 

@@ -90,4 +90,4 @@ def main(words: Sequence[str]) -> int:
         print_recording(rrv, program, memory, said.calls, said.rounds)
         print_disk(rrv, program, disk, said.calls, said.rounds)
     print_machine()
-    return print_failures([f"list: more than {MOST_MILLISECONDS} ms a megabyte"] if MOST_MILLISECONDS < each else [])
+    return print_failures([f"list: more than {MOST_MILLISECONDS} ms a megabyte"] if each > MOST_MILLISECONDS else [])

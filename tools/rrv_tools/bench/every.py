@@ -4,7 +4,7 @@ usage: tools/run bench every [--rounds N] [--every N,auto,N..] [--svg FILE] [GUE
 
 Guests: `computes` counts down, 320 million instructions. `pages` stores a word in each page of 60 megabytes, 100 times,
 and `lines` one in each 64 bytes of them, 10 times. Each is recorded in memory (/dev/shm) without checkpoints and with
-those of some `--every` (1048576, 10000000, 100000000 and auto), for N rounds (3), and the best of the processor's seconds
+those of some `--every` (1048576, 10000000, 100000000, auto), for N rounds (3), and the best of the processor's seconds
 counts. A row has these, how many times as long as without checkpoints that is, the megabytes of the store, and those
 for a million instructions. After it is what `sha256sum` of the store takes. The first rows of a guest are `rates step`
 and qemu-riscv32, which record nothing, if they are installed. `rates` is left out if RRV_PROGRAM names the program that
@@ -70,8 +70,8 @@ def print_row(name: str, taken: float, bare: float, kept: pathlib.Path, count: i
 
 
 def setting(every: str) -> tuple[int, int, str]:
-    """The place of an `--every` on the axis, and its name there: none, then from the fewest checkpoints to the most, then
-    auto."""
+    """The place of an `--every` on the axis, and its name there: none, then from the fewest checkpoints to the most,
+    then auto."""
     if every == "auto":
         return 2, 0, every
     return (1, -int(every), f"{int(every):,}") if int(every) else (0, 0, "none")

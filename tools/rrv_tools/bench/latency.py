@@ -122,11 +122,11 @@ def failures(disk: Disk, slow: Disk, shared: float) -> Iterator[str]:
     if MOST_SYNCS * slow.sync() < statistics.median(slow.waited):
         yield f"a write leaves after more than {MOST_SYNCS} bare syncs of a slow disk"
     milliseconds = 1000 * statistics.median(disk.waited)
-    if disk.plain and MOST_BESIDE_PLAIN < milliseconds - 1000 * statistics.median(disk.plain):
+    if disk.plain and milliseconds - 1000 * statistics.median(disk.plain) > MOST_BESIDE_PLAIN:
         yield f"a write leaves more than {MOST_BESIDE_PLAIN} milliseconds after that of plain Rust"
-    if not disk.plain and MOST_BESIDE_SYNCS < milliseconds - 2000 * disk.sync():
+    if not disk.plain and milliseconds - 2000 * disk.sync() > MOST_BESIDE_SYNCS:
         yield f"a write leaves after more than two bare syncs and {MOST_BESIDE_SYNCS} milliseconds"
-    if MOST_MILLISECONDS <= milliseconds:
+    if milliseconds >= MOST_MILLISECONDS:
         yield f"a write leaves after {MOST_MILLISECONDS} milliseconds or more"
     if shared < LEAST_SHARED:
         yield f"fewer than {LEAST_SHARED} records share a body"

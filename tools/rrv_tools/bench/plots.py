@@ -52,7 +52,7 @@ class Plot:
 
 def shown(value: float) -> str:
     """A value in three digits at most."""
-    return f"{value:.0f}" if 100 <= value else f"{value:.3g}"
+    return f"{value:.0f}" if value >= 100 else f"{value:.3g}"
 
 
 def marks_of(plot: Plot) -> list[float]:

@@ -56,7 +56,7 @@ def record(file: pathlib.Path, megabytes: int, words: Sequence[Word]) -> None:
             now = file.stat().st_size
             if now != size:
                 size, grown = now, time.monotonic()
-            if recording.poll() is not None or PATIENCE < time.monotonic() - grown:
+            if recording.poll() is not None or time.monotonic() - grown > PATIENCE:
                 recording.kill()
                 sys.exit(f"the recording stopped, or its store stayed as it is, at {size} bytes")
         recording.kill()
@@ -75,7 +75,7 @@ def measure(rrv: list[str], file: pathlib.Path, rounds: int) -> list[str]:
     for name, it in taken.items():
         print(f"{name:10}{it.seconds:9.3f} s{1000 * it.seconds / megabytes:9.2f} ms a megabyte", end="")
         print(f"{it.kilobytes / 1024:9.1f} megabytes of memory")
-    large = [it for it in ("list", "verify") if MOST_MEGABYTES * 1024 <= taken[it].kilobytes]
+    large = [it for it in ("list", "verify") if taken[it].kilobytes >= MOST_MEGABYTES * 1024]
     failed = [f"{name}: {MOST_MEGABYTES} megabytes or more" for name in large]
     if MOST_TIMES * taken["sha256sum"].seconds < taken["list"].seconds:
         failed.append(f"list: more than {MOST_TIMES} times as long as sha256sum")

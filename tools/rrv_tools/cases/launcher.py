@@ -1,4 +1,4 @@
-"""Which program ./rrv starts after each kind of change, when it builds one and how, and what the release's tool refuses.
+"""Which program ./rrv starts after each kind of change, when and how it builds, and what the release's tool refuses.
 
 Expected values: what the made-up sources hold, the changes that were made to them, and docs/BUILDING.md.
 

@@ -9,9 +9,8 @@ scripts are refused is looked at without a compiler.
 """
 import os
 import pathlib
-import re
 import shutil
-from typing import ClassVar, NamedTuple
+from typing import NamedTuple
 
 from rrv_tools.musl import KIT, MuslCase, need_cxx, ran
 from rrv_tools.program import Word

@@ -213,7 +213,7 @@ class Reference:
         self.calls = [(int(count.removeprefix("count=")), more) for _, _, _, count, more in found]
         self.output, self.states, self.addresses = guest.output, guest.states, guest.addresses
         visited = {it for it in self.addresses if JUMPS <= it < JUMPS + PAGE}
-        assert len(visited) == WORDS and guest.ended == STATUS and MOST < max(self.calls)[0]
+        assert len(visited) == WORDS and guest.ended == STATUS and max(self.calls)[0] > MOST
 
     def frames(self, quantum: int) -> Iterator[str]:
         """The lines of all slices, without their numbers."""

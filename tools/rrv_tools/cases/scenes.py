@@ -22,7 +22,8 @@ from rrv_tools.records import (
 )  # fmt: skip
 from rrv_tools.riscv import A0, A1, A2, S0, SP, X5, ZERO, addi, call, counted_down, lui, lw, srli, sw
 from rrv_tools.steps import (
-    Step, bad, begins, change, cut, done, ends, holds, holds_once, line, link, lock, play, refused, symbolic_link, write,
+    Step, bad, begins, change, cut, done, ends, holds, holds_once, line, link, lock, play, refused, symbolic_link,
+    write,
 )  # fmt: skip
 from rrv_tools.store import EMPTY, MARK, MARK_ADDS, segment, store_of
 from rrv_tools.testing import Case, rows

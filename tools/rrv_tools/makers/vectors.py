@@ -187,7 +187,7 @@ def branches() -> Iterator[Row]:
     pairs = [(0, 0), (1, F), (F, 1), (S, M), (M, S), (F, F)]
     offsets = [8, -8, 2048, -4096, 1024, -2044]
     for op in ("beq", "bne", "blt", "bge", "bltu", "bgeu"):
-        for (a0, a1), offset in zip(pairs, offsets):
+        for (a0, a1), offset in zip(pairs, offsets, strict=True):
             yield Row(f"{op} a0, a1, . + {offset}", a0, a1)
 
 

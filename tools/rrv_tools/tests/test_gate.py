@@ -1,7 +1,6 @@
 """The gate, in a repository and with a toolchain that are made up: what fails it, and what it looks at then."""
 import contextlib
 import io
-import os
 import pathlib
 import re
 import shutil
