@@ -16,6 +16,8 @@ OFFER = 'COMP_WORDS=("$@"); COMP_CWORD=$(($# - 1)); compopt() { :; }; _rrv; prin
 # The values that are files, and those that may be one of some words.
 OF_FILES = {"STORE", "ELF", "FILE", "TO"}
 WORDS = {"THEN": {"turns", "none"}, "T": {"end"}, "FROM": {"end"}, "AT": {"end"}}
+# The words that an option takes beside numbers.
+AFTER = {"--every": {"auto"}}
 # An option: its names, its value and its default, which may both be empty.
 Option = tuple[str, str, str]
 # The name of a value, which is empty after a command's last argument, and the words after which it is typed.
@@ -159,7 +161,8 @@ class Completions(Compared):
 
     def need_words(self, value: Value) -> None:
         """Compares the words that are offered for a value."""
-        some = self.taken.keys() - {""} if value[0] == "COMMAND" else WORDS.get(value[0], set())
+        words = WORDS.get(value[0], AFTER.get(value[1][-1], set()))
+        some = self.taken.keys() - {""} if value[0] == "COMMAND" else words
         self.need_offered(some, *value[1], "")
 
     def need_files(self, value: Value) -> None:
