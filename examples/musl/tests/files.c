@@ -53,6 +53,7 @@ static void places(void)
     SHOW(readv(fd, parts, 2));
     SHOW(bytes[50]);
     SHOW_ERRNO(write(fd, "x", 1));
+    SHOW(futimens(fd, NULL));
     close(fd);
 }
 

@@ -12,7 +12,7 @@ import pathlib
 import shutil
 from typing import NamedTuple
 
-from rrv_tools.musl import KIT, MuslCase, need_cxx, ran
+from rrv_tools.musl import BUILD_SECONDS, KIT, MuslCase, need_cxx, ran
 from rrv_tools.program import Word
 from rrv_tools.testing import Case, rows
 
@@ -92,6 +92,8 @@ int main(void)
     return 0;
 }
 """
+# The Rust that the commands of README.md were tried with.
+RUST = "rustc 1.63"
 CXX = r"""
 #include <chrono>
 #include <condition_variable>
@@ -275,6 +277,27 @@ class Cxx(MuslCase):
         self.need("what the guest prints", b"from a thread\n26 5 1 1.500000\n", self.recorded(elf))
 
 
+class Rust(MuslCase):
+    """A Rust program."""
+
+    seconds = 150
+    needs = (*MuslCase.needs, "rustc")
+
+    def test_threads(self) -> None:
+        """Four threads of Rust's core and alloc, by the commands of the kit's README.md."""
+        words = (("rustc", "--version"), ("rustc", "--print", "sysroot"))
+        version, root = (self.need_run(*it).decode().strip() for it in words)
+        if not version.startswith(RUST) or not pathlib.Path(root, "lib/rustlib/src/rust/library").exists():
+            self.skipTest(f"{RUST}, with Debian's rust-src, is not installed")
+        section = (KIT / "README.md").read_text(encoding="utf-8").partition("\n## Rust\n")[2].partition("\n## ")[0]
+        lines = [it.strip() for it in section.splitlines() if it.startswith("    ")]
+        commands = [it for it in lines if not it.startswith("apt-get ")]
+        (self.folder / "examples").symlink_to(KIT.parent)
+        self.need_run("sh", "-e", "-c", "\n".join(commands), seconds=BUILD_SECONDS)
+        wanted = b"thread 1: 0.333\nthread 2: 0.667\nthread 3: 1.000\nthread 4: 1.333\nsum 10\n"
+        self.need("what the guest prints", wanted, self.recorded(self.folder / "threads.elf"))
+
+
 class Line(NamedTuple):
     """A line of a script, and the errors that it prints."""
 
@@ -290,8 +313,8 @@ REFUSED_LINES = {
     "no tarball": Line("build-musl --to made none", "build-musl: none is no file: name the tarball of musl 1.2.5"),
     "two tarballs": Line("build-musl a b", "build-musl: two tarballs: a and b"),
     "an option of build-musl": Line("build-musl --fast", "build-musl: no option --fast: .*"),
-    "no place of packages": Line("build-musl --to made", "build-musl: apt has no place of Debian's packages: "
-                                 "build-musl musl_1.2.5.orig.tar.gz"),
+    "no list of packages": Line("build-musl --to made", "build-musl: apt has no list of Debian's packages: apt-get update "
+                                "brings it. With the files at hand: build-musl musl_1.2.5.orig.tar.gz"),
     "no musl for C++": Line("build-cxx --to none x", r"build-cxx: there is no musl in none: run \S*/build-musl first"),
     "no GCC": Line("build-cxx --to musl none", "build-cxx: none is no file: name the tarball of GCC .*"),
     "no libstdc++": Line("c++ x.cc", r"c\+\+: there is no libstdc\+\+ in musl: run \S*/build-cxx"),

@@ -8,7 +8,7 @@ Expected values: what the same source prints on the same input, built by the mac
 import os
 import re
 
-from rrv_tools.musl import ABSENT, BUILD_SECONDS, REAL, MuslCase, ran
+from rrv_tools.musl import ABSENT, BUILD_SECONDS, REAL, MuslCase, need_cxx, ran
 from rrv_tools.testing import rows
 
 RECIPES = {it.stem: it.stem for it in sorted(REAL.glob("*.recipe"))}
@@ -18,10 +18,12 @@ RECIPES = {it.stem: it.stem for it in sorted(REAL.glob("*.recipe"))}
 class Recipes(MuslCase):
     """The recipes of examples/real."""
 
-    seconds = 600
+    seconds = 1500
 
     def try_recipe(self, name: str) -> None:
         """The program prints the same as a guest."""
+        if "is_cxx=1" in (REAL / f"{name}.recipe").read_text(encoding="utf-8"):
+            need_cxx()
         done = ran([REAL / "try", name, "built"], BUILD_SECONDS, {"RRV": str(self.program.path)})
         text = done.stderr.decode(errors="replace").strip()
         if done.returncode != 0 and any(it in text for it in ABSENT):
