@@ -41,16 +41,14 @@ static void tell_pipes(void) { a_inc(&changes), RAW(SYS_futex, &changes, FUTEX_W
 
 static struct file *new_file(mode_t mode) {
     struct file *f = UNUSED(files, FILES, mode);
-    if (f) *f = (struct file){.mode = mode};
-    return f;
+    return f ? *f = (struct file){.mode = mode}, f : 0;
 }
 
 /* Names a file: XSH link. */
 static long add_name(const char *text, struct file *f) {
     struct name *n = UNUSED(names, NAMES, file);
     if (!n || !f) return -ENOSPC;
-    strcpy(n->text, text);
-    return n->file = f, f->names++, 0;
+    return strcpy(n->text, text), n->file = f, f->names++, 0;
 }
 
 /* Names what is there at first. XBD 10.1 has the folders and the devices. */
@@ -94,8 +92,7 @@ static long grow(struct file *f, size_t size) {
     if ((unsigned long)more > -4096UL) return -ENOSPC;
     memcpy((void *)more, f->data, f->size < room ? f->size : room);
     if (f->room) RAW(SYS_munmap, f->data, f->room, 0, 0, 0);
-    f->data = (void *)more, f->room = room;
-    return 0;
+    return f->data = (void *)more, f->room = room, 0;
 }
 
 /* The lowest descriptor that is free, from one on, with an open file. XSH 2.14. */
@@ -111,8 +108,7 @@ static long open_file(struct file *f, int flags) {
     if (!o) return -EMFILE;
     *o = (struct open){.file = f, .flags = flags};
     long fd = describe(o, 0);
-    if (fd >= 0) f->ends[0] += reads(o), f->ends[1] += writes(o);
-    return fd;
+    return fd >= 0 ? f->ends[0] += reads(o), f->ends[1] += writes(o), fd : fd;
 }
 
 /* XSH open. */
@@ -144,8 +140,7 @@ static long make_pipe(int *fds, int flags) {
     struct file *f = new_file(S_IFIFO | 0600);
     long one = f ? open_file(f, flags | O_RDONLY) : -ENFILE, other = one < 0 ? one : open_file(f, flags | O_WRONLY);
     if (other < 0 && one >= 0) close_descriptor(one);
-    if (other >= 0) fds[0] = one, fds[1] = other;
-    return other < 0 ? other : 0;
+    return other < 0 ? other : (fds[0] = one, fds[1] = other, 0);
 }
 
 /* Waits until a pipe has bytes, or nobody writes it. XSH read, of pipes. */
@@ -186,8 +181,7 @@ static long write_bytes(struct open *o, const unsigned char *bytes, size_t count
     memcpy(f->data + from, bytes, count);
     f->size = from + count > f->size ? from + count : f->size;
     if (S_ISFIFO(f->mode)) tell_pipes();
-    *at = from + count;
-    return count;
+    return *at = from + count, count;
 }
 
 /* Reads or writes some buffers, at a place if one is given. XSH readv, XSH writev, XSH pread, XSH 2.9.7. */
@@ -217,8 +211,7 @@ static long seek(struct open *o, nanos by, nanos *result, unsigned whence) {
     if (S_ISFIFO(o->file->mode)) return -ESPIPE;
     nanos from = whence == SEEK_CUR ? o->at : whence == SEEK_END ? o->file->size : 0;
     if (whence > SEEK_END || from + by < 0 || from + by > INT_MAX) return -EINVAL;
-    *result = o->at = from + by;
-    return 0;
+    return *result = o->at = from + by, 0;
 }
 
 /* XSH ftruncate. */
@@ -243,10 +236,7 @@ static long control(struct open *o, int what, long value) {
 }
 
 /* XSH unlink, XSH rmdir. */
-static long remove_name(struct name *n) {
-    n->file->names--, drop(n->file);
-    return n->file = 0, 0;
-}
+static long remove_name(struct name *n) { return n->file->names--, drop(n->file), n->file = 0, 0; }
 
 /* XSH link and, if `moves`, XSH rename. */
 static long rename_path(struct name *from, const char *path, int moves) {
@@ -261,9 +251,8 @@ static long rename_path(struct name *from, const char *path, int moves) {
 
 /* XSH fstat, XSH stat. */
 static long status(const struct file *f, struct statx *x) {
-    *x = (struct statx){.stx_blksize = PAGE_BYTES, .stx_nlink = f->names, .stx_mode = f->mode, .stx_size = f->size,
-                        .stx_blocks = (f->size + 511) / 512, .stx_ino = (unsigned long)f};
-    return 0;
+    return *x = (struct statx){.stx_blksize = PAGE_BYTES, .stx_nlink = f->names, .stx_mode = f->mode,
+                               .stx_size = f->size, .stx_blocks = (f->size + 511) / 512, .stx_ino = (long)f}, 0;
 }
 
 /* XSH mmap. SHARED of a file is its own room, which then stays where it is; of no file it is PRIVATE. */
@@ -280,8 +269,7 @@ static long map(long address, size_t length, int protection, int flags, unsigned
     long at = RAW(SYS_mmap2, address, length, PROT_READ | PROT_WRITE, flags | MAP_ANON, -1);
     if ((unsigned long)at > -4096UL) return at;
     memcpy((void *)at, f->data + from, have < length ? have : length);
-    RAW(SYS_mprotect, at, length, protection, 0, 0);
-    return at;
+    return RAW(SYS_mprotect, at, length, protection, 0, 0), at;
 }
 
 /* XSH munmap. The room of a file stays with it. */
@@ -314,8 +302,7 @@ static long locked_call(long n, long a, long b, long c, long d, long e, long f) 
     case SYS_dup3:
         if (!o || (unsigned long)b >= OPENS) return error;
         o->uses++;
-        if (descriptors[b]) close_descriptor(b);
-        return descriptors[b] = o, b;
+        return descriptors[b] ? close_descriptor(b) : 0, descriptors[b] = o, b;
     case SYS_fcntl64: return o ? control(o, b, c) : error;
     case SYS__llseek: return o ? seek(o, (nanos)b << 32 | (unsigned long)c, (void *)d, e) : error;
     case SYS_ftruncate64: return o ? (c || b < 0 ? -ENOSPC : cut(o, b)) : error;
@@ -330,6 +317,5 @@ hidden long __guest_file_call(long n, long a, long b, long c, long d, long e, lo
     if ((n == SYS_mmap2 && d & MAP_ANON) || (n == SYS_munmap && !mapped)) return locked_call(n, a, b, c, d, e, f);
     __guest_enter(&files_lock);
     long result = locked_call(n, a, b, c, d, e, f);
-    __guest_leave(&files_lock);
-    return result;
+    return __guest_leave(&files_lock), result;
 }

@@ -1,9 +1,7 @@
 /* What musl asks of Linux and a guest doesn't have, over the calls that it has (docs/GUEST.md): waits, time, signals
    that the program sends itself, and what Linux says where there are one user and one process; files are in files.c.
-   build-musl compiles it with musl's own folders of headers, as a part of crt1.o.
-   Comments name sections of IEEE Std 1003.1-2017: XBD is its volume Base Definitions, XSH System Interfaces. A negative
-   result is an errno. */
-
+   build-musl compiles it with musl's own folders of headers, as a part of crt1.o. A negative result is an errno.
+   Comments name sections of IEEE Std 1003.1-2017: XBD is its volume Base Definitions, XSH System Interfaces. */
 #include "layer.h"
 #include <poll.h>
 #include <string.h>
@@ -61,8 +59,7 @@ static int take(sigs some) {
     some &= mine.pending | shared;
     int sig = some ? __builtin_ctzll(some) + 1 : 0;
     *(mine.pending & bit(sig) ? &mine.pending : &shared) &= ~bit(sig);
-    __guest_leave(&signals_lock);
-    return sig;
+    return __guest_leave(&signals_lock), sig;
 }
 
 /* The guest ends as by EBREAK for SIGABRT, and else with the status of a shell. XSH 2.4.3, XBD signal.h. */
@@ -192,8 +189,7 @@ static long suspend(sigs mask, int is_cp) {
     mine.mask = mask;
     for (int seen; seen = mine.sent, mine.handled == handled && !(is_cp && cancelled());)
         if (!deliver()) wait_sent(seen, 0, 0, is_cp);
-    mine.mask = old;
-    return -EINTR;
+    return mine.mask = old, -EINTR;
 }
 
 /* XSH sigwait, XSH sigtimedwait. */
@@ -212,8 +208,7 @@ static long await_signal(sigs some, siginfo_t *info, const nanos *time, int is_c
 
 /* Each descriptor is ready at once; without one it is a sleep. XSH poll, XSH pselect. */
 static long poll_some(struct pollfd *fds, long count, const nanos *time, const sigs *mask, int is_cp) {
-    if (!count && time) return sleep_until(1, now(1) + whole(time), 0, is_cp);
-    if (!count) return suspend(mask ? *mask : mine.mask, is_cp);
+    if (!count) return time ? sleep_until(1, now(1) + whole(time), 0, is_cp) : suspend(mask ? *mask : mine.mask, is_cp);
     for (long i = 0; fds && i < count; i++)
         fds[i].revents = fds[i].fd < 0 ? 0 : fds[i].events & (POLLIN | POLLOUT | POLLRDNORM | POLLWRNORM);
     return count;
@@ -232,8 +227,7 @@ static long clock_call(long n, long a, long b, long c, long d, int is_cp) {
         t = now(1), first = first ? first : t;
         return memcpy(pair, PARTS(t - first), 2 * sizeof t), 0;
     case SYS_clock_getres_time64:
-        if (is_clock && pair) pair[0] = 0, pair[1] = 1;
-        return is_clock ? 0 : -EINVAL;
+        return !is_clock ? -EINVAL : pair ? pair[0] = 0, pair[1] = 1, 0 : 0;
     case SYS_clock_settime64: return -EPERM;
     case SYS_clock_nanosleep_time64:
         pair = (void *)c;
@@ -283,11 +277,16 @@ static long signal_call(long n, long a, long b, long c, int is_cp) {
     return ELSE;
 }
 
-/* Of a thread that musl has listed; one that is being made isn't yet. XSH pthread_setschedparam. */
+/* musl lists a thread once it has set its policy, which is kept in `made` until then. XSH pthread_setschedparam. */
 static long schedule_call(long n, int tid, long b, long c) {
+    static struct mine made;
+    static int made_tid;
     if (__tl_lock) __tl_lock();
-    pthread_t t = receiver(tid ? tid : __pthread_self()->tid, 0);
-    struct mine *its = t ? of(t) : &(struct mine){0};
+    pthread_t t = made_tid ? receiver(made_tid, 0) : 0;
+    if (t) of(t)->policy = made.policy, of(t)->priority = made.priority, made_tid = 0;
+    t = receiver(tid ? tid : __pthread_self()->tid, 0);
+    if (!t) made_tid = tid;
+    struct mine *its = t ? of(t) : &made;
     if (n == SYS_sched_setscheduler) its->policy = b, its->priority = *(int *)c;
     if (n == SYS_sched_setparam) its->priority = *(int *)b;
     if (n == SYS_sched_getparam) *(int *)b = its->priority;
@@ -318,8 +317,7 @@ static long machine_call(long n, long a, long b, long c, long d) {
     case SYS_uname: *(struct utsname *)a = (struct utsname){"Linux", "guest", "6.0.0", "#1", "riscv32", ""}; return 0;
     case SYS_times:
         time = now(1) / (SECOND / 100);
-        if (a) memcpy((void *)a, (long[4]){time}, 4 * sizeof(long));
-        return time;
+        return a ? memcpy((void *)a, (long[4]){time}, 4 * sizeof(long)) : 0, time;
     case SYS_getrusage:
         time = now(1);
         return memcpy((void *)b, (long[18]){time / SECOND, time % SECOND / 1000}, 18 * sizeof(long)), 0;
@@ -368,12 +366,14 @@ hidden long __syscall_cp_asm(volatile int *cancel, long n, long a, long b, long 
 hidden void __guest_begin(void) { if (&__stdout_FILE) __stdout_FILE.flags |= F_SVB; }
 
 /* In place of musl's, by which the stack of a thread is at a multiple of 4: a double among variable arguments is then
-   read beside itself. What is no thread isn't made. A thread idles before it begins. XSH pthread_create. */
+   read beside itself. What is no thread isn't made. A thread idles before it begins. Its stack has 0 where that of its
+   maker has the place to return to, so that a debugger goes no further. XSH pthread_create. */
 __asm__(".text\n.global __clone\n.hidden __clone\n.type __clone, %function\n__clone:\n.cfi_startproc\n"
         "li t0, 0x10000\nand t0, t0, a2\nbnez t0, 1f\nli a0, -38\nret\n"
-        "1: andi a1, a1, -16\naddi a1, a1, -16\nsw a0, 0(a1)\nsw a3, 4(a1)\n"
+        "1: addi sp, sp, -16\n.cfi_adjust_cfa_offset 16\nsw ra, 12(sp)\n.cfi_offset ra, -4\n"
+        "andi a1, a1, -16\naddi a1, a1, -16\nsw a0, 0(a1)\nsw a3, 4(a1)\nsw zero, 12(a1)\n"
         "mv a0, a2\nmv a2, a4\nmv a3, a5\nmv a4, a6\nli a7, 220\necall\n"
         "lui t0, %hi(guest_idle)\naddi t0, t0, %lo(guest_idle)\nbeqz t0, 3f\n2: addi t0, t0, -1\nbnez t0, 2b\n"
-        "3: beqz a0, __guest_thread\nret\n.cfi_endproc\n.size __clone, . - __clone\n"
-        ".type __guest_thread, %function\n__guest_thread:\n.cfi_startproc\n.cfi_undefined ra\n"
-        "lw a1, 0(sp)\nlw a0, 4(sp)\njalr a1\nli a7, 93\necall\n.cfi_endproc\n.size __guest_thread, . - __guest_thread\n");
+        "3: beqz a0, __guest_thread\nlw ra, 12(sp)\naddi sp, sp, 16\nret\n.cfi_endproc\n.size __clone, . - __clone\n"
+        ".type __guest_thread, %function\n__guest_thread:\n.cfi_startproc\n.cfi_undefined ra\nlw a1, 0(sp)\n"
+        "lw a0, 4(sp)\njalr a1\nli a7, 93\necall\n.cfi_endproc\n.size __guest_thread, . - __guest_thread\n");
