@@ -178,8 +178,7 @@ static long sleep_until(int clock, nanos end, nanos *rest, int is_cp) {
     while (!result) result = wait_sent(mine.sent, clock, &end, is_cp);
     if (result != -EINTR) return 0;
     nanos left = end - now(clock);
-    if (rest) memcpy(rest, PARTS(left > 0 ? left : 0), 2 * sizeof left);
-    return result;
+    return rest ? memcpy(rest, PARTS(left > 0 ? left : 0), 2 * sizeof left) : 0, result;
 }
 
 /* Waits with another mask until a handler has run. XSH sigsuspend, XSH pause. */
@@ -322,6 +321,7 @@ static long machine_call(long n, long a, long b, long c, long d) {
         time = now(1);
         return memcpy((void *)b, (long[18]){time / SECOND, time % SECOND / 1000}, 18 * sizeof(long)), 0;
     case SYS_getcwd: return b < 2 ? -ERANGE : (strcpy((char *)a, "/"), 2);
+    case SYS_getpgid: case SYS_getsid: return !a || a == RAW(SYS_getpid, 0, 0, 0, 0, 0) ? 1 : -ESRCH;
     case SYS_umask: return 022;
     case SYS_getpriority: return 20;
     case SYS_mremap: return a < 0x7FF00000 && a >= 0x7FEFE000 ? -EFAULT : -ENOMEM; /* how musl finds the stack's end */

@@ -418,7 +418,7 @@ REFUSED_LINES = {
     "no package to unpack": Line("../real/unpack a", "unpack: needs PACKAGE, FOLDER and SOURCES"),
     "no list to unpack from": Line("../real/unpack a made sources",
                                    "unpack: apt has no list of Debian's packages: apt-get update brings it. "
-                                   "With the files at hand: put a_VERSION.orig.tar.xz into sources"),
+                                   r"With the files at hand: put a_VERSION.orig.tar.xz into \S*/sources"),
     "words above a page": Line(f"guest-words file out {'a' * 4095}",
                                f"guest-words: the arguments and the environment have 4097 bytes, and {LARGEST}"),
     "words for no file": Line("guest-words none out a", "guest-words: none is no file"),
