@@ -252,7 +252,7 @@ static long signal_call(long n, long a, long b, long c, int is_cp) {
     sigs old = mine.mask, set = 0;
     switch (n) {
     case SYS_rt_sigaction:
-        if ((unsigned long)a >= _NSIG) return -EINVAL;
+        if ((unsigned long)a >= _NSIG || (b && bit(a) & (bit(SIGKILL) | bit(SIGSTOP)))) return -EINVAL;
         if (c) memcpy((void *)c, &actions[a], sizeof *actions);
         if (b) actions[a] = *(struct k_sigaction *)b;
         return 0;
@@ -266,7 +266,7 @@ static long signal_call(long n, long a, long b, long c, int is_cp) {
     case SYS_rt_sigtimedwait_time64: return await_signal(*(sigs *)a, (void *)b, (void *)c, is_cp);
     case SYS_sigaltstack: /* kept: handlers run on the stack of their thread */
         if (b) *(stack_t *)b = mine.stack.ss_sp ? mine.stack : (stack_t){.ss_flags = SS_DISABLE};
-        if (a) mine.stack = *(stack_t *)a;
+        if (a) mine.stack = ((stack_t *)a)->ss_flags & SS_DISABLE ? (stack_t){0} : *(stack_t *)a;
         return 0;
     case SYS_tkill: return __guest_send(a, b);
     case SYS_tgkill: return __guest_send(b, c);

@@ -155,6 +155,9 @@ int main(void)
 {
     int flags[] = {0, SA_RESTART};
     time_t seconds[] = {1000, (time_t)1 << 60};
+    struct sigaction ignoring = {.sa_handler = SIG_IGN};
+    SHOW_ERRNO(sigaction(SIGKILL, &ignoring, NULL));
+    SHOW_ERRNO(killpg(getpgrp(), 0));
     masks();
     jumps();
     send(suspends, &flags[0], SIGUSR1);
