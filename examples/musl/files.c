@@ -98,9 +98,7 @@ static long grow(struct file *f, size_t size) {
 /* The lowest descriptor that is free, from one on, with an open file. XSH 2.14. */
 static long describe(struct open *o, unsigned from) {
     while (from < OPENS && descriptors[from]) from++;
-    if (from == OPENS) return -EMFILE;
-    descriptors[from] = o, o->uses++;
-    return from;
+    return from == OPENS ? -EMFILE : (descriptors[from] = o, o->uses++, (long)from);
 }
 
 static long open_file(struct file *f, int flags) {
@@ -245,8 +243,7 @@ static long rename_path(struct name *from, const char *path, int moves) {
     if (old ? !moves : error != -ENOENT || !*path) return old ? -EEXIST : error;
     if (old && old->file == from->file) return 0;
     if ((error = add_name(cleaned, from->file))) return error;
-    if (old) remove_name(old);
-    return moves ? remove_name(from) : 0;
+    return old ? remove_name(old) : 0, moves ? remove_name(from) : 0;
 }
 
 /* XSH fstat, XSH stat. */
@@ -259,10 +256,13 @@ static long status(const struct file *f, struct statx *x) {
 static long map(long address, size_t length, int protection, int flags, unsigned fd, size_t page) {
     if (flags & MAP_ANON) return RAW(SYS_mmap2, address, length, protection, (flags & ~MAP_SHARED) | MAP_PRIVATE, -1);
     struct open *o = fd < OPENS ? descriptors[fd] : 0;
+    int is_shared = (flags & MAP_TYPE) != MAP_PRIVATE;
+    if (is_shared && (flags & (MAP_TYPE | MAP_FIXED)) != MAP_SHARED) return -EINVAL;
     if (!o || !S_ISREG(o->file->mode)) return o ? -ENODEV : -EBADF;
+    if (!reads(o) || (is_shared && protection & PROT_WRITE && !writes(o))) return -EACCES;
     struct file *f = o->file;
     size_t from = page * PAGE_BYTES, have = from < f->size ? f->size - from : 0;
-    if ((flags & MAP_TYPE) != MAP_PRIVATE) {
+    if (is_shared) {
         if (grow(f, from + length) || (!f->maps && grow(f, MAPPED_BYTES))) return -ENOMEM;
         return f->maps++, mapped++, (long)f->data + from;
     }
@@ -274,7 +274,7 @@ static long map(long address, size_t length, int protection, int flags, unsigned
 
 /* XSH munmap. The room of a file stays with it. */
 static long unmap(unsigned char *at, size_t length) {
-    for (struct file *f = files; mapped && f < files + FILES; f++)
+    for (struct file *f = files; mapped && length && !((long)at % PAGE_BYTES) && f < files + FILES; f++)
         if (f->maps && at >= f->data && at < f->data + f->room) return f->maps--, mapped--, drop(f), 0;
     return RAW(SYS_munmap, at, length, 0, 0, 0);
 }

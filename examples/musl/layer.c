@@ -227,7 +227,7 @@ static long clock_call(long n, long a, long b, long c, long d, int is_cp) {
         return memcpy(pair, PARTS(t - first), 2 * sizeof t), 0;
     case SYS_clock_getres_time64:
         return !is_clock ? -EINVAL : pair ? pair[0] = 0, pair[1] = 1, 0 : 0;
-    case SYS_clock_settime64: return -EPERM;
+    case SYS_clock_settime64: return a || (unsigned long long)pair[1] >= SECOND ? -EINVAL : -EPERM;
     case SYS_clock_nanosleep_time64:
         pair = (void *)c;
         if (!is_clock || is_processor || pair[0] < 0 || (unsigned long long)pair[1] >= SECOND) return -EINVAL;
@@ -308,6 +308,7 @@ static long machine_call(long n, long a, long b, long c, long d) {
     case SYS_getcpu: return a ? *(int *)a = 0 : 0;
     case SYS_sched_setscheduler: case SYS_sched_setparam: case SYS_sched_getparam: case SYS_sched_getscheduler:
         return schedule_call(n, a, b, c);
+    case SYS_sched_rr_get_interval_time64: return memcpy((void *)b, PARTS(SECOND / 10), 2 * sizeof(nanos)), 0;
     case SYS_prlimit64:
         if (d) ((nanos *)d)[0] = ((nanos *)d)[1] = b == RLIMIT_STACK ? 1 << 20 : b == RLIMIT_NOFILE ? GUEST_OPENS : -1;
         return 0;
@@ -315,11 +316,9 @@ static long machine_call(long n, long a, long b, long c, long d) {
         return *(struct sysinfo *)a = (struct sysinfo){.totalram = 64 << 20, .freeram = 48 << 20, .mem_unit = 1}, 0;
     case SYS_uname: *(struct utsname *)a = (struct utsname){"Linux", "guest", "6.0.0", "#1", "riscv32", ""}; return 0;
     case SYS_times:
-        time = now(1) / (SECOND / 100);
-        return a ? memcpy((void *)a, (long[4]){time}, 4 * sizeof(long)) : 0, time;
+        return time = now(1) / (SECOND / 100), a ? memcpy((void *)a, (long[4]){time}, 4 * sizeof(long)) : 0, time;
     case SYS_getrusage:
-        time = now(1);
-        return memcpy((void *)b, (long[18]){time / SECOND, time % SECOND / 1000}, 18 * sizeof(long)), 0;
+        return time = now(1), memcpy((void *)b, (long[18]){time / SECOND, time % SECOND / 1000}, 18 * sizeof(long)), 0;
     case SYS_getcwd: return b < 2 ? -ERANGE : (strcpy((char *)a, "/"), 2);
     case SYS_getpgid: case SYS_getsid: return !a || a == RAW(SYS_getpid, 0, 0, 0, 0, 0) ? 1 : -ESRCH;
     case SYS_umask: return 022;
