@@ -55,7 +55,7 @@ OTHERS: Mapping[tuple[str, str], str] = {
         pthread_mutexattr_getprioceiling/3-1 pthread_mutexattr_setprioceiling/1-1
         pthread_mutexattr_setprioceiling/3-1 pthread_mutexattr_setprioceiling/3-2""",
     ("not built", "it has no main"): """
-        pthread_once/4-1""",
+        pthread_once/4-1 sched_setparam/25-3 sched_setparam/25-4""",
 }
 EXPECTED = {case: verdict for (verdict, _), cases in OTHERS.items() for case in cases.split()}
 
