@@ -67,7 +67,9 @@ FAULTS = {1: signal.SIGILL, 2: signal.SIGTRAP, 3: signal.SIGBUS, 4: signal.SIGBU
           6: signal.SIGSEGV, 7: signal.SIGSEGV}
 NO_END, NOT_BUILT = "no end", "not built"
 # A case that has no end is ended after so many seconds: as a guest, and on Linux, if it doesn't end as a guest.
-PATIENCE, SHORT = 300, 10
+PATIENCE, SHORT = 120, 10
+# These have none in either place, and aren't waited for as long.
+ENDLESS = ("clock/1-1", "pthread_equal/2-1")
 FLAGS = ("-std=gnu99", "-w", "-O1", "-D_XOPEN_SOURCE=600", "-pthread")
 # Those that are left out: two look at what they never set, and two make a million calls, each of which is recorded.
 LEFT_OUT = ("pthread_key_create/2-1", "sem_unlink/4-1", "clock_getcpuclockid/1-1", "clock_gettime/4-1")
@@ -134,8 +136,9 @@ class Suite(NamedTuple):
         self.program.run_well("verify", store, 0)
         return of_guest(done.err.decode(errors="replace"))
 
-    def verdicts(self, source: pathlib.Path, seconds: int = PATIENCE) -> Verdicts:
-        """What a case says in both places, at the same time; as a guest it may take some seconds."""
+    def verdicts(self, source: pathlib.Path, has_end: bool = True) -> Verdicts:
+        """What a case says in both places, at the same time. As a guest it may be known to have no end."""
+        seconds = PATIENCE if has_end and f"{source.parent.name}/{source.stem}" not in ENDLESS else SHORT
         with tempfile.TemporaryDirectory(prefix="rrv-posix-") as name:
             folder = pathlib.Path(name)
             folder.chmod(0o777)

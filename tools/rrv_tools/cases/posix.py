@@ -11,7 +11,7 @@ from typing import ClassVar
 
 from rrv_tools import posix
 from rrv_tools.musl import MuslCase
-from rrv_tools.posix import NO_END, NOT_BUILT, PATIENCE, SHORT, Suite, Verdicts
+from rrv_tools.posix import NO_END, NOT_BUILT, Suite, Verdicts
 from rrv_tools.testing import rows
 
 # What cases say as guests that don't pass there, and say something else on Linux, by the reason, as FUNCTION/CASE.
@@ -83,7 +83,6 @@ class Functions(MuslCase):
         sources = {f"{function}/{it.stem}": it for it in self.suite.cases(function)}
         self.assertTrue(sources, "the suite has no case of it")
         self.compared = len(sources)
-        found = {case: self.suite.verdicts(it, SHORT if EXPECTED.get(case) == NO_END else PATIENCE)
-                 for case, it in sources.items()}
+        found = {case: self.suite.verdicts(it, EXPECTED.get(case) != NO_END) for case, it in sources.items()}
         self.need("verdicts as guests", {case: wanted(case, it) for case, it in found.items()},
                   {case: it.guest for case, it in found.items()})
