@@ -14,7 +14,9 @@ import pathlib
 import re
 import signal
 import subprocess
+import sys
 import tempfile
+import unittest
 from collections.abc import Iterator, Mapping, Sequence
 from typing import NamedTuple
 
@@ -173,21 +175,31 @@ def on_linux(process: "subprocess.Popen[bytes]", seconds: int) -> str:
 @functools.cache
 def needed() -> Suite:
     """The suite, for which musl has to be there as it is; a class is left out if that can't be had."""
+    musl.need()
     return Suite(need_source(PACKAGE), need_plain(), programs.needed())
 
 
-def main(words: Sequence[str]) -> int | None:
-    """Prints the verdicts of functions; the status is 1 if some case differs."""
-    if not all(it in FUNCTIONS for it in words):
-        return None
+def compared(words: Sequence[str]) -> bool:
+    """Prints the verdicts of functions, and how many are the same; returns whether all are."""
     counts: collections.Counter[tuple[str, str]] = collections.Counter()
-    with musl.prepared():
-        suite = needed()
-        for function in words or FUNCTIONS:
-            for source in suite.cases(function):
-                both = suite.verdicts(source)
-                print(f"{function}/{source.stem}", *(it.replace(" ", "-") for it in both), flush=True)
-                counts[FUNCTIONS[function], "the same" if both.guest == both.linux else "different"] += 1
+    suite = needed()
+    for function in words or FUNCTIONS:
+        for source in suite.cases(function):
+            both = suite.verdicts(source)
+            print(f"{function}/{source.stem}", *(it.replace(" ", "-") for it in both), flush=True)
+            counts[FUNCTIONS[function], "the same" if both.guest == both.linux else "different"] += 1
     for (group, what), count in sorted(counts.items()):
         print(f"{group}: {count} {what}")
-    return 1 if any(what == "different" for _, what in counts) else 0
+    return all(what == "the same" for _, what in counts)
+
+
+def main(words: Sequence[str]) -> int | None:
+    """Prints the verdicts of functions; the status is 1 if some case differs, or if something is missing."""
+    if not all(it in FUNCTIONS for it in words):
+        return None
+    with musl.prepared():
+        try:
+            return 0 if compared(words) else 1
+        except unittest.SkipTest as missing:
+            print(f"posix: {missing}", file=sys.stderr)
+            return 1
