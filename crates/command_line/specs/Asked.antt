@@ -47,6 +47,8 @@ abbrev pub IsAskedBy : (name value : Text) → Asked → Type 0
 IsAskedBy name value (lines.Of inquiry) = IsInquiry name value inquiry
 IsAskedBy name value (lines.Core file) = (name ≡ codes "core") × (file.now ≡ value) × (value ≢ [])
 IsAskedBy name value lines.Choices = (name ≡ codes "choices") × (value ≡ [])
+IsAskedBy name value lines.Quiet = (name ≡ codes "quiet") × (value ≡ [])
+IsAskedBy name value lines.Full = (name ≡ codes "full") × (value ≡ [])
 IsAskedBy name value lines.Help = (name ≡ codes "help") × (value ≡ [])
 IsAskedBy name value lines.Quit = (name ≡ codes "quit") × (value ≡ [])
 

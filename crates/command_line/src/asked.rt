@@ -20,6 +20,10 @@ pub enum Asked<'a> {
     Core { file: &'a str },
     /// `choices`: the choices of the turns.
     Choices,
+    /// `quiet`: from here on, moves print the line of their place.
+    Quiet,
+    /// `full`: from here on, moves print the state again.
+    Full,
     /// `help`: what can be asked.
     Help,
     /// `quit`: nothing more.
@@ -202,6 +206,14 @@ pub fn asked_in(line: &str) -> Result<Asked<'_>, BadLine<'_>>
         "choices" => {
             none_of(name, value)?;
             Ok(Asked::Choices)
+        }
+        "quiet" => {
+            none_of(name, value)?;
+            Ok(Asked::Quiet)
+        }
+        "full" => {
+            none_of(name, value)?;
+            Ok(Asked::Full)
         }
         "help" => {
             none_of(name, value)?;
