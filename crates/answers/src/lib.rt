@@ -19,6 +19,8 @@
 //! - `answer_lines` (private): if it returns Ok, a writer that tells its bytes got the answers to some lines, one after the other and none
 //!   after `quit`, each from where the one before it left the cursor, and after each a line of a point. That these are all lines of
 //!   standard input, and how long one may be, is tested. So is what is shown at a terminal.
+//! - `write_core_of` (private): why no core file is made. That it gets its name once it is whole, and that no file of another program is
+//!   removed, is tested.
 #![tactic(auto)]
 
 mod ask;
@@ -26,6 +28,7 @@ mod choosing;
 mod core_files;
 mod dialogue;
 mod input_lines;
+mod part_files;
 mod questions;
 mod replaying;
 mod search_progress;

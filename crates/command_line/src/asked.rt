@@ -9,6 +9,7 @@ use crate::memory::range_in;
 use crate::numbers::{address_in, number_in, place_in};
 use crate::request::{MemoryRange, Place};
 use crate::unread::Wanted;
+use escapes::Escaped;
 use thiserror::Error;
 
 /// What a line of `ask` asks.
@@ -51,11 +52,11 @@ pub enum Inquiry {
     Where,
 }
 
-/// Why a line of `ask` asks nothing.
+/// Why a line of `ask` asks nothing. The text repeats what the line has, with its control characters escaped.
 #[derive(Clone, Copy, Debug, Error)]
 pub enum BadLine<'a> {
     /// Nothing is asked by this name.
-    #[error("no question '{name}': help lists them")]
+    #[error("no question '{}': help lists them", Escaped::word(*.name))]
     Unknown {
         name: &'a str,
     },
@@ -65,13 +66,13 @@ pub enum BadLine<'a> {
         name: &'a str,
     },
     /// The name has a value, and takes none.
-    #[error("unexpected value '{text}' for '{name}'")]
+    #[error("unexpected value '{}' for '{name}'", Escaped::word(*.text))]
     Unexpected {
         name: &'a str,
         text: &'a str,
     },
     /// The name has this value, which is not what is wanted.
-    #[error("invalid value '{text}' for '{name}': not {wanted}")]
+    #[error("invalid value '{}' for '{name}': not {wanted}", Escaped::word(*.text))]
     Bad {
         name: &'a str,
         text: &'a str,

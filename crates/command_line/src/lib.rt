@@ -18,6 +18,8 @@
 //!   value that is refused fits no request.
 //! - `asked_in`: what a line of `ask` asks: its name, and after the first space its value, which is a place, a number, an address
 //!   or a range of memory as the arguments of commands are, a file, or nothing. It is refused only if nothing is asked so.
+//! - `shown_words` (private): the words of which the parser's error speaks are those of the line as `escapes` prints them. That no text of
+//!   an error has a control character of a word is tested.
 //! - `help`: what the parser says where help is asked for.
 //! - `seed`: Ok exactly for 32 hexadecimal digits, with the 16 bytes that they write.
 #![tactic(auto)]
