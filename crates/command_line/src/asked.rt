@@ -1,8 +1,8 @@
 //! The lines of `ask`.
 
-ghost use Rattle.std.specs.Prelude.{◌≡◌, ◌≢◌, ◌==◌, []};
+ghost use Rattle.std.specs.Prelude.{◌≡◌, ◌≢◌, ◌==◌, [], IfErr};
 ghost use Rattle.std.specs.List.{after_first, before_first};
-ghost use Rattle.command_line.specs.Asked.{IsAsked, IsInquiry, IsNumber, ReadsLine};
+ghost use Rattle.command_line.specs.Asked.{IsAsked, IsInquiry, IsNumber, IsUnlike, ReadsLine};
 ghost use Rattle.command_line.specs.Values.{IsAddress, IsMemoryRange, IsPlace};
 
 use crate::memory::range_in;
@@ -91,62 +91,63 @@ fn name_and_value(line: &str) -> (&str, &str)
     }
 }
 
+/// Why a text is refused as the value of a name: there is none, or it isn't what is wanted.
+fn unlike<'a>(name: &'a str, text: &'a str, wanted: Wanted) -> BadLine<'a>
+    ensures { IsUnlike name.now text.now wanted result }
+{
+    if text.is_empty() {
+        return BadLine::Missing { name };
+    }
+    BadLine::Bad { name, text, wanted }
+}
+
 /// The place that a text names.
 fn place_of<'a>(name: &'a str, text: &'a str) -> Result<Place, BadLine<'a>>
-    ensures { ReadsLine (IsPlace text.now) result }
+    ensures reads { ReadsLine (IsPlace text.now) result }
+    ensures why { IfErr result (IsUnlike name.now text.now Wanted.Place) }
 {
     match place_in(text) {
         Some(place) => Ok(place),
-        None => Err(BadLine::Bad {
-            name,
-            text,
-            wanted: Wanted::Place,
-        }),
+        None => Err(unlike(name, text, Wanted::Place)),
     }
 }
 
 /// The number of instructions that a text names.
 fn count_of<'a>(name: &'a str, text: &'a str) -> Result<u64, BadLine<'a>>
-    ensures { ReadsLine (IsNumber text.now) result }
+    ensures reads { ReadsLine (IsNumber text.now) result }
+    ensures why { IfErr result (IsUnlike name.now text.now (Wanted.Number 0 18446744073709551615)) }
 {
     match number_in(text, 0, u64::MAX) {
         Some(count) => Ok(count),
-        None => Err(BadLine::Bad {
-            name,
-            text,
-            wanted: Wanted::Number {
+        None => {
+            let wanted = Wanted::Number {
                 least: 0,
                 most: u64::MAX,
-            },
-        }),
+            };
+            Err(unlike(name, text, wanted))
+        }
     }
 }
 
 /// The address that a text names.
 fn address_of<'a>(name: &'a str, text: &'a str) -> Result<u32, BadLine<'a>>
-    ensures { ReadsLine (IsAddress text.now) result }
+    ensures reads { ReadsLine (IsAddress text.now) result }
+    ensures why { IfErr result (IsUnlike name.now text.now Wanted.Address) }
 {
     match address_in(text) {
         Some(address) => Ok(address),
-        None => Err(BadLine::Bad {
-            name,
-            text,
-            wanted: Wanted::Address,
-        }),
+        None => Err(unlike(name, text, Wanted::Address)),
     }
 }
 
 /// The bytes of memory that a text names.
 fn range_of<'a>(name: &'a str, text: &'a str) -> Result<MemoryRange, BadLine<'a>>
-    ensures { ReadsLine (IsMemoryRange text.now) result }
+    ensures reads { ReadsLine (IsMemoryRange text.now) result }
+    ensures why { IfErr result (IsUnlike name.now text.now Wanted.Range) }
 {
     match range_in(text) {
         Some(range) => Ok(range),
-        None => Err(BadLine::Bad {
-            name,
-            text,
-            wanted: Wanted::Range,
-        }),
+        None => Err(unlike(name, text, Wanted::Range)),
     }
 }
 

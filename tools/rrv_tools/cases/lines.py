@@ -547,6 +547,7 @@ ASKED = (
     ("core core.asked", ""),
     ("choices", "1 64\n"),
     ("at 0x1", f"rrv: {invalid('0x1', 'at', NO_PLACE)}\n"),
+    *((it, f"rrv: a value is required for '{it}'\n") for it in ("at", "back", "forward", "last", "next", "memory")),
     ("go", "rrv: no question 'go': help lists them\n"),
     ("where ", AT_CALL),
     ("quit now", "rrv: unexpected value 'now' for 'quit'\n"),
