@@ -90,10 +90,11 @@ pub record Answers (is_quiet : Bool) (inquiry : Inquiry) (old new : CursorValue)
   pub none : total new.verified.frames ≡ 0 → tid ≡ 0
   pub printed : Appends before after (found_text is_found new.place (total new.verified.frames) tid state (printed_for is_quiet inquiry))
 
--- why a question has no answer: it leads nowhere, or there was no memory, and the cursor stays; or there was no reader
+-- why a question has no answer: it leads nowhere, or there was no memory, and the cursor stays; or there was no reader, and the cursor is
+-- where the question leads
 abbrev pub Stays : Inquiry → (old new : CursorValue) → Refusal → Type 0
 Stays inquiry old new (refusals.Seek seek_faults.Memory) = ⊥
 Stays inquiry old new (refusals.Seek fault) = Refuses fault inquiry (total old.verified.frames) old.place × (new ≡ old)
 Stays inquiry old new refusals.Memory = IsWithin inquiry (total old.verified.frames) old.place × (new ≡ old)
-Stays inquiry old new refusals.OutputFailed = Unit {0}
+Stays inquiry old new refusals.OutputFailed = (is_found : Bool) × Leads inquiry old new is_found
 Stays inquiry old new _ = ⊥

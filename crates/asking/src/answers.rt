@@ -13,9 +13,9 @@ use reverse_step::{Cursor, SearchWatch};
 use std::io::Write;
 use std::thread::Threads;
 
-/// Goes where a question leads, with so many workers at most, and prints what it asks about there. A move prints the state or, if
+/// Goes where a question leads, with at most `workers` workers, and prints what it asks about there. A move prints the state or, if
 /// `is_quiet` says so, the line of the place. If it leads to no place of the recording, or there is no memory, the cursor stays and
-/// nothing is printed. How far a search is goes to `watch`.
+/// nothing is printed. If output fails, the cursor is where the question led. How far a search is goes to `watch`.
 pub fn answer<R: AllocGlobal + Threads + Sync, V: SearchWatch, W: Write>(
     rt: &R,
     workers: usize,

@@ -38,3 +38,9 @@ returns-in_err-is_found-clause-stays g c =
     let p = err_from_is_err_and c.from_residual.result c.from_residual.ensures.1 in
     rw (p.1, p.2) (stays c.in_err-is_found.field-0.0 c.args.inquiry c.args.cursor.now c.go.new.cursor c.in_err-is_found.ensures.refused
     c.in_err-is_found.ensures.stays)
+
+-- there was no reader, and the cursor is where the question leads
+pub returns-in_err-print_found-clause-stays : goal.returns-in_err-print_found-clause-stays
+returns-in_err-print_found-clause-stays g c =
+    let p = err_from_is_err_and c.from_residual-in_err-print_found.result c.from_residual-in_err-print_found.ensures.1 in
+    rw (p.1, p.2) (c.in_ok-is_found.is_found, c.in_ok-is_found.ensures.goes)
