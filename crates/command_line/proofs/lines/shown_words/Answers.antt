@@ -21,8 +21,8 @@ pub loop-word-preserved : goal.loop-word-preserved
 loop-word-preserved g c =
     let pushed : c.push.new.self.items ≡ c.loop-word.shown.items ++ c.in_ok-word.word ∷ [] = search rules in
     let own =
-        printed_of (string_bytes c.in_ok-word.word) c.word.result.text.now (g.S.AsStr.text c.word-item.result) c.word.result.most
-        c.in_ok-word.ensures.ok c.word.ensures.most (search rules) in
+    printed_of (string_bytes c.in_ok-word.word) c.word.result.text.now (g.S.AsStr.text c.word-item.result) c.word.result.most
+    c.in_ok-word.ensures.ok c.word.ensures.most (search rules) in
     rw pushed (one_more (λ word. escaped 200 (g.S.AsStr.text word)) string_bytes c.args.words.now c.loop-word.shown.items
     c.loop-word.word-index c.word-item.result c.in_ok-word.word (omega arith) c.word-item.is c.loop-word.invariant own)
 

@@ -19,7 +19,7 @@ pub returns : goal.returns
 returns g c plain ok =
     let spelt = YieldsList-from_chars {s = c.chars.result} c.args.text.now c.utf8.text cc in
     let shown = YieldsList-from_take {s = c.take-c-items.result} c.args.most (YieldsList-at c.take-c-items.ensures.source spelt)
-        c.take-c-items.ensures.count in
+    c.take-c-items.ensures.count in
     let loop = YieldsList-at c.into_iter-c-iterator.ensures.into_iter_gives shown in
     let end = YieldsList-end loop c.loop-c.yielded _ c.loop-c.yielded_by _ _ c.in-None.is c.next.ensures.steps in
     subst (λ (text : List ℕ). HasWritten g.W.Write.write_str_gives c.args.f.now text c.loop-c.f)
