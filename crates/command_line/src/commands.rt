@@ -17,7 +17,7 @@ use clap::{ArgMatches, Command};
 use std::alloc::{AllocError, Global};
 
 /// The version of the program.
-const VERSION: &str = "0.3.0";
+const VERSION: &str = "0.4.0";
 
 const STORE: Argument = Argument::Needed("STORE", "the file of the store");
 
