@@ -8,9 +8,10 @@ usage: ./check                       runs every case and look that needs no prov
        --junit FILE                  writes what was found as JUnit's XML too
 
 A case stands in a class of tools/rrv_tools/cases, or of tools/rrv_tools/tests; a look is a tool of the package. Classes
-and looks run side by side, one on each processor that this process may use, the longest first; those that measure time
-run alone at the end. As each ends there is a line with what it counted and its seconds. What failed follows, and how to
-run it again. What needs a compiler or a debugger says that it was left out if that is missing.
+and looks run side by side, one more than there are processors that this process may use, since some of them mostly
+wait. The longest come first, and those that measure time run alone at the end. As each ends there is a line with what
+it counted and its seconds. What failed follows, and how to run it again. What needs a compiler or a debugger says that
+it was left out if that is missing.
 
 The gate first compares the logic of the kit in use with the one that release/FROM names. It runs `rt ci`, which proves
 every crate, tries the edits of must-fail/, and runs the tests and the programs. With some kits that takes over what an

@@ -237,15 +237,16 @@ def folder_of_jobs() -> Iterator[pathlib.Path]:
 
 
 def run_jobs(jobs: Sequence[Job], program: pathlib.Path) -> list[Done]:
-    """Runs jobs at a program, at most one a processor that this process may use, the longest first; those that run
-    alone at the end. It prints a line as each ends."""
+    """Runs jobs at a program, one more than there are processors that this process may use, since some of them mostly
+    wait. The longest come first, and those that run alone last. It prints a line as each ends."""
     progress, found = Progress(len(jobs)), []
+    most = len(os.sched_getaffinity(0)) + 1
     together = sorted((it for it in jobs if not it.is_alone), key=lambda it: -it.seconds)
     alone = [it for it in jobs if it.is_alone]
     with folder_of_jobs() as folder:
         runner = Runner(program, folder)
         try:
-            for some, at_once in ((together, len(os.sched_getaffinity(0))), (alone, 1)):
+            for some, at_once in ((together, most), (alone, 1)):
                 for it in runner.done(some, at_once, progress):
                     progress.print(it)
                     found.append(it)
