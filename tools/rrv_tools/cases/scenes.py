@@ -182,6 +182,7 @@ recorded(
 scene(
     "a store of another program is left alone",
     lock("s"),
+    write("f", FIVE.file),
     refused("record s f", CANNOT_OPEN),
     refused("list s", NOT_A_STORE),
 )
