@@ -39,7 +39,7 @@ const HELP: &str = "\
     memory ADDR:LEN  print bytes of memory at the place\n\
     threads          print the threads at the place\n\
     where            print the place, its thread, and the instruction that comes next\n\
-    quiet            from here on, print what where prints in place of the state\n\
+    quiet            from here on, print the line of where, not the state\n\
     full             from here on, print the state again\n\
     choices          print the choices of the turns\n\
     core FILE        write the state at the place as a core file\n\

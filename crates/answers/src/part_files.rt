@@ -43,7 +43,12 @@ impl PartFile {
             match new_file(rt, name.as_str()) {
                 Ok(file) => {
                     let made = file.metadata();
-                    return Ok(PartFile { file, made, name });
+                    let part = PartFile { file, made, name };
+                    if !part.is_at(rt, path) {
+                        return Ok(part);
+                    }
+                    // The path has the name of a part itself.
+                    part.remove(rt);
                 }
                 Err(error) if error.kind() == ErrorKind::AlreadyExists => {}
                 Err(_) => return Err(Refusal::CannotMakeCore),
@@ -57,14 +62,22 @@ impl PartFile {
         &self.file
     }
 
-    /// Gives the file a name, and refuses one that is taken.
+    /// Whether a path leads to the file.
+    fn is_at<R: Files<File = File>>(&self, rt: &R, path: &str) -> bool {
+        leads_to(rt, path, &self.made)
+    }
+
+    /// Gives the file a name, and refuses one that is taken, or if another program took the file's own.
     pub(crate) fn put<R: Files<File = File>>(&self, rt: &R, path: &str) -> Result<(), Refusal>
         ensures { IfErr result (λ e. e ≡ Refusal.CannotMakeCore) }
     {
+        if !self.is_at(rt, self.name.as_str()) {
+            return Err(Refusal::CannotMakeCore);
+        }
         match fs::hard_link(rt, self.name.as_str(), path) {
-            Ok(()) => Ok(()),
+            Ok(()) if self.is_at(rt, path) => Ok(()),
             Err(error) if has_no_links(&error) => self.put_over(rt, path),
-            Err(_) => Err(Refusal::CannotMakeCore),
+            _ => Err(Refusal::CannotMakeCore),
         }
     }
 
@@ -76,14 +89,15 @@ impl PartFile {
             return Err(Refusal::CannotMakeCore);
         };
         let made = holder.metadata();
-        if !leads_to(rt, path, &made) {
+        let is_whole = leads_to(rt, path, &made)
+            && self.is_at(rt, self.name.as_str())
+            && fs::rename(rt, self.name.as_str(), path).is_ok()
+            && self.is_at(rt, path);
+        if !is_whole {
+            remove_made(rt, path, &made);
             return Err(Refusal::CannotMakeCore);
         }
-        if fs::rename(rt, self.name.as_str(), path).is_ok() {
-            return Ok(());
-        }
-        remove_made(rt, path, &made);
-        Err(Refusal::CannotMakeCore)
+        Ok(())
     }
 
     /// Removes the file's own name.
