@@ -41,9 +41,9 @@ NOT_WRITTEN, NOT_MADE = ((1, b"", f"rrv: cannot {it} core file\n".encode()) for 
 DONE = 0, b"", b""
 # The same of `ask`.
 ASKED = {NOT_WRITTEN: NOT_WRITTEN[2], NOT_MADE: NOT_MADE[2], DONE: b""}
-# What another program puts where the core file is to stand.
+# What another program puts where the core file is to stand, or where its part stands.
 PRECIOUS = b"of another program\n"
-PUT_THERE = {"REPLACED_BY": "precious", "REPLACED": "c"}
+PART = "rrv-0.part"
 ALL_DONE = 2
 
 
@@ -109,18 +109,21 @@ class Shown(Looked):
 
 # ---- names
 
-# What a library does with a call, how the line then ends, and whether another file is put at the name.
-Meanwhile = tuple[Mapping[str, object], tuple[int, bytes, bytes], bool]
+# What a library does with a call, how the line then ends, and the name at which another file is put, if it is.
+Meanwhile = tuple[Mapping[str, object], tuple[int, bytes, bytes], str]
+FULL, WRITTEN = {"CHOSEN_CALLS": "f", "CHOSEN_ERROR": errno.ENOSPC}, {"CHOSEN_CALLS": "f", "CHOSEN_DONE": ALL_DONE}
+NO_LINKS = {"CHOSEN_CALLS": "n", "CHOSEN_ERROR": errno.EPERM}
 MEANWHILE: dict[str, Meanwhile] = {
-    "a disk is full": ({"CHOSEN_CALLS": "f", "CHOSEN_ERROR": errno.ENOSPC}, NOT_WRITTEN, False),
-    "a disk is full and another file stands there":
-        ({"CHOSEN_CALLS": "f", "CHOSEN_ERROR": errno.ENOSPC}, NOT_WRITTEN, True),
-    "another file stands there": ({"CHOSEN_CALLS": "f", "CHOSEN_DONE": ALL_DONE}, NOT_MADE, True),
-    "a name can't be given": ({"CHOSEN_CALLS": "n", "CHOSEN_ERROR": errno.ENOSPC}, NOT_MADE, False),
-    "a file system has no links": ({"CHOSEN_CALLS": "n", "CHOSEN_ERROR": errno.EPERM}, DONE, False),
-    "a file system knows no links": ({"CHOSEN_CALLS": "n", "CHOSEN_ERROR": errno.EOPNOTSUPP}, DONE, False),
-    "a file system has no links and another file stands there":
-        ({"CHOSEN_CALLS": "n", "CHOSEN_ERROR": errno.EPERM}, NOT_MADE, True),
+    "a disk is full": (FULL, NOT_WRITTEN, ""),
+    "a disk is full and another file stands there": (FULL, NOT_WRITTEN, "c"),
+    "a disk is full and another file stands for the part": (FULL, NOT_WRITTEN, PART),
+    "another file stands there": (WRITTEN, NOT_MADE, "c"),
+    "another file stands for the part": (WRITTEN, NOT_MADE, PART),
+    "a name can't be given": ({"CHOSEN_CALLS": "n", "CHOSEN_ERROR": errno.ENOSPC}, NOT_MADE, ""),
+    "a file system has no links": (NO_LINKS, DONE, ""),
+    "a file system knows no links": ({"CHOSEN_CALLS": "n", "CHOSEN_ERROR": errno.EOPNOTSUPP}, DONE, ""),
+    "a file system has no links and another file stands there": (NO_LINKS, NOT_MADE, "c"),
+    "a file system has no links and another file stands for the part": (NO_LINKS, NOT_MADE, PART),
 }  # fmt: skip
 
 
@@ -143,19 +146,21 @@ class Named(Case):
 
     def need_kept(self, row: Meanwhile) -> None:
         """What another program put there is kept, and nothing else stays but a whole core file; also of `ask`."""
-        options, ends, is_put = row
-        options = {"CHOSEN_NTH": 1, **options, **(PUT_THERE if is_put else {})}
+        options, ends, put = row
+        options = {"CHOSEN_NTH": 1, **options, **({"REPLACED_BY": "precious", "REPLACED": put} if put else {})}
         asked = 0, ASKED[ends] + b".\n", b""
         for line, given, wanted in (("core s 0 0 c", b"", ends), ("ask s 0", b"core c\n", asked)):
-            pathlib.Path("c").unlink(missing_ok=True)
+            for it in ("c", PART):
+                pathlib.Path(it).unlink(missing_ok=True)
             pathlib.Path("precious").write_bytes(PRECIOUS)
             words = self.program.words(*line.split())
             ended, _ = preload.run(self.shared, words, options, stdin=None, input=given)
             self.need("its end", wanted, tuple(ended))
-            self.need_files("whole", *(["c"] if is_put else ["precious", "c"] if ends == DONE else ["precious"]))
-            if is_put or ends == DONE:
-                kept = PRECIOUS if is_put else pathlib.Path("whole").read_bytes()
-                self.need("what stands there", kept, pathlib.Path("c").read_bytes())
+            self.need_files("whole", *([put] if put else ["precious", "c"] if ends == DONE else ["precious"]))
+            if put:
+                self.need("the other file", PRECIOUS, pathlib.Path(put).read_bytes())
+            elif ends == DONE:
+                self.need("the core file", pathlib.Path("whole").read_bytes(), pathlib.Path("c").read_bytes())
 
     def test_its_owner_alone_may_read_it(self) -> None:
         """As one that the kernel writes; and no other name is left."""
@@ -184,6 +189,14 @@ class Named(Case):
             self.need_refused("core", "s", 0, 0, name, err=NOT_MADE[2])
         self.need_files("whole", "folder", "link")
         self.need("what the folder has", [], os.listdir("folder"))
+
+    def test_the_name_of_a_part(self) -> None:
+        """A core file may be named as a part is, also by another path."""
+        pathlib.Path("folder").mkdir()
+        for name, path in ((PART, PART), ("rrv-1.part", "./rrv-1.part"), ("rrv-2.part", "folder/../rrv-2.part")):
+            self.need_line("core", "s", 0, 0, path)
+            self.need("the core file", pathlib.Path("whole").read_bytes(), pathlib.Path(name).read_bytes())
+        self.need_files("whole", "folder", PART, "rrv-1.part", "rrv-2.part")
 
     def test_a_long_name(self) -> None:
         """A name of 255 bytes is given, and one of 256 refused."""
