@@ -1,0 +1,4 @@
+pub mod Deeds
+pub mod Acts
+pub mod Laws
+pub mod Rows
