@@ -26,7 +26,7 @@ fetch() {
     mkdir -p "$3/apt/lists/partial" "$3/apt/cache/archives/partial"
     places=$(apt-get indextargets --format '$(ORIGIN) $(COMPONENT) $(REPO_URI) $(RELEASE)' 2>/dev/null |
         sed -n 's/^Debian main \([^ ]*\) .*/\1/p' | grep -v -e security | sort -u | head -n 1)
-    [ -n "$places" ] || fail "apt has no place of Debian's packages: $5"
+    [ -n "$places" ] || fail "apt has no list of Debian's packages: apt-get update brings it. With the files at hand: $5"
     say "fetching the source of $1 from Debian's $2"
     key=/usr/share/keyrings/debian-archive-keyring.gpg
     {
@@ -35,13 +35,13 @@ fetch() {
     } >"$3/apt/$2.sources"
     set -- "$@" -o Dir::Etc::sourcelist="$3/apt/$2.sources" -o Dir::Etc::sourceparts=/dev/null -o Dir::State::lists="$3/apt/lists" \
         -o Dir::Cache="$3/apt/cache" -o APT::Sandbox::User=root -o APT::Update::Error-Mode=any -o Acquire::Retries=2
-    fetched=$1 from=$2 into=$3 wanted=$4 without=$5
+    fetched=$1 suite_of=$2 into=$3 wanted=$4 without=$5
     shift 5
     (
         cd "$into"
-        apt-get "$@" -q update && apt-get "$@" -q source --download-only "$fetched"
-    ) >"$into/apt.log" 2>&1 || fail "apt-get can't fetch the source of $fetched from $from ($into/apt.log). With its files at hand: $without"
-    [ -e "$into/$wanted" ] || fail "$from has no $wanted, but $(cd "$into" && echo "$fetched"_*.orig.tar.*): $without"
+        apt-get "$@" -q update && apt-get "$@" -q source --download-only --tar-only "$fetched"
+    ) >"$into/apt.log" 2>&1 || fail "apt-get can't fetch the source of $fetched from $suite_of ($into/apt.log). With its files at hand: $without"
+    [ -e "$into/$wanted" ] || fail "$suite_of has no $wanted, but $(cd "$into" && echo "$fetched"_*.orig.tar.*): $without"
 }
 
 # need_room WORDS: the section that start.c reads is a page.

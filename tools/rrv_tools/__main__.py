@@ -17,6 +17,7 @@ TOOLS: dict[str, tuple[str, str]] = {
     "recordings": ("rrv_tools.makers.recordings", "writes the recordings of replay_cases"),
     "slice_rows": ("rrv_tools.makers.slice_rows", "prints rows of slice_cases"),
     "vectors": ("rrv_tools.makers.vectors", "writes the rows of instructions of machine_cases"),
+    "posix": ("rrv_tools.posix", "runs cases of the open POSIX test suite as guests and on Linux"),
     "package": ("rrv_tools.package", "makes the Debian package"),
     "race_picture": ("rrv_tools.race_picture", "draws a race of a recording"),
     "bench": ("rrv_tools.bench.__main__", "measures the program: `tools/run bench` lists what"),

@@ -21,8 +21,9 @@ they were built by different kits, the rows of two looks are run on both. Then c
 and all others.
 
 With --real it runs just the cases of classes with `is_real`, which no other line runs. They need Debian's package
-gcc-riscv64-unknown-elf, and its sources, which apt-get fetches. First examples/musl/build-musl fills the folder
-RRV_MUSL, or a temporary one if that isn't set. What is missing is said, and what needs it is left out.
+gcc-riscv64-unknown-elf, some of them qemu-user, rustc 1.63 with rust-src, or tcl, and sources, which apt-get fetches.
+First examples/musl/build-musl fills the folder RRV_MUSL, or a temporary one if that isn't set. What is missing is said,
+and what needs it is left out.
 
 With --times the gate also prints how many minutes of processor time each crate took: its proof, its tests, its edits.
 They are looked up twice a second while the checks run, so each may be some seconds short.

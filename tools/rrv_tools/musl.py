@@ -6,6 +6,7 @@ import contextlib
 import fcntl
 import os
 import pathlib
+import shutil
 import subprocess
 import tempfile
 import unittest
@@ -22,7 +23,7 @@ FOLDER, MISSING, IS_REAL = "RRV_MUSL", "RRV_MUSL_MISSING", "RRV_REAL"
 SECONDS, BUILD_SECONDS = 120, 7200
 
 # What a script prints of a source that it can't fetch, or of a program that isn't there.
-ABSENT = ("can't fetch", "is not installed", "has no place of Debian's packages")
+ABSENT = ("can't fetch", "is not installed", "has no list of Debian's packages")
 
 Ran = subprocess.CompletedProcess[bytes]
 
@@ -61,16 +62,39 @@ def need() -> None:
         raise unittest.SkipTest(os.environ.get(MISSING) or f"{FOLDER} names no folder: ./check --real sets it")
 
 
-def need_cxx() -> None:
-    """Builds libstdc++, or leaves out a class if its source can't be had. One process builds it for all."""
-    with open(f"{os.environ[FOLDER]}/cxx.lock", "ab") as lock:
+def run_once(words: Sequence[Word]) -> None:
+    """Runs a script that fetches or builds something for all processes, one at a time. A class is left out if that
+    can't be had."""
+    with open(f"{os.environ[FOLDER]}/lock", "ab") as lock:
         fcntl.flock(lock, fcntl.LOCK_EX)
-        done = ran([KIT / "build-cxx"], BUILD_SECONDS)
+        done = ran(words, BUILD_SECONDS)
     text = done.stderr.decode(errors="replace").strip().rpartition("\n")[2]
-    if any(it in text for it in ABSENT):
+    if done.returncode != 0 and any(it in text for it in ABSENT):
         raise unittest.SkipTest(text)
     if done.returncode != 0:
         raise AssertionError(text)
+
+
+def need_cxx() -> None:
+    """Builds libstdc++, or leaves out a class if its source can't be had."""
+    run_once([KIT / "build-cxx"])
+
+
+def need_source(package: str) -> pathlib.Path:
+    """The folder with the source of a package of Debian's, or leaves out a class if that can't be had."""
+    folder = pathlib.Path(os.environ[FOLDER], package)
+    unpack = '[ -d "$2" ] || { "$0" "$1" "$2.new" "$2.source" && mv "$2.new" "$2"; }'
+    run_once(["sh", "-c", unpack, REAL / "unpack", package, folder])
+    return folder
+
+
+def need_plain() -> pathlib.Path:
+    """The folder with musl as it is, for programs that qemu-riscv32 runs; or leaves out a class."""
+    if shutil.which("qemu-riscv32") is None:
+        raise unittest.SkipTest("qemu-riscv32 is not installed: apt-get install qemu-user")
+    folder, sources = pathlib.Path(os.environ[FOLDER], "plain"), pathlib.Path(os.environ[FOLDER], "source")
+    run_once([KIT / "build-musl", "--plain", "--to", folder, *sources.glob("musl_*.orig.tar.gz")])
+    return folder
 
 
 class MuslCase(Case):

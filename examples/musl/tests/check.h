@@ -15,7 +15,8 @@ static inline const char *error_name(int error)
         {0, "0"}, {EAGAIN, "EAGAIN"}, {EBADF, "EBADF"}, {EBUSY, "EBUSY"}, {EDEADLK, "EDEADLK"}, {EEXIST, "EEXIST"},
         {EINTR, "EINTR"}, {EINVAL, "EINVAL"}, {EISDIR, "EISDIR"}, {ENOENT, "ENOENT"}, {ENOSYS, "ENOSYS"},
         {ENOTTY, "ENOTTY"}, {EPERM, "EPERM"}, {EPIPE, "EPIPE"}, {ESPIPE, "ESPIPE"}, {ESRCH, "ESRCH"},
-        {ETIMEDOUT, "ETIMEDOUT"}, {ENOTDIR, "ENOTDIR"}};
+        {ETIMEDOUT, "ETIMEDOUT"}, {ENOTDIR, "ENOTDIR"}, {EMFILE, "EMFILE"}, {ENOSPC, "ENOSPC"},
+        {ENAMETOOLONG, "ENAMETOOLONG"}};
     for (unsigned i = 0; i < sizeof names / sizeof *names; i++)
         if (names[i].number == error)
             return names[i].name;

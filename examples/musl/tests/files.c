@@ -53,6 +53,7 @@ static void places(void)
     SHOW(readv(fd, parts, 2));
     SHOW(bytes[50]);
     SHOW_ERRNO(write(fd, "x", 1));
+    SHOW(futimens(fd, NULL));
     close(fd);
 }
 
@@ -127,6 +128,11 @@ static void mappings(void)
     SHOW(ftruncate(fd, 100000));
     SHOW(pread(fd, bytes, 10, 99990));
     SHOW(shared[0]);
+    int reads = open("four", O_RDONLY);
+    SHOW_ERRNO(mmap(NULL, 4096, PROT_READ | PROT_WRITE, MAP_SHARED, reads, 0));
+    SHOW_ERRNO(mmap(NULL, 4096, PROT_READ, 0, fd, 0));
+    SHOW_ERRNO(munmap(shared, 0));
+    SHOW_ERRNO(munmap(shared + 1, 4096));
     SHOW(munmap(shared, 4096) || munmap(private, 4096));
     SHOW(unlink("four") || close(fd));
 }

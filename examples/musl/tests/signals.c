@@ -94,13 +94,13 @@ static void *waits(void *unused)
     return unused;
 }
 
-static void *sleeps(void *unused)
+static void *sleeps(void *seconds)
 {
-    struct timespec t = {1000, 0}, rest = {0, 0};
+    struct timespec t = {*(time_t *)seconds, 0}, rest = {0, 0};
     is_waiting = 1;
     SHOW_ERRNO(nanosleep(&t, &rest));
     SHOW(rest.tv_sec >= 998);
-    return unused;
+    return NULL;
 }
 
 static void *blocks(void *unused)
@@ -154,13 +154,18 @@ static void alarms(void)
 int main(void)
 {
     int flags[] = {0, SA_RESTART};
+    time_t seconds[] = {1000, (time_t)1 << 60};
+    struct sigaction ignoring = {.sa_handler = SIG_IGN};
+    SHOW_ERRNO(sigaction(SIGKILL, &ignoring, NULL));
+    SHOW_ERRNO(killpg(getpgrp(), 0));
     masks();
     jumps();
     send(suspends, &flags[0], SIGUSR1);
     send(suspends, &flags[1], SIGUSR1);
     send(waits, NULL, SIGTERM);
     handle(SIGHUP, count, SA_RESTART);
-    send(sleeps, NULL, SIGHUP);
+    send(sleeps, &seconds[0], SIGHUP);
+    send(sleeps, &seconds[1], SIGHUP);
     handle(SIGINT, count, SA_RESTART);
     send(blocks, NULL, SIGINT);
     SHOW(counts[SIGINT]);

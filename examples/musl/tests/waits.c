@@ -165,6 +165,9 @@ int main(void)
 {
     pthread_t thread;
     char text[40];
+    struct timespec bad = {0, 1000000000};
+    SHOW_ERRNO(clock_settime(CLOCK_REALTIME, &bad));
+    SHOW_ERRNO(clock_settime(CLOCK_MONOTONIC, &bad));
     broadcasts();
     cancellation();
     timeouts();

@@ -9,10 +9,12 @@ scripts are refused is looked at without a compiler.
 """
 import os
 import pathlib
+import random
+import re
 import shutil
 from typing import NamedTuple
 
-from rrv_tools.musl import KIT, MuslCase, need_cxx, ran
+from rrv_tools.musl import BUILD_SECONDS, KIT, MuslCase, need_cxx, ran
 from rrv_tools.program import Word
 from rrv_tools.testing import Case, rows
 
@@ -76,22 +78,63 @@ int main(int count, char **words)
     return 0;
 }
 """
-# As many threads as a guest of version 2 may have beside the first.
-MANY = """\
+# How much a guest has: the table of README.md. A guest of version 2 has 64 threads.
+LIMITS = b"""\
+64 threads, and then EAGAIN
+pthread_create(made, NULL, wait_for_lock, &lock): 0
+64 descriptors, and then EMFILE
+open("/dev/null", O_RDONLY): no error
+256 names, and then ENOSPC
+unlink("/tmp/100"): no error
+rename("/tmp/101", name): no error
+rename("/tmp/101", name): no error
+rename("/tmp/101", name): ENAMETOOLONG
+"""
+# Waits for a time, in three ways.
+TIMED = """\
+#include <errno.h>
 #include <pthread.h>
+#include <semaphore.h>
 #include <stdio.h>
-static void *work(void *unused) { return unused; }
+#include <time.h>
 int main(void)
 {
-    pthread_t threads[63];
-    static pthread_mutex_t lock = PTHREAD_MUTEX_INITIALIZER;
-    int made = 0;
-    for (; made < 63 && !pthread_create(&threads[made], 0, work, &lock); made++) ;
-    for (int i = 0; i < made; i++) pthread_join(threads[i], 0);
-    printf("%d\\n", made);
+    struct timespec begun, now, end;
+    pthread_mutex_t lock = PTHREAD_MUTEX_INITIALIZER;
+    pthread_cond_t never = PTHREAD_COND_INITIALIZER;
+    sem_t empty;
+    clock_gettime(CLOCK_REALTIME, &begun);
+    end = begun;
+    end.tv_nsec += 30000000;
+    if (end.tv_nsec >= 1000000000) end.tv_sec++, end.tv_nsec -= 1000000000;
+    pthread_mutex_lock(&lock);
+    sem_init(&empty, 0, 0);
+    printf("%d", pthread_cond_timedwait(&never, &lock, &end) == ETIMEDOUT);
+    printf(" %d", sem_timedwait(&empty, &end) == -1 && errno == ETIMEDOUT);
+    clock_gettime(CLOCK_REALTIME, &now);
+    printf(" %d", now.tv_sec > end.tv_sec || (now.tv_sec == end.tv_sec && now.tv_nsec >= end.tv_nsec));
+    printf(" %d\\n", nanosleep(&(struct timespec){0, 1000}, NULL));
     return 0;
 }
 """
+# Has what only a debugger reads, of these bytes.
+LARGE = """\
+__asm__(".section .debug_large\\n.incbin \\"bytes\\"\\n");
+int main(void) { return 0; }
+"""
+# One thread is made, and is waited for.
+ONE_MORE = """\
+#include <pthread.h>
+static void *work(void *unused) { return unused; }
+int main(void)
+{
+    pthread_t thread;
+    pthread_create(&thread, 0, work, 0);
+    return pthread_join(thread, 0);
+}
+"""
+# The Rust that the commands of README.md were tried with.
+RUST = "rustc 1.63"
 CXX = r"""
 #include <chrono>
 #include <condition_variable>
@@ -232,9 +275,30 @@ class Programs(MuslCase):
         self.need_run(KIT / "guest-words", elf, "other.elf", "--env", "PLACE=", "", "$HOME `x`")
         self.need_line("record", "store", "other.elf", out=b"7 processors, PLACE= '' '$HOME `x`'\n", err=None)
 
-    def test_many_threads(self) -> None:
-        """A guest of version 2 has 64 threads."""
-        self.need("threads", b"63\n", self.recorded(self.compiled(self.written(MANY))))
+    def test_limits(self) -> None:
+        """As many threads, descriptors and names as there are, and the errors of POSIX after that."""
+        self.need("the limits", LIMITS, self.recorded(self.compiled(TESTS / "limits.c", "-Wall", "-Wextra")))
+
+    def test_waits_in_an_unmarked_store(self) -> None:
+        """Timed waits end there too, and no earlier; a sleep does."""
+        elf = self.compiled(self.written(TIMED))
+        self.need_line("new", "unmarked")
+        self.need_line("record", "--fail", "unmarked", elf, out=b"1 1 1 0\n", err=None)
+        self.need_line("verify", "unmarked", 0, out=None)
+        self.need("in a marked one", b"1 1 1 0\n", self.recorded(elf))
+
+    def test_large_files(self) -> None:
+        """Of a file that is too large for a guest `cc` says how large it is without what debuggers read."""
+        (self.folder / "bytes").write_bytes(random.Random(1).randbytes(2200000))
+        source = self.written(LARGE)
+        done = ran([KIT / "cc", source, "-o", "large.elf"])
+        size = (self.folder / "large.elf").stat().st_size
+        self.need_run("riscv64-unknown-elf-strip", "-g", "-o", "small.elf", "large.elf")
+        wanted = (f"cc: large.elf has {size} bytes, and a guest's file 2097152 at most: riscv64-unknown-elf-strip -g "
+                  f"large.elf leaves {(self.folder / 'small.elf').stat().st_size}\n")
+        self.need("what cc prints", (wanted, 0), (done.stderr.decode(), done.returncode))
+        self.need_refused("check", "large.elf", err="rrv: large.elf: longer than 2097152 bytes: strip --strip-debug\n")
+        self.need_line("check", "small.elf", out=None)
 
     def test_compiler(self) -> None:
         """The compiler does what makefiles and configure ask of one."""
@@ -260,6 +324,22 @@ class Programs(MuslCase):
         text = self.need_run("gdb-multiarch", "-q", "-batch", "-ex", "bt", elf, "core").decode()
         self.assertRegex(text, r"(?s)in abort \(\) at src/exit/abort\.c:\d+\n.* in main \(.*\) at .*program\.c:10\n")
 
+    def test_backtrace_of_a_new_thread(self) -> None:
+        """That of a thread that was made and hasn't run ends at once, and its maker's goes on to main."""
+        if shutil.which("gdb-multiarch") is None:
+            self.skipTest("gdb-multiarch is not installed")
+        elf = self.compiled(self.written(ONE_MORE))
+        self.need_line("new", "store")
+        self.need_line("record", "store", elf, out=None, err=None)
+        places = self.need_line("dump", "--places", "store", 0, out=None).out.decode()
+        made = re.search(r" result=00000002 .* to=(\d+)", places)
+        self.assertTrue(made, places)
+        self.need_line("core", "store", 0, made[1] if made else 0, "core", out=None, err=None)
+        text = self.need_run("gdb-multiarch", "-q", "-batch", "-ex", "thread apply all bt", elf, "core").decode()
+        frames = {it.partition("LWP ")[2][0]: re.findall(r"^#\d+ +(?:0x\w+ in )?(\w+) \(", it, re.MULTILINE)
+                  for it in text.split("\nThread ")[1:]}
+        self.need(f"{text}\nfunctions", {"1": ["__clone", "__pthread_create", "main"], "2": ["__clone"]}, frames)
+
 
 class Cxx(MuslCase):
     """C++ programs."""
@@ -275,6 +355,27 @@ class Cxx(MuslCase):
         self.need("what the guest prints", b"from a thread\n26 5 1 1.500000\n", self.recorded(elf))
 
 
+class Rust(MuslCase):
+    """A Rust program."""
+
+    seconds = 150
+    needs = (*MuslCase.needs, "rustc")
+
+    def test_threads(self) -> None:
+        """Four threads of Rust's core and alloc, by the commands of the kit's README.md."""
+        words = (("rustc", "--version"), ("rustc", "--print", "sysroot"))
+        version, root = (self.need_run(*it).decode().strip() for it in words)
+        if not version.startswith(RUST) or not pathlib.Path(root, "lib/rustlib/src/rust/library").exists():
+            self.skipTest(f"{RUST}, with Debian's rust-src, is not installed")
+        section = (KIT / "README.md").read_text(encoding="utf-8").partition("\n## Rust\n")[2].partition("\n## ")[0]
+        lines = [it.strip() for it in section.splitlines() if it.startswith("    ")]
+        commands = [it for it in lines if not it.startswith("apt-get ")]
+        (self.folder / "examples").symlink_to(KIT.parent)
+        self.need_run("sh", "-e", "-c", "\n".join(commands), seconds=BUILD_SECONDS)
+        wanted = b"thread 1: 0.333\nthread 2: 0.667\nthread 3: 1.000\nthread 4: 1.333\nsum 10\n"
+        self.need("what the guest prints", wanted, self.recorded(self.folder / "threads.elf"))
+
+
 class Line(NamedTuple):
     """A line of a script, and the errors that it prints."""
 
@@ -284,14 +385,16 @@ class Line(NamedTuple):
 
 # No line has a compiler, but a program of its name that does nothing.
 LARGEST = "there is room for 4095"
+KIND = "a guest is -march=rv32ima -mabi=ilp32, without floating point registers and instructions of 16 bits"
 REFUSED_LINES = {
     "another tarball": Line("build-musl --to made file",
                             "build-musl: file isn't the tarball of musl 1.2.5: its SHA-256 isn't \\w+"),
     "no tarball": Line("build-musl --to made none", "build-musl: none is no file: name the tarball of musl 1.2.5"),
     "two tarballs": Line("build-musl a b", "build-musl: two tarballs: a and b"),
     "an option of build-musl": Line("build-musl --fast", "build-musl: no option --fast: .*"),
-    "no place of packages": Line("build-musl --to made", "build-musl: apt has no place of Debian's packages: "
-                                 "build-musl musl_1.2.5.orig.tar.gz"),
+    "no list of packages": Line("build-musl --to made",
+                                "build-musl: apt has no list of Debian's packages: apt-get update brings it. "
+                                "With the files at hand: build-musl musl_1.2.5.orig.tar.gz"),
     "no musl for C++": Line("build-cxx --to none x", r"build-cxx: there is no musl in none: run \S*/build-musl first"),
     "no GCC": Line("build-cxx --to musl none", "build-cxx: none is no file: name the tarball of GCC .*"),
     "no libstdc++": Line("c++ x.cc", r"c\+\+: there is no libstdc\+\+ in musl: run \S*/build-cxx"),
@@ -308,6 +411,14 @@ REFUSED_LINES = {
     "a variable": Line("cc --env A x.c", "cc: --env needs NAME=VALUE, and has A"),
     "processors": Line("cc --processors 0 x.c", "cc: --processors needs a number from 1 on, and has 0"),
     "a last option": Line("cc x.c --args", "cc: --args needs a word after it"),
+    "floating point registers": Line("cc -mabi=ilp32d x.c", f"cc: -mabi=ilp32d: {KIND}"),
+    "compressed instructions": Line("cc -march=rv32imac x.c", f"cc: -march=rv32imac: {KIND}"),
+    "a shared library": Line("cc -shared x.c", "cc: -shared: guests are linked statically"),
+    "no such recipe": Line("../real/try nothing", "try: needs one of these names: lbzip2 lua pbzip2 .*"),
+    "no package to unpack": Line("../real/unpack a", "unpack: needs PACKAGE, FOLDER and SOURCES"),
+    "no list to unpack from": Line("../real/unpack a made sources",
+                                   "unpack: apt has no list of Debian's packages: apt-get update brings it. "
+                                   r"With the files at hand: put a_VERSION.orig.tar.xz into \S*/sources"),
     "words above a page": Line(f"guest-words file out {'a' * 4095}",
                                f"guest-words: the arguments and the environment have 4097 bytes, and {LARGEST}"),
     "words for no file": Line("guest-words none out a", "guest-words: none is no file"),
@@ -325,7 +436,7 @@ MISSING_LINES = {
 
 # The programs that the scripts use before they compile.
 USED = ("sh basename dirname readlink sed cat cut sha256sum wc mktemp rm mkdir tr xargs printf date grep sort head "
-        "truncate tar").split()
+        "truncate tar find").split()
 
 
 class Scripts(Case):

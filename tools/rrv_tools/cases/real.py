@@ -8,9 +8,10 @@ Expected values: what the same source prints on the same input, built by the mac
 import os
 import re
 
-from rrv_tools.musl import ABSENT, BUILD_SECONDS, REAL, MuslCase, ran
+from rrv_tools.musl import ABSENT, BUILD_SECONDS, REAL, MuslCase, need_cxx, ran
 from rrv_tools.testing import rows
 
+SECONDS = r"\d+\.\d\d"
 RECIPES = {it.stem: it.stem for it in sorted(REAL.glob("*.recipe"))}
 
 
@@ -18,15 +19,18 @@ RECIPES = {it.stem: it.stem for it in sorted(REAL.glob("*.recipe"))}
 class Recipes(MuslCase):
     """The recipes of examples/real."""
 
-    seconds = 600
+    seconds = 1500
 
     def try_recipe(self, name: str) -> None:
         """The program prints the same as a guest."""
+        if "is_cxx=1" in (REAL / f"{name}.recipe").read_text(encoding="utf-8"):
+            need_cxx()
         done = ran([REAL / "try", name, "built"], BUILD_SECONDS, {"RRV": str(self.program.path)})
         text = done.stderr.decode(errors="replace").strip()
         if done.returncode != 0 and any(it in text for it in ABSENT):
             self.skipTest(text.rpartition("\n")[2])
         self.need(f"{text}\nstatus", 0, done.returncode)
-        if not re.fullmatch(rf"{name}: \d+ bytes in, [1-9]\d* out, records=\d+ instructions=\d+ end exited 0\n",
+        if not re.fullmatch(rf"{name}: \d+ bytes in, [1-9]\d* out, calls=\d+ records=\d+ instructions=\d+ end exited 0, "
+                            rf"{SECONDS} s to record, {SECONDS} to verify(, {SECONDS} under qemu-riscv32)?\n",
                             done.stdout.decode()):
             raise self.failureException(f"{name} prints {done.stdout!r} in {os.getcwd()}")

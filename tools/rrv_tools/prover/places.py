@@ -31,7 +31,7 @@ NEIGHBOURS = {
 # programs over a C library only use the neighbour, as any program does.
 OTHERS = {
     "To add a call": r"(examples/musl/t(ests/|our)|tools/rrv_tools/cases/kit)",
-    "To add a record kind": r"tools/rrv_tools/cases/musl",
+    "To add a record kind": r"tools/rrv_tools/(cases/musl|posix)",
     "To add a command": r"(crates/(reverse_step|replay_cases|session_tests)|tools/rrv_tools/makers)/",
 }
 # What is looked through, and what is passed over: this tool, its tests, and pages that list no neighbour's files.
