@@ -157,9 +157,9 @@ class Suite(NamedTuple):
 def started(elf: pathlib.Path) -> "subprocess.Popen[bytes]":
     """A process that runs a case by qemu-riscv32, in its folder, as a user who may do little."""
     user = NOBODY if os.geteuid() == 0 else None
-    return subprocess.Popen(["qemu-riscv32", elf], cwd=elf.parent, user=user, group=user, extra_groups=[] if user else None,
-                            stdin=subprocess.DEVNULL, stdout=subprocess.DEVNULL, stderr=subprocess.DEVNULL,
-                            start_new_session=True)
+    return subprocess.Popen(["qemu-riscv32", elf], cwd=elf.parent, user=user, group=user,
+                            extra_groups=[] if user else None, stdin=subprocess.DEVNULL, stdout=subprocess.DEVNULL,
+                            stderr=subprocess.DEVNULL, start_new_session=True)
 
 
 def on_linux(process: "subprocess.Popen[bytes]", seconds: int) -> str:

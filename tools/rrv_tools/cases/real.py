@@ -30,7 +30,8 @@ class Recipes(MuslCase):
         if done.returncode != 0 and any(it in text for it in ABSENT):
             self.skipTest(text.rpartition("\n")[2])
         self.need(f"{text}\nstatus", 0, done.returncode)
-        if not re.fullmatch(rf"{name}: \d+ bytes in, [1-9]\d* out, calls=\d+ records=\d+ instructions=\d+ end exited 0, "
+        if not re.fullmatch(rf"{name}: \d+ bytes in, [1-9]\d* out, "
+                            r"calls=\d+ records=\d+ instructions=\d+ end exited 0, "
                             rf"{SECONDS} s to record, {SECONDS} to verify(, {SECONDS} under qemu-riscv32)?\n",
                             done.stdout.decode()):
             raise self.failureException(f"{name} prints {done.stdout!r} in {os.getcwd()}")
