@@ -49,7 +49,8 @@ _rrv() {
         dump) options+=' --places --trace-events --progress' ;;
         record) options+=' --quantum --every --input --seed --name --choices --then --limit --fail --upgrade --progress' ;;
         verify) options+=' --long --progress' ;;
-        choices | core | ask) options+=' --progress' ;;
+        choices | core) options+=' --progress' ;;
+        ask) options+=' --short --progress' ;;
         replay) options+=' --at --memory --progress' ;;
         back) options+=' --memory --progress' ;;
         last) options+=' --word --times --short --memory --progress' ;;

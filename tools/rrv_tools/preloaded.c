@@ -3,15 +3,16 @@
 //
 // Each call is noted as it begins, and as it ends, in the order of these moments, to the descriptor CALLS_LOG.
 // CHOSEN_CALLS has a letter for each kind of call of which CHOSEN_NTH is counted: w writes a file at a place, s is a sync, c
-// cuts, l locks, o writes to standard output, e to standard error, r reads a file at a place, and i reads on from where the
-// last read ended. Of the chosen one nothing is done, half of its bytes, or all (CHOSEN_DONE 0, 1, 2); then it fails with
-// CHOSEN_ERROR, or with 0 returns what it did; and CHANGED_BY makes its file longer or shorter once it is done. The file
-// REPLACED_BY is then put in the place of REPLACED, and the bytes of OVERWRITTEN_BY are written over those of OVERWRITTEN. A
-// read at a place that is chosen is made whole after all that, or fails; one that reads on reads nothing. With SKIPS_SYNCS
-// no sync is passed on: what one does is not seen as long as the machine goes on, and a slow disk would leave too few
-// commits. READ_MOST is how many bytes a read takes that reads on, and OUTPUT_MOST how many standard output takes of a
-// write; once it has OUTPUT_ROOM of them there is no space left. REAL_LATER and MONOTONIC_LATER are seconds that a clock is
-// later by; with MONOTONIC_STEP each reading of the monotonic one is this many seconds more after the one before.
+// cuts, l locks, o writes to standard output, e to standard error, f writes on to another file, n gives a file one more
+// name, r reads a file at a place, and i reads on from where the last read ended. Of the chosen one nothing is done, half of
+// its bytes, or all (CHOSEN_DONE 0, 1, 2); then it fails with CHOSEN_ERROR, or with 0 returns what it did; and CHANGED_BY
+// makes its file longer or shorter once it is done. The file REPLACED_BY is then put in the place of REPLACED, and the bytes
+// of OVERWRITTEN_BY are written over those of OVERWRITTEN. A read at a place that is chosen is made whole after all that, or
+// fails; one that reads on reads nothing. With SKIPS_SYNCS no sync is passed on: what one does is not seen as long as the
+// machine goes on, and a slow disk would leave too few commits. READ_MOST is how many bytes a read takes that reads on, and
+// OUTPUT_MOST how many standard output takes of a write; once it has OUTPUT_ROOM of them there is no space left. REAL_LATER
+// and MONOTONIC_LATER are seconds that a clock is later by; with MONOTONIC_STEP each reading of the monotonic one is this
+// many seconds more after the one before.
 typedef __SIZE_TYPE__ size;
 typedef long long number;
 char *getenv(const char *);
@@ -126,6 +127,7 @@ long write(int file, const void *bytes, size many) {
     if (chosen) many = part_of(many);
     result = many ? real_write(file, bytes, many) : 0;
     if (chosen) result = told(result);
+    if (chosen && file > 2) change(file);
     return note_end(WRITE, file, 0, result, chosen);
 }
 long pwrite(int file, const void *bytes, size many, long at) {
@@ -190,6 +192,12 @@ int flock(int file, int operation) {
     int chosen = is_chosen('l'), result = !chosen || part_of(2) ? next(file, operation) : 0;
     if (chosen) result = told(result), change(file);
     return note_end(FLOCK, file, 0, result, chosen);
+}
+int link(const char *from, const char *to) {
+    NEXT(int, "link", const char *, const char *);
+    int chosen = is_chosen('n'), result = !chosen || part_of(2) ? next(from, to) : 0;
+    if (chosen) result = told(result), change(-1);
+    return result;
 }
 int close(int file) {
     note_begin(CLOSE, file, 0, 0, 0);

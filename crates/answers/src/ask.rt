@@ -5,23 +5,23 @@ ghost use Rattle.std.specs.Io.KnownBytes.{Appends};
 ghost use Rattle.command_line.specs.Asked.{IsAsked};
 ghost use Rattle.command_line.specs.declared.asked.Asked.TheVariants as asks;
 ghost use Rattle.line_io.specs.declared.refusal.Refusal.{Refusal};
-ghost use Rattle.answers.specs.Asking.{AnswersAsked, AnswersInput, AnswersLine, GoesOnAfter, GoesOnAfterText, IsRun, PrintsRefusal, RefusesAsked, point_line};
+ghost use Rattle.answers.specs.Asking.{AnswersAsked, AnswersInput, AnswersLine, GoesOnAfter, GoesOnAfterText, IsRun, PrintsRefusal, RefusesAsked, point_line, quiet_after};
 
 use crate::choosing::print_choices;
 use crate::core_files::write_core_of;
+use crate::dialogue::Dialogue;
 use crate::input_lines::{InputLine, InputLines, MAX_LINE};
 use crate::search_progress::SearchProgress;
 use asking::answer;
 use command_line::{Asked, asked_in};
 use line_io::{OutputFailed, Refusal, finish, print_line, print_text};
 use replayer::Verified;
-use reverse_step::{Cursor, SearchWatch};
+use reverse_step::SearchWatch;
 use std::alloc::Global;
 use std::fmt::Display;
 use std::fs::File;
 use std::io::{BufWriter, Read, Write};
 use std::rt::Files;
-use std::sync::atomic::AtomicBool;
 use std::thread::Threads;
 use std::time::Clock;
 use stored_guests::workers;
@@ -39,6 +39,8 @@ const HELP: &str = "\
     memory ADDR:LEN  print bytes of memory at the place\n\
     threads          print the threads at the place\n\
     where            print the place, its thread, and the instruction that comes next\n\
+    quiet            from here on, print the line of where, not the state\n\
+    full             from here on, print the state again\n\
     choices          print the choices of the turns\n\
     core FILE        write the state at the place as a core file\n\
     help             print this\n\
@@ -60,25 +62,45 @@ fn print_refused<W: Write, T: Display>(
     }
 }
 
-/// Answers what is asked, with so many workers at most. After a refusal the cursor is as before.
+/// Answers what is asked, with so many workers at most. After a refusal the dialogue is as before.
 fn answer_asked<R: Files<File = File> + AllocGlobal + Threads + Sync, V: SearchWatch, W: Write>(
     rt: &R,
     workers: usize,
-    cursor: &mut Cursor<'_>,
+    dialogue: &mut Dialogue<'_>,
     asked: Asked<'_>,
     watch: &mut V,
     out: &mut W,
 ) -> Result<(), Refusal>
-    ensures verified { cursor.new.verified ≡ cursor.old.verified }
+    ensures verified { dialogue.new.cursor.verified ≡ dialogue.old.cursor.verified }
     ensures answered { OnOk result
-        (AnswersAsked asked.entry cursor.old cursor.new (W.contents out.old) (W.contents out.new)) }
-    ensures refused { IfErr result (RefusesAsked asked.entry cursor.old cursor.new) }
+        (AnswersAsked asked.entry dialogue.old dialogue.new (W.contents out.old) (W.contents out.new)) }
+    ensures form { dialogue.new.is_quiet ≡ quiet_after asked.entry dialogue.old.is_quiet }
+    ensures refused { IfErr result (RefusesAsked asked.entry dialogue.old.cursor dialogue.new.cursor) }
     ensures quiet { IfErr result (λ e. e ≢ Refusal.OutputFailed → out.new ≡ out.old) }
 {
     match asked {
-        Asked::Of(inquiry) => answer(rt, rt.alloc(), workers, cursor, inquiry, watch, out),
-        Asked::Core { file } => write_core_of(rt, cursor, file),
-        Asked::Choices => Ok(print_choices(cursor.verified().frames(), out)?),
+        Asked::Of(inquiry) => {
+            let is_quiet = dialogue.is_quiet;
+            answer(
+                rt,
+                workers,
+                &mut dialogue.cursor,
+                inquiry,
+                is_quiet,
+                watch,
+                out,
+            )
+        }
+        Asked::Core { file } => write_core_of(rt, &dialogue.cursor, file),
+        Asked::Choices => Ok(print_choices(dialogue.cursor.verified().frames(), out)?),
+        Asked::Quiet => {
+            dialogue.is_quiet = true;
+            Ok(())
+        }
+        Asked::Full => {
+            dialogue.is_quiet = false;
+            Ok(())
+        }
         Asked::Help => Ok(print_text(out, &HELP)?),
         Asked::Quit => Ok(()),
     }
@@ -88,14 +110,14 @@ fn answer_asked<R: Files<File = File> + AllocGlobal + Threads + Sync, V: SearchW
 fn answer_line<R: Files<File = File> + AllocGlobal + Threads + Sync, V: SearchWatch, W: Write>(
     rt: &R,
     workers: usize,
-    cursor: &mut Cursor<'_>,
+    dialogue: &mut Dialogue<'_>,
     line: &str,
     watch: &mut V,
     out: &mut W,
 ) -> Result<bool, Refusal>
-    ensures verified { cursor.new.verified ≡ cursor.old.verified }
+    ensures verified { dialogue.new.cursor.verified ≡ dialogue.old.cursor.verified }
     ensures answered { OnOk result
-        (AnswersLine line.now cursor.old cursor.new (W.contents out.old) (W.contents out.new)) }
+        (AnswersLine line.now dialogue.old dialogue.new (W.contents out.old) (W.contents out.new)) }
     ensures ends { IfOk result (GoesOnAfterText line.now) }
 {
     let asked = match asked_in(line) {
@@ -105,7 +127,7 @@ fn answer_line<R: Files<File = File> + AllocGlobal + Threads + Sync, V: SearchWa
             return Ok(true);
         }
     };
-    match answer_asked(rt, workers, cursor, asked, watch, out) {
+    match answer_asked(rt, workers, dialogue, asked, watch, out) {
         Ok(()) => Ok(!matches!(asked, Asked::Quit)),
         Err(Refusal::OutputFailed) => Err(Refusal::OutputFailed),
         Err(refusal) => {
@@ -119,18 +141,18 @@ fn answer_line<R: Files<File = File> + AllocGlobal + Threads + Sync, V: SearchWa
 fn answer_input<R: Files<File = File> + AllocGlobal + Threads + Sync, V: SearchWatch, W: Write>(
     rt: &R,
     workers: usize,
-    cursor: &mut Cursor<'_>,
+    dialogue: &mut Dialogue<'_>,
     line: &InputLine,
     watch: &mut V,
     out: &mut W,
 ) -> Result<bool, Refusal>
-    ensures verified { cursor.new.verified ≡ cursor.old.verified }
+    ensures verified { dialogue.new.cursor.verified ≡ dialogue.old.cursor.verified }
     ensures answered { OnOk result
-        (AnswersInput line.now cursor.old cursor.new (W.contents out.old) (W.contents out.new)) }
+        (AnswersInput line.now dialogue.old dialogue.new (W.contents out.old) (W.contents out.new)) }
     ensures ends { IfOk result (GoesOnAfter line.now) }
 {
     match line {
-        InputLine::Text(text) => { answer_line(rt, workers, cursor, text.as_str(), watch, out) }
+        InputLine::Text(text) => { answer_line(rt, workers, dialogue, text.as_str(), watch, out) }
         InputLine::TooLong => {
             let why = format_args!("line is longer than {MAX_LINE} bytes");
             print_refused(rt.alloc(), out, &why)?;
@@ -162,8 +184,8 @@ fn prompt<W: Write>(prompts: bool, text: &str, out: &mut W) -> Result<(), Refusa
     Ok(())
 }
 
-/// Answers lines about a recording, from a cursor's place on, until one asks for nothing more or there are no more. Each answer ends with a
-/// line of a point, and is handed on before the next line is read.
+/// Answers lines about a recording, from where a dialogue stands, until one asks for nothing more or there are no more. Each answer
+/// ends with a line of a point, and is handed on before the next line is read.
 fn answer_lines<
     R: Files<File = File> + AllocGlobal + Threads + Sync + Clock,
     B: Read + Drop,
@@ -171,15 +193,15 @@ fn answer_lines<
     W: Write,
 >(
     rt: &R,
-    cursor: &mut Cursor<'_>,
+    dialogue: &mut Dialogue<'_>,
     lines: &mut InputLines<B>,
     prompts: bool,
     watch: &mut SearchProgress<'_, R, E>,
     out: &mut W,
 ) -> Result<(), Refusal>
-    ensures verified { cursor.new.verified ≡ cursor.old.verified }
+    ensures verified { dialogue.new.cursor.verified ≡ dialogue.old.cursor.verified }
     ensures answered { OnOk result (prompts ≡ false
-        → IsRun cursor.old cursor.new (W.contents out.old) (W.contents out.new)) }
+        → IsRun dialogue.old dialogue.new (W.contents out.old) (W.contents out.new)) }
 {
     let workers = workers(rt);
     for _ in 0..u64::MAX {
@@ -188,7 +210,7 @@ fn answer_lines<
             return prompt(prompts, "\n", out);
         };
         watch.begin();
-        let goes_on = answer_input(rt, workers, cursor, &line, watch, out)?;
+        let goes_on = answer_input(rt, workers, dialogue, &line, watch, out)?;
         watch.clear();
         end_answer(out)?;
         if !goes_on {
@@ -198,8 +220,8 @@ fn answer_lines<
     Ok(())
 }
 
-/// Answers the lines of standard input about a verified recording, from its start on. If `prompts` says so, it is shown that a line is
-/// wanted. How far a search is goes to `err`, if `is_shown` says so.
+/// Answers the lines of standard input about a verified recording, from its start on. If `is_quiet` says so, moves print the line of their
+/// place at first. If `prompts` says so, it is shown that a line is wanted. How far a search is goes to `watch`.
 pub(crate) fn ask<
     R: Files<File = File> + AllocGlobal + Input + Threads + Sync + Clock,
     O: Write,
@@ -207,16 +229,14 @@ pub(crate) fn ask<
 >(
     rt: &R,
     verified: &Verified,
+    is_quiet: bool,
     prompts: bool,
-    is_shown: bool,
+    watch: &mut SearchProgress<'_, R, E>,
     out: &mut O,
-    err: &mut E,
 ) -> Result<(), Refusal> {
     let alloc = rt.alloc();
-    let line = AtomicBool::new(false);
-    let mut watch = SearchProgress::new(rt, err, &line, verified.total(), is_shown);
-    let mut cursor = Cursor::new(alloc, verified)?;
+    let mut dialogue = Dialogue::new(alloc, verified, is_quiet)?;
     let mut lines = InputLines::new(alloc, rt.reader())?;
     let mut out = BufWriter::with_capacity(alloc, ANSWER, out).map_err(|_| Refusal::Memory)?;
-    answer_lines(rt, &mut cursor, &mut lines, prompts, &mut watch, &mut out)
+    answer_lines(rt, &mut dialogue, &mut lines, prompts, watch, &mut out)
 }

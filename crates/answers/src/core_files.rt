@@ -8,6 +8,7 @@ ghost use Rattle.core_file.specs.Core.{core_of};
 ghost use Rattle.asking.specs.Places.{RunsNext, shown_place};
 ghost use Rattle.answers.specs.Refused.{RefusesCore, RefusesCoreFile};
 
+use crate::part_files::PartFile;
 use crate::states::cursor_at;
 use asking::{first_thread, place_in};
 use command_line::Place;
@@ -16,7 +17,6 @@ use line_io::{Refusal, in_blocks};
 use replayer::Verified;
 use reverse_step::Cursor;
 use std::alloc::Global;
-use std::fs;
 use std::fs::File;
 use std::io::Write;
 use std::rt::Files;
@@ -58,7 +58,7 @@ pub(crate) fn write_core<R: Files<File = File> + AllocGlobal>(
     write_core_of(rt, &cursor, path)
 }
 
-/// Makes a core file of the state at a cursor's place. A file that can't be written whole is removed again.
+/// Makes a core file of the state at a cursor's place. It gets its name once it is whole, so nothing is there before, nor if it fails.
 pub(crate) fn write_core_of<R: Files<File = File> + AllocGlobal>(
     rt: &R,
     cursor: &Cursor<'_>,
@@ -66,15 +66,24 @@ pub(crate) fn write_core_of<R: Files<File = File> + AllocGlobal>(
 ) -> Result<(), Refusal>
     ensures refused { IfErr result RefusesCoreFile }
 {
-    let Ok(file) = File::create_new(rt, path) else {
-        return Err(Refusal::CannotMakeCore);
-    };
-    let result = match in_blocks(rt.alloc(), file) {
-        Ok(mut out) => put_core(rt.alloc(), cursor.verified(), cursor, &mut out),
-        Err(_) => Err(Refusal::Memory),
-    };
-    if result.is_err() {
-        let _ = fs::remove_file(rt, path);
-    }
+    let part = PartFile::create(rt, path)?;
+    let result = put_core_at(rt, cursor, &part, path);
+    part.remove(rt);
     result
+}
+
+/// Writes a core file of the state at a cursor's place to a part, and gives that its name.
+fn put_core_at<R: Files<File = File> + AllocGlobal>(
+    rt: &R,
+    cursor: &Cursor<'_>,
+    part: &PartFile,
+    path: &str,
+) -> Result<(), Refusal>
+    ensures refused { IfErr result RefusesCoreFile }
+{
+    let Ok(mut out) = in_blocks(rt.alloc(), part.file()) else {
+        return Err(Refusal::Memory);
+    };
+    put_core(rt.alloc(), cursor.verified(), cursor, &mut out)?;
+    part.put(rt, path)
 }

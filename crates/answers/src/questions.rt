@@ -63,6 +63,10 @@ pub fn answer<
         }
         Question::Choices => show_choices(alloc, &verified, out),
         Question::Core { at, file } => write_core(rt, &verified, *at, file),
-        Question::Lines => ask(rt, &verified, terminals.prompts(), is_shown, out, err),
+        Question::Lines { short } => {
+            let line = AtomicBool::new(false);
+            let mut watch = SearchProgress::new(rt, err, &line, verified.total(), is_shown);
+            ask(rt, &verified, *short, terminals.prompts(), &mut watch, out)
+        }
     }
 }

@@ -62,6 +62,13 @@ text_at place total tid s inquiries.Threads = threads_lines s
 text_at place total tid s inquiries.Where = where_line place total tid s
 text_at place total tid s _ = state_lines place total s
 
+-- The question whose text is printed for one. If moves are quiet, a move prints what `where` prints.
+abbrev pub printed_for : (is_quiet : Bool) → Inquiry → Inquiry
+printed_for true (inquiries.Memory range) = inquiries.Memory range
+printed_for true inquiries.Threads = inquiries.Threads
+printed_for true _ = inquiries.Where
+printed_for false inquiry = inquiry
+
 abbrev pub unchanged_text : List ℕ
 unchanged_text = codes "unchanged" ++ newline
 
@@ -72,8 +79,8 @@ found_text false place total tid s inquiry = unchanged_text
 
 -- ---- an answer
 
--- a question leads a cursor on, and a writer took the text of the state that the recording has there
-pub record Answers (inquiry : Inquiry) (old new : CursorValue) (before after : Option (List ℕ)) : Type 0 where
+-- a question leads a cursor on, and a writer took its text over the state that the recording has there
+pub record Answers (is_quiet : Bool) (inquiry : Inquiry) (old new : CursorValue) (before after : Option (List ℕ)) : Type 0 where
   pub is_found : Bool
   pub goes : Leads inquiry old new is_found
   pub state : State
@@ -81,12 +88,13 @@ pub record Answers (inquiry : Inquiry) (old new : CursorValue) (before after : O
   pub tid : ℕ
   pub next : 0 < total new.verified.frames → RunsNext new.verified.frames (shown_place (total new.verified.frames) new.place) tid
   pub none : total new.verified.frames ≡ 0 → tid ≡ 0
-  pub printed : Appends before after (found_text is_found new.place (total new.verified.frames) tid state inquiry)
+  pub printed : Appends before after (found_text is_found new.place (total new.verified.frames) tid state (printed_for is_quiet inquiry))
 
--- why a question has no answer: it leads nowhere, or there was no memory, and the cursor stays; or there was no reader
+-- why a question has no answer: it leads nowhere, or there was no memory, and the cursor stays; or there was no reader, and the cursor is
+-- where the question leads
 abbrev pub Stays : Inquiry → (old new : CursorValue) → Refusal → Type 0
 Stays inquiry old new (refusals.Seek seek_faults.Memory) = ⊥
 Stays inquiry old new (refusals.Seek fault) = Refuses fault inquiry (total old.verified.frames) old.place × (new ≡ old)
 Stays inquiry old new refusals.Memory = IsWithin inquiry (total old.verified.frames) old.place × (new ≡ old)
-Stays inquiry old new refusals.OutputFailed = Unit {0}
+Stays inquiry old new refusals.OutputFailed = (is_found : Bool) × Leads inquiry old new is_found
 Stays inquiry old new _ = ⊥

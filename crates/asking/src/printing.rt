@@ -4,7 +4,7 @@ ghost use Rattle.std.specs.Prelude.{◌≡◌, OnOk};
 ghost use Rattle.std.specs.Io.KnownBytes.{Appends};
 ghost use Rattle.guest_calls.specs.Guest.{state_of};
 ghost use Rattle.rrv_model.specs.StateAt.{StateAt, total};
-ghost use Rattle.asking.specs.Answers.{found_text, text_at};
+ghost use Rattle.asking.specs.Answers.{found_text, printed_for, text_at};
 
 use command_line::Inquiry;
 use end_text::WhereLine;
@@ -13,6 +13,19 @@ use line_io::{OutputFailed, print_text};
 use reverse_step::Cursor;
 use std::io::Write;
 use trace_text::{MemoryLines, StateLines, ThreadLines};
+
+/// The question whose text is printed for one. It is the same one, or if moves are quiet, `where` for a move.
+pub(crate) fn printed_for(inquiry: Inquiry, is_quiet: bool) -> Inquiry
+    ensures { result ≡ printed_for is_quiet inquiry }
+{
+    if !is_quiet {
+        return inquiry;
+    }
+    match inquiry {
+        Inquiry::Memory(_) | Inquiry::Threads | Inquiry::Where => inquiry,
+        _ => Inquiry::Where,
+    }
+}
 
 /// Prints what is asked about a guest at a place, of so many, where the thread of this tid comes next.
 fn print_at<W: Write>(

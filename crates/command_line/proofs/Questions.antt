@@ -77,6 +77,26 @@ help_alone (inquiries.Memory r) e = differ (codes "help") (codes "memory") refl 
 help_alone inquiries.Threads e = differ (codes "help") (codes "threads") refl e
 help_alone inquiries.Where e = differ (codes "help") (codes "where") refl e
 
+quiet_alone : (i : Inquiry) → codes "quiet" ≡ inquiry_name i → ⊥
+quiet_alone (inquiries.At p) e = differ (codes "quiet") (codes "at") refl e
+quiet_alone (inquiries.Back n) e = differ (codes "quiet") (codes "back") refl e
+quiet_alone (inquiries.Forward n) e = differ (codes "quiet") (codes "forward") refl e
+quiet_alone (inquiries.Last a) e = differ (codes "quiet") (codes "last") refl e
+quiet_alone (inquiries.Next a) e = differ (codes "quiet") (codes "next") refl e
+quiet_alone (inquiries.Memory r) e = differ (codes "quiet") (codes "memory") refl e
+quiet_alone inquiries.Threads e = differ (codes "quiet") (codes "threads") refl e
+quiet_alone inquiries.Where e = differ (codes "quiet") (codes "where") refl e
+
+full_alone : (i : Inquiry) → codes "full" ≡ inquiry_name i → ⊥
+full_alone (inquiries.At p) e = differ (codes "full") (codes "at") refl e
+full_alone (inquiries.Back n) e = differ (codes "full") (codes "back") refl e
+full_alone (inquiries.Forward n) e = differ (codes "full") (codes "forward") refl e
+full_alone (inquiries.Last a) e = differ (codes "full") (codes "last") refl e
+full_alone (inquiries.Next a) e = differ (codes "full") (codes "next") refl e
+full_alone (inquiries.Memory r) e = differ (codes "full") (codes "memory") refl e
+full_alone inquiries.Threads e = differ (codes "full") (codes "threads") refl e
+full_alone inquiries.Where e = differ (codes "full") (codes "where") refl e
+
 quit_alone : (i : Inquiry) → codes "quit" ≡ inquiry_name i → ⊥
 quit_alone (inquiries.At p) e = differ (codes "quit") (codes "at") refl e
 quit_alone (inquiries.Back n) e = differ (codes "quit") (codes "back") refl e
@@ -92,6 +112,8 @@ pub no_core : (name value : Text) → name ≡ codes "core" → ((file : Bor Tex
 no_core name value is none (asks.Of i) h = core_alone i (sym is ∙ h.0)
 no_core name value is none (asks.Core file) h = none file (h.1, h.2)
 no_core name value is none asks.Choices h = differ (codes "core") (codes "choices") refl (sym is ∙ h.0)
+no_core name value is none asks.Quiet h = differ (codes "core") (codes "quiet") refl (sym is ∙ h.0)
+no_core name value is none asks.Full h = differ (codes "core") (codes "full") refl (sym is ∙ h.0)
 no_core name value is none asks.Help h = differ (codes "core") (codes "help") refl (sym is ∙ h.0)
 no_core name value is none asks.Quit h = differ (codes "core") (codes "quit") refl (sym is ∙ h.0)
 
@@ -99,13 +121,35 @@ pub no_choices : (name value : Text) → name ≡ codes "choices" → (value ≡
 no_choices name value is none (asks.Of i) h = choices_alone i (sym is ∙ h.0)
 no_choices name value is none (asks.Core file) h = differ (codes "choices") (codes "core") refl (sym is ∙ h.0)
 no_choices name value is none asks.Choices h = none h.1
+no_choices name value is none asks.Quiet h = differ (codes "choices") (codes "quiet") refl (sym is ∙ h.0)
+no_choices name value is none asks.Full h = differ (codes "choices") (codes "full") refl (sym is ∙ h.0)
 no_choices name value is none asks.Help h = differ (codes "choices") (codes "help") refl (sym is ∙ h.0)
 no_choices name value is none asks.Quit h = differ (codes "choices") (codes "quit") refl (sym is ∙ h.0)
+
+pub no_quiet : (name value : Text) → name ≡ codes "quiet" → (value ≡ [] → ⊥) → (a : Asked) → IsAskedBy name value a → ⊥
+no_quiet name value is none (asks.Of i) h = quiet_alone i (sym is ∙ h.0)
+no_quiet name value is none (asks.Core file) h = differ (codes "quiet") (codes "core") refl (sym is ∙ h.0)
+no_quiet name value is none asks.Choices h = differ (codes "quiet") (codes "choices") refl (sym is ∙ h.0)
+no_quiet name value is none asks.Quiet h = none h.1
+no_quiet name value is none asks.Full h = differ (codes "quiet") (codes "full") refl (sym is ∙ h.0)
+no_quiet name value is none asks.Help h = differ (codes "quiet") (codes "help") refl (sym is ∙ h.0)
+no_quiet name value is none asks.Quit h = differ (codes "quiet") (codes "quit") refl (sym is ∙ h.0)
+
+pub no_full : (name value : Text) → name ≡ codes "full" → (value ≡ [] → ⊥) → (a : Asked) → IsAskedBy name value a → ⊥
+no_full name value is none (asks.Of i) h = full_alone i (sym is ∙ h.0)
+no_full name value is none (asks.Core file) h = differ (codes "full") (codes "core") refl (sym is ∙ h.0)
+no_full name value is none asks.Choices h = differ (codes "full") (codes "choices") refl (sym is ∙ h.0)
+no_full name value is none asks.Quiet h = differ (codes "full") (codes "quiet") refl (sym is ∙ h.0)
+no_full name value is none asks.Full h = none h.1
+no_full name value is none asks.Help h = differ (codes "full") (codes "help") refl (sym is ∙ h.0)
+no_full name value is none asks.Quit h = differ (codes "full") (codes "quit") refl (sym is ∙ h.0)
 
 pub no_help : (name value : Text) → name ≡ codes "help" → (value ≡ [] → ⊥) → (a : Asked) → IsAskedBy name value a → ⊥
 no_help name value is none (asks.Of i) h = help_alone i (sym is ∙ h.0)
 no_help name value is none (asks.Core file) h = differ (codes "help") (codes "core") refl (sym is ∙ h.0)
 no_help name value is none asks.Choices h = differ (codes "help") (codes "choices") refl (sym is ∙ h.0)
+no_help name value is none asks.Quiet h = differ (codes "help") (codes "quiet") refl (sym is ∙ h.0)
+no_help name value is none asks.Full h = differ (codes "help") (codes "full") refl (sym is ∙ h.0)
 no_help name value is none asks.Help h = none h.1
 no_help name value is none asks.Quit h = differ (codes "help") (codes "quit") refl (sym is ∙ h.0)
 
@@ -113,5 +157,7 @@ pub no_quit : (name value : Text) → name ≡ codes "quit" → (value ≡ [] �
 no_quit name value is none (asks.Of i) h = quit_alone i (sym is ∙ h.0)
 no_quit name value is none (asks.Core file) h = differ (codes "quit") (codes "core") refl (sym is ∙ h.0)
 no_quit name value is none asks.Choices h = differ (codes "quit") (codes "choices") refl (sym is ∙ h.0)
+no_quit name value is none asks.Quiet h = differ (codes "quit") (codes "quiet") refl (sym is ∙ h.0)
+no_quit name value is none asks.Full h = differ (codes "quit") (codes "full") refl (sym is ∙ h.0)
 no_quit name value is none asks.Help h = differ (codes "quit") (codes "help") refl (sym is ∙ h.0)
 no_quit name value is none asks.Quit h = none h.1

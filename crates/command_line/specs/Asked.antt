@@ -4,14 +4,23 @@ use Rattle.std.specs.List.{after_first, before_first}
 use Rattle.clap.specs.Words.{Text}
 use Rattle.command_line.specs.declared.asked.Asked.{Asked}
 use Rattle.command_line.specs.declared.asked.Asked.TheVariants as lines
+use Rattle.command_line.specs.declared.asked.BadLine.{BadLine}
+use Rattle.command_line.specs.declared.asked.BadLine.TheVariants as reasons
 use Rattle.command_line.specs.declared.asked.Inquiry.{Inquiry}
 use Rattle.command_line.specs.declared.asked.Inquiry.TheVariants as inquiries
 use Rattle.command_line.specs.Values.{IsAddress, IsMemoryRange, IsNumberIn, IsPlace}
+use Rattle.command_line.specs.declared.unread.Wanted.{Wanted}
 
 -- What is read is as a text has it, and if it is refused, the text has nothing so.
 pub record ReadsLine {T E : Type 0} (IsHad : T → Type 0) (result : Result T E) : Type 0 where
   pub found : IfOk result IsHad
   pub none : OnErr result ((value : T) → IsHad value → ⊥)
+
+-- why a text is refused as the value of a name: the name has none, or this one, which isn't what is wanted
+abbrev pub IsUnlike : (name value : Text) → Wanted → BadLine → Type 0
+IsUnlike name value wanted (reasons.Missing told) = (told.now ≡ name) × (value ≡ [])
+IsUnlike name value wanted (reasons.Bad told text what) = (told.now ≡ name) × (text.now ≡ value) × (what ≡ wanted) × (value ≢ [])
+IsUnlike name value wanted _ = ⊥
 
 -- a number that 64 bits hold
 abbrev pub IsNumber : Text → ℕ → Type 0
@@ -47,6 +56,8 @@ abbrev pub IsAskedBy : (name value : Text) → Asked → Type 0
 IsAskedBy name value (lines.Of inquiry) = IsInquiry name value inquiry
 IsAskedBy name value (lines.Core file) = (name ≡ codes "core") × (file.now ≡ value) × (value ≢ [])
 IsAskedBy name value lines.Choices = (name ≡ codes "choices") × (value ≡ [])
+IsAskedBy name value lines.Quiet = (name ≡ codes "quiet") × (value ≡ [])
+IsAskedBy name value lines.Full = (name ≡ codes "full") × (value ≡ [])
 IsAskedBy name value lines.Help = (name ≡ codes "help") × (value ≡ [])
 IsAskedBy name value lines.Quit = (name ≡ codes "quit") × (value ≡ [])
 

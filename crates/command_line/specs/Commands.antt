@@ -65,7 +65,7 @@ asking_commands =
     ∷ of_guest_from (codes "last") (needed (codes "ADDR") ∷ watched_changes)
     ∷ of_guest (codes "choices") shown_progress
     ∷ of_guest (codes "core") (needed (codes "AT") ∷ needed (codes "FILE") ∷ shown_progress)
-    ∷ of_guest (codes "ask") shown_progress
+    ∷ of_guest (codes "ask") (flag (codes "short") ∷ shown_progress)
     ∷ []
 
 -- that which prints help
@@ -122,7 +122,7 @@ HasQuestion (questions.Last from watched times short memory) rows =
     × HasFlag rows (codes "short") short × HasMemory rows memory.items
 HasQuestion questions.Choices rows = Unit {0}
 HasQuestion (questions.Core at file) rows = HasPlace rows (codes "AT") at × HasText rows (codes "FILE") file.now
-HasQuestion questions.Lines rows = Unit {0}
+HasQuestion (questions.Lines short) rows = HasFlag rows (codes "short") short
 
 -- the name of a question's command
 abbrev pub question_name : Question → Text
@@ -132,7 +132,7 @@ question_name (questions.Back from count memory) = codes "back"
 question_name (questions.Last from watched times short memory) = codes "last"
 question_name questions.Choices = codes "choices"
 question_name (questions.Core at file) = codes "core"
-question_name questions.Lines = codes "ask"
+question_name (questions.Lines short) = codes "ask"
 
 -- The values of a request of a command. One row a command.
 abbrev pub HasValues : Request → List Row → Type 0

@@ -1,14 +1,15 @@
 //! The lines of `ask`.
 
-ghost use Rattle.std.specs.Prelude.{◌≡◌, ◌≢◌, ◌==◌, []};
+ghost use Rattle.std.specs.Prelude.{◌≡◌, ◌≢◌, ◌==◌, [], IfErr};
 ghost use Rattle.std.specs.List.{after_first, before_first};
-ghost use Rattle.command_line.specs.Asked.{IsAsked, IsInquiry, IsNumber, ReadsLine};
+ghost use Rattle.command_line.specs.Asked.{IsAsked, IsInquiry, IsNumber, IsUnlike, ReadsLine};
 ghost use Rattle.command_line.specs.Values.{IsAddress, IsMemoryRange, IsPlace};
 
 use crate::memory::range_in;
 use crate::numbers::{address_in, number_in, place_in};
 use crate::request::{MemoryRange, Place};
 use crate::unread::Wanted;
+use escapes::Escaped;
 use thiserror::Error;
 
 /// What a line of `ask` asks.
@@ -20,6 +21,10 @@ pub enum Asked<'a> {
     Core { file: &'a str },
     /// `choices`: the choices of the turns.
     Choices,
+    /// `quiet`: from here on, moves print the line of their place.
+    Quiet,
+    /// `full`: from here on, moves print the state again.
+    Full,
     /// `help`: what can be asked.
     Help,
     /// `quit`: nothing more.
@@ -47,11 +52,11 @@ pub enum Inquiry {
     Where,
 }
 
-/// Why a line of `ask` asks nothing.
+/// Why a line of `ask` asks nothing. The text repeats what the line has, with its control characters escaped.
 #[derive(Clone, Copy, Debug, Error)]
 pub enum BadLine<'a> {
     /// Nothing is asked by this name.
-    #[error("no question '{name}': help lists them")]
+    #[error("no question '{}': help lists them", Escaped::word(*.name))]
     Unknown {
         name: &'a str,
     },
@@ -61,13 +66,13 @@ pub enum BadLine<'a> {
         name: &'a str,
     },
     /// The name has a value, and takes none.
-    #[error("unexpected value '{text}' for '{name}'")]
+    #[error("unexpected value '{}' for '{name}'", Escaped::word(*.text))]
     Unexpected {
         name: &'a str,
         text: &'a str,
     },
     /// The name has this value, which is not what is wanted.
-    #[error("invalid value '{text}' for '{name}': not {wanted}")]
+    #[error("invalid value '{}' for '{name}': not {wanted}", Escaped::word(*.text))]
     Bad {
         name: &'a str,
         text: &'a str,
@@ -86,62 +91,63 @@ fn name_and_value(line: &str) -> (&str, &str)
     }
 }
 
+/// Why a text is refused as the value of a name: there is none, or it isn't what is wanted.
+fn unlike<'a>(name: &'a str, text: &'a str, wanted: Wanted) -> BadLine<'a>
+    ensures { IsUnlike name.now text.now wanted result }
+{
+    if text.is_empty() {
+        return BadLine::Missing { name };
+    }
+    BadLine::Bad { name, text, wanted }
+}
+
 /// The place that a text names.
 fn place_of<'a>(name: &'a str, text: &'a str) -> Result<Place, BadLine<'a>>
-    ensures { ReadsLine (IsPlace text.now) result }
+    ensures reads { ReadsLine (IsPlace text.now) result }
+    ensures why { IfErr result (IsUnlike name.now text.now Wanted.Place) }
 {
     match place_in(text) {
         Some(place) => Ok(place),
-        None => Err(BadLine::Bad {
-            name,
-            text,
-            wanted: Wanted::Place,
-        }),
+        None => Err(unlike(name, text, Wanted::Place)),
     }
 }
 
 /// The number of instructions that a text names.
 fn count_of<'a>(name: &'a str, text: &'a str) -> Result<u64, BadLine<'a>>
-    ensures { ReadsLine (IsNumber text.now) result }
+    ensures reads { ReadsLine (IsNumber text.now) result }
+    ensures why { IfErr result (IsUnlike name.now text.now (Wanted.Number 0 18446744073709551615)) }
 {
     match number_in(text, 0, u64::MAX) {
         Some(count) => Ok(count),
-        None => Err(BadLine::Bad {
-            name,
-            text,
-            wanted: Wanted::Number {
+        None => {
+            let wanted = Wanted::Number {
                 least: 0,
                 most: u64::MAX,
-            },
-        }),
+            };
+            Err(unlike(name, text, wanted))
+        }
     }
 }
 
 /// The address that a text names.
 fn address_of<'a>(name: &'a str, text: &'a str) -> Result<u32, BadLine<'a>>
-    ensures { ReadsLine (IsAddress text.now) result }
+    ensures reads { ReadsLine (IsAddress text.now) result }
+    ensures why { IfErr result (IsUnlike name.now text.now Wanted.Address) }
 {
     match address_in(text) {
         Some(address) => Ok(address),
-        None => Err(BadLine::Bad {
-            name,
-            text,
-            wanted: Wanted::Address,
-        }),
+        None => Err(unlike(name, text, Wanted::Address)),
     }
 }
 
 /// The bytes of memory that a text names.
 fn range_of<'a>(name: &'a str, text: &'a str) -> Result<MemoryRange, BadLine<'a>>
-    ensures { ReadsLine (IsMemoryRange text.now) result }
+    ensures reads { ReadsLine (IsMemoryRange text.now) result }
+    ensures why { IfErr result (IsUnlike name.now text.now Wanted.Range) }
 {
     match range_in(text) {
         Some(range) => Ok(range),
-        None => Err(BadLine::Bad {
-            name,
-            text,
-            wanted: Wanted::Range,
-        }),
+        None => Err(unlike(name, text, Wanted::Range)),
     }
 }
 
@@ -202,6 +208,14 @@ pub fn asked_in(line: &str) -> Result<Asked<'_>, BadLine<'_>>
         "choices" => {
             none_of(name, value)?;
             Ok(Asked::Choices)
+        }
+        "quiet" => {
+            none_of(name, value)?;
+            Ok(Asked::Quiet)
+        }
+        "full" => {
+            none_of(name, value)?;
+            Ok(Asked::Full)
         }
         "help" => {
             none_of(name, value)?;

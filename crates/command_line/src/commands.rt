@@ -17,7 +17,7 @@ use clap::{ArgMatches, Command};
 use std::alloc::{AllocError, Global};
 
 /// The version of the program.
-const VERSION: &str = "0.3.0";
+const VERSION: &str = "0.4.0";
 
 const STORE: Argument = Argument::Needed("STORE", "the file of the store");
 
@@ -217,7 +217,12 @@ const SUBCOMMANDS: &[Subcommand] = &[
     Subcommand {
         name: "ask",
         about: "answers questions of a guest, a line of standard input each",
-        arguments: &[STORE, GUEST, PROGRESS],
+        arguments: &[
+            STORE,
+            GUEST,
+            Argument::Flag("short", "print a line for each place, not the state"),
+            PROGRESS,
+        ],
     },
     Subcommand {
         name: "help",
@@ -349,7 +354,9 @@ fn question<'a>(alloc: Global, found: Found<'_, 'a>) -> Result<Question<'a>, Unr
             at: place(values, "AT")?,
             file: text(values, "FILE")?,
         }),
-        "ask" => Ok(Question::Lines),
+        "ask" => Ok(Question::Lines {
+            short: flag(values, "short"),
+        }),
         _ => unreachable!(),
     }
 }

@@ -17,7 +17,10 @@
 //!   programs, and so are names, each of which fits a guest, also with the guest's place behind the only one of several. Each
 //!   value that is refused fits no request.
 //! - `asked_in`: what a line of `ask` asks: its name, and after the first space its value, which is a place, a number, an address
-//!   or a range of memory as the arguments of commands are, a file, or nothing. It is refused only if nothing is asked so.
+//!   or a range of memory as the arguments of commands are, a file, or nothing. It is refused only if nothing is asked so. A value that
+//!   is missing is told as such exactly if it is empty (`unlike`, private).
+//! - `shown_words` (private): the words of which the parser's error speaks are those of the line as `escapes` prints them. That no text of
+//!   an error has a control character of a word is tested.
 //! - `help`: what the parser says where help is asked for.
 //! - `seed`: Ok exactly for 32 hexadecimal digits, with the 16 bytes that they write.
 #![tactic(auto)]

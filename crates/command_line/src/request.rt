@@ -90,8 +90,10 @@ pub enum Question<'a> {
         at: Place,
         file: &'a str,
     },
-    /// `ask STORE GUEST`: answers lines of standard input.
-    Lines,
+    /// `ask STORE GUEST`: answers lines of standard input. `short`: at first, moves print the line of their place, not the state.
+    Lines {
+        short: bool,
+    },
 }
 
 /// A place in a recording.

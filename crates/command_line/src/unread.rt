@@ -2,6 +2,7 @@
 
 ghost use Rattle.std.specs.Prelude.{◌≡◌};
 
+use escapes::Escaped;
 use std::alloc::{AllocError, AllocFailed};
 use std::fmt;
 use std::fmt::{Display, Formatter};
@@ -16,7 +17,7 @@ pub(crate) enum Unread<'a> {
         name: &'a str,
     },
     /// The argument has this text, which is not what is wanted.
-    #[error("invalid value '{text}' for '{name}': not {wanted}")]
+    #[error("invalid value '{}' for '{name}': not {wanted}", Escaped::word(*.text))]
     Bad {
         name: &'a str,
         text: &'a str,

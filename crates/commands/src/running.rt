@@ -164,7 +164,7 @@ fn ends_quietly(request: &Request<'_>) -> bool {
         Request::Ask { question, .. } => {
             matches!(
                 question,
-                Question::Output | Question::State { .. } | Question::Lines
+                Question::Output | Question::State { .. } | Question::Lines { .. }
             )
         }
         _ => false,

@@ -1,5 +1,5 @@
 -- How a copy gets on, and how it ends.
-use Rattle.std.proofs.Common.{◌≡◌, ℕ, ◌+◌, ◌≤◌, Bool, List, [], ◌++◌, length, take, drop, Result, Ok, Err, true, false, refl, sym, ◌∙◌, ap, subst, arith, length-append, take-add}
+use Rattle.std.proofs.Common.{◌≡◌, ℕ, ◌+◌, ◌≤◌, max, Bool, List, [], ◌++◌, length, take, drop, Result, Ok, Err, true, false, refl, sym, ◌∙◌, ap, subst, arith, length-append, take-add}
 use Rattle.std.specs.Prelude.{◌↔◌}
 use Rattle.std.proofs.lemmas.List.{append-nil, length-map, take-append-drop, take_all}
 use Rattle.store_model.specs.declared.limits.TheConstants.{MAX_BODY}
@@ -277,6 +277,13 @@ pub room_after : {D : Type 0} (device : Device D) (log log' : LogValue D) (body 
     n ≤ log.next_guest → n ≤ log'.next_guest
 room_after {D = D} device log log' body n committed room =
     let same : log'.next_guest ≡ log.next_guest = ap (λ (l : LogValue D). l.next_guest) committed.log in omega arith
+
+-- a log that gave out its next number, and was committed to
+pub next_after : {D : Type 0} (log raised log' : LogValue D) (number : ℕ)
+    → raised ≡ record log { next_guest = max log.next_guest (number + 1) } → number ≡ log.next_guest
+    → log'.next_guest ≡ raised.next_guest → log'.next_guest ≡ log.next_guest + 1
+next_after {D = D} log raised log' number is same kept =
+    let raised_is : raised.next_guest ≡ max log.next_guest (number + 1) = ap (λ (l : LogValue D). l.next_guest) is in omega arith
 
 -- a full store has no room for some body
 pub full_of : {D T : Type 0} (device : Device D) (log log' : LogValue D) (body : List ℕ) (e : CopyFault) → 1 ≤ length body →

@@ -18,7 +18,7 @@
 //!   exactly if the log is broken then. `StoreFull` comes only if the store would pass a limit with some body more. If the guest's
 //!   records stand on an honest disk, `Unread` names no damaged record, and `NeedsMark` comes only if the log doesn't hold the Mark and
 //!   some record of the guest stands behind it alone. Whatever it returns, the log holds the Mark exactly if it did before. The disk of
-//!   the source is only read.
+//!   the source is only read. The log's next number is one more than before, unless there was none.
 //! - `copies_are_told_apart`: a law. Of what is recovered after a copy the records under the new number are the copied ones, and
 //!   those under any other number are what they were. The copied records of a recording are a recording.
 //! - Not in its contract: that `Unread` names the very record that was not read, and that `Memory` comes only if an allocation failed.

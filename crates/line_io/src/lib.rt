@@ -14,7 +14,7 @@
 //! - `read_program`: all bytes of the file, and at most 2,097,152, else why they aren't read: `TooLong` comes only if there are
 //!   more. `image_of`: the image of a program, or the refusal that its file has.
 //! - `of_file_at`, `of_checked` of `Refusal`: what is told in words of a file is of this guest, this name and this fault, or there was no
-//!   memory for it. What these words are is tested.
+//!   memory for it. What these words are is tested, and that the name is printed as `escapes` prints it.
 //! - `print_put`: bytes for descriptor 2 are appended to the errors, all others to the output, whole.
 //! - `finish`: nothing is lost of what was collected. That a flush that failed is reported is tested (`cases.host`): no contract says of a
 //!   writer when it fails.

@@ -9,6 +9,7 @@ use crate::printing::OutputFailed;
 use command_line::BadSeed;
 use copying::CopyFault;
 use elf_load::ElfFault;
+use escapes::Escaped;
 use faults::{OutputFault, SeekFault, SessionFault, VerifyFault};
 use recover::{OpenFault, ReadFault};
 use rrv_model::refusal;
@@ -17,7 +18,8 @@ use thiserror::Error;
 use trace_disk::{CannotOpen, CreateFault, DiskFailed};
 use trace_log::LogFault;
 
-/// Why a line was refused. The text is what the program prints behind `rrv: `.
+/// Why a line was refused. The text is what the program prints behind `rrv: `. It repeats names of files with their control characters
+/// escaped.
 #[derive(Debug, Drop, Error)]
 pub enum Refusal {
     /// The seed isn't 32 hexadecimal digits.
@@ -30,20 +32,20 @@ pub enum Refusal {
     #[error("cannot read file")]
     CannotReadFile,
     /// The file, which is to be checked, isn't taken.
-    #[error("{file}: {fault}")]
+    #[error("{}: {fault}", Escaped::path(.file.as_str()))]
     BadFile {
         file: String,
         fault: FileFault,
     },
     /// A file of a recording isn't taken. The text's first line is that of the same refusal without words, and the second names the file.
-    #[error("{first}\n{file}: {fault}")]
+    #[error("{first}\n{}: {fault}", Escaped::path(.file.as_str()))]
     InWords {
         first: FirstLine,
         file: String,
         fault: FileFault,
     },
     /// This line of a file of choices is none. The text's second line names the file and the line, counted from 1.
-    #[error("bad choices\n{file}:{line}")]
+    #[error("bad choices\n{}:{line}", Escaped::path(.file.as_str()))]
     BadChoices {
         file: String,
         line: u64,
@@ -83,7 +85,7 @@ pub enum Refusal {
     /// The file of a core can't be made; one that is there is kept.
     #[error("cannot make core file")]
     CannotMakeCore,
-    /// The file of a core can't be written whole; it is removed again.
+    /// The file of a core can't be written whole; nothing of it is left.
     #[error("cannot write core file")]
     CannotWriteCore,
     /// A guest is to be copied to the store in which it is.

@@ -16,7 +16,7 @@ use Rattle.command_line.specs.declared.request.Every.{Every as Asked}
 use Rattle.command_line.specs.declared.request.Every.TheVariants as asked
 use Rattle.recording.specs.declared.shared.Shared.{Shared}
 use Rattle.recording.specs.declared.names.Names.{Names}
-use Rattle.recording.specs.Limits.{Limit}
+use Rattle.recording.specs.Limits.{Limit, may_expire}
 use Rattle.recording.specs.Names.{name_by}
 
 -- what the guests of a recording share
@@ -78,7 +78,13 @@ plan_at terms place = plan (choices_at terms.choices place) (turns_after terms.a
 
 -- so up to the limit of instructions, if there is one
 abbrev pub limit_at : Terms → ℕ → Limit
-limit_at terms place = record { plan = plan_at terms place; limit = terms.limit; is_over = false }
+limit_at terms place = record {
+  plan = plan_at terms place;
+  limit = terms.limit;
+  is_over = false;
+  expires = may_expire terms.version;
+  given = None;
+}
 
 -- The job of the program at this place of the line: its version is that of all, its file, its name, its random bytes and its choices are those of the place,
 -- and it reads the input from its start.

@@ -71,7 +71,8 @@ fn chooser_of<'a, R: Clock>(
     ensures chooser { IfOk result (λ chooser. chooser ≡ limit_at (terms_of shared.now) place) }
 {
     let schedule = schedule_of(alloc, shared, place as usize)?;
-    Ok(Limited::new(schedule, shared.limit, shared.counts.get(place as usize)))
+    let ran = shared.counts.get(place as usize);
+    Ok(Limited::new(schedule, shared.limit, shared.version, ran))
 }
 
 /// The job of the guest at this place of the line.

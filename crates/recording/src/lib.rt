@@ -13,7 +13,8 @@
 //!   its plan: the choices of its list, and then turns of the quantum, or nothing, up to the limit of instructions, if
 //!   there is one. That `record` reads the files and hands these jobs on is tested.
 //! - `Limited` (private): without a limit it chooses just what the schedule does. With one it chooses that for as many instructions
-//!   or for fewer, or nothing. That it ends at the limit is tested.
+//!   or for fewer, or nothing. That it ends at the limit is tested. Only to a guest of version 2 it may give its last choice again. That
+//!   it does so exactly if a wait ended in its place is tested.
 //! - `lasts_of`, `misfits_of` (private): of each job the thread that its schedule chose last, and the first choice that didn't
 //!   fit.
 //! - `print_reports` (private): if it returns Ok, a writer that tells its bytes got just the line of each reported guest and,

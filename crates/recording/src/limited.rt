@@ -1,26 +1,43 @@
 //! A schedule that ends at a limit of instructions.
 
-ghost use Rattle.std.specs.Prelude.{◌≡◌, ◌↔◌, ◌≤◌, IfOk, false, length, max, min, None};
+ghost use Rattle.std.specs.Prelude.{◌≡◌, ◌↔◌, ◌≤◌, IfOk, IfSome, Some, false, length, max, min, None};
 ghost use Rattle.serial_sched.specs.Slices.{IsQuantum};
-ghost use Rattle.recording.specs.Limits.{ChoosesWithin, IsOver};
+ghost use Rattle.recording.specs.Limits.{ChoosesWithin, IsAgain, IsOver, may_expire};
 
 use choices::{Misfit, Schedule};
 use rrv_model::limits::{MAX_GUESTS, MIN_QUANTUM};
+use rrv_model::machine::Version;
 use rrv_model::record::Choice;
-use serial_sched::Chooser;
+use serial_sched::{Chooser, can_choose};
 use session::Gate;
 use std::alloc::{AllocError, Global};
 use std::marker::Model;
 use std::sync::atomic::{AtomicU64, Ordering};
 
 /// The choices of a schedule, until the guest has run so many instructions. The last choice before that is for no more of them than are
-/// left, but for the least quantum at least. How many it has run is told beside the choices, by a [`CountingGate`].
+/// left, but for the least quantum at least. A choice in whose place a wait ended is given again: a slice that doesn't end the guest runs an
+/// instruction at least, so if none ran since, the choice wasn't taken. How many it has run is told beside the choices, by a [`CountingGate`].
 #[derive(Drop)]
 pub(crate) struct Limited<'a> {
     schedule: Schedule,
     limit: Option<u64>,
     ran: Option<&'a AtomicU64>,
     is_over: bool,
+    /// Whether waits of the guest may end because their time is over.
+    expires: bool,
+    /// The choice that it gave last, and how many instructions had run then.
+    given: Option<Choice>,
+    given_at: u64,
+}
+
+/// Whether waits of a guest may end because their time is over.
+fn may_expire(version: Version) -> bool
+    ensures { result ≡ may_expire version }
+{
+    match version {
+        Version::One => false,
+        Version::Two => true,
+    }
 }
 
 impl<'a> Model for Limited<'a> {
@@ -29,21 +46,41 @@ impl<'a> Model for Limited<'a> {
 
     ghost Value = { Limit };
 
-    ghost view = { λ l. record { plan = l.schedule; limit = l.limit; is_over = l.is_over } };
+    ghost view = { λ l. record {
+      plan = l.schedule;
+      limit = l.limit;
+      is_over = l.is_over;
+      expires = l.expires;
+      given = l.given;
+    } };
 
     ghost invariant = { λ l. l.limit ≡ None → l.is_over ≡ false };
 }
 
 impl<'a> Limited<'a> {
-    /// The choices of this schedule, until the guest has run so many instructions, or all of them.
-    pub(crate) fn new(schedule: Schedule, limit: Option<u64>, ran: Option<&'a AtomicU64>) -> Self
-        ensures { result ≡ record { plan = schedule; limit = limit; is_over = false } }
+    /// The choices of this schedule, until the guest, which is of this version, has run so many instructions, or all of them.
+    pub(crate) fn new(
+        schedule: Schedule,
+        limit: Option<u64>,
+        version: Version,
+        ran: Option<&'a AtomicU64>,
+    ) -> Self
+        ensures { result ≡ record {
+          plan = schedule;
+          limit = limit;
+          is_over = false;
+          expires = may_expire version;
+          given = None;
+        } }
     {
         Limited {
             schedule,
             limit,
             ran,
             is_over: false,
+            expires: may_expire(version),
+            given: None,
+            given_at: 0,
         }
     }
 
@@ -61,20 +98,47 @@ impl<'a> Limited<'a> {
         self.schedule.misfit()
     }
 
+    /// How many instructions the guest has run.
+    fn count(&self) -> u64 {
+        match self.ran {
+            Some(ran) => ran.load(Ordering::SeqCst),
+            None => 0,
+        }
+    }
+
     /// How many instructions the guest may still run; None where there is no limit.
     fn left(&self) -> Option<u64>
         ensures { (result ≡ None) ↔ (self.now.limit ≡ None) }
     {
         match self.limit {
-            Some(limit) => {
-                let ran = match self.ran {
-                    Some(ran) => ran.load(Ordering::SeqCst),
-                    None => 0,
-                };
-                Some(limit.saturating_sub(ran))
-            }
+            Some(limit) => Some(limit.saturating_sub(self.count())),
             None => None,
         }
+    }
+
+    /// The choice that it gave last, if a wait ended in its place. Its thread runs still.
+    fn again(&self, runnable: &[u32]) -> Option<Choice>
+        ensures { IfSome result (IsAgain runnable.now self.now) }
+    {
+        let Some(choice) = self.given else {
+            return None;
+        };
+        if !self.expires || self.schedule.done() || !can_choose(choice, runnable) {
+            return None;
+        }
+        // Who isn't told how many instructions ran can't know.
+        if self.ran.is_some() && self.count() == self.given_at {
+            return Some(choice);
+        }
+        None
+    }
+
+    /// Notes a choice that it gives.
+    fn note(&mut self, choice: Choice)
+        ensures { self.new ≡ record self.old { given = Some choice } }
+    {
+        self.given = Some(choice);
+        self.given_at = self.count();
     }
 }
 
@@ -87,17 +151,21 @@ impl<'a> Chooser for Limited<'a> {
         if self.is_over {
             return None;
         }
+        if let Some(choice) = self.again(runnable) {
+            return Some(choice);
+        }
         let Some(left) = self.left() else {
-            return self.schedule.next(runnable);
+            let choice = self.schedule.next(runnable)?;
+            self.note(choice);
+            return Some(choice);
         };
         if left == 0 {
             self.is_over = true;
             return None;
         }
-        match self.schedule.next(runnable) {
-            Some(choice) => Some(shortened(choice, left)),
-            None => None,
-        }
+        let choice = shortened(self.schedule.next(runnable)?, left);
+        self.note(choice);
+        Some(choice)
     }
 
     fn done(&self) -> bool {

@@ -59,9 +59,9 @@ fn seed_of(text: Option<&str>) -> Result<[u8; 16], Refusal> {
     }
 }
 
-/// Records programs to a store, and prints how each guest ended. Output is printed once it is durable. Where the output of a guest fails,
-/// that is told behind the ends of the others. Where one failed, the outcome tells
-/// it if the line is to.
+/// Records programs to a store, which is opened once all other files of the line are read, and prints how each guest ended. Output is
+/// printed once it is durable. Where the output of a guest fails, that is told behind the ends of the others. Where one failed, the
+/// outcome tells it if the line is to.
 pub fn record<
     R: Files<File = File> + AllocGlobal + Input + Threads + Wait + Sync + Clock,
     O: Write + Drop + Send,
@@ -78,8 +78,9 @@ pub fn record<
 {
     let start = Instant::now(rt).map_err(|_| Refusal::NoClock)?;
     let seed = seed_of(recording.seed)?;
-    let log = store_of(rt, recording)?;
+    // A file may be a pipe that is waited for: until then another program may write to the store.
     let inputs = inputs_of(rt, recording, terminals.err)?;
+    let log = store_of(rt, recording)?;
     let names = names_of(recording);
     match record_shown(rt, recording, start, seed, log, inputs, terminals, out, err) {
         Ok(recorded) => {

@@ -14,6 +14,10 @@ name prints at the place at which the line before it left off: `replay --at` for
 records, state and memory have there. The change that `next` finds has to be the one that `last` finds from the place
 after it, and `last` from that change has to find none that is later than the place. A line that asks nothing, or leads
 out of the recording, has to be refused, and the lines after it are done all the same.
+
+Half of the sessions begin with `--short`. From there and from each `quiet` up to a `full`, a line that goes somewhere
+has to print what `where` has to print at the place at which the command's state is, and to print the same as the
+command if that prints no state.
 """
 import functools
 import pathlib
@@ -41,7 +45,12 @@ BAD = {
     "": "no question '': help lists them",
     "At 0": "no question 'At': help lists them",
     " at 0": "no question '': help lists them",
-    "at": f"invalid value '' for 'at': {NOT_A_PLACE}",
+    "at": "a value is required for 'at'",
+    "back ": "a value is required for 'back'",
+    "forward": "a value is required for 'forward'",
+    "last": "a value is required for 'last'",
+    "next": "a value is required for 'next'",
+    "memory ": "a value is required for 'memory'",
     "at  0": f"invalid value ' 0' for 'at': {NOT_A_PLACE}",
     "back -1": f"invalid value '-1' for 'back': {NOT_A_NUMBER}",
     "forward 18446744073709551616": f"invalid value '18446744073709551616' for 'forward': {NOT_A_NUMBER}",
@@ -52,6 +61,9 @@ BAD = {
         "1 to 65536"
     ),
     "where 1": "unexpected value '1' for 'where'",
+    "quiet 1": "unexpected value '1' for 'quiet'",
+    "full on": "unexpected value 'on' for 'full'",
+    "Quiet": "no question 'Quiet': help lists them",
     "core": "a value is required for 'core'",
     "core missing/core": "cannot make core file",
     "forward 18446744073709551615": "past the end",
@@ -116,28 +128,35 @@ class Asked:
         word = "none" if "--" in digits else "".join(reversed(digits))
         return f"{begin} thread {tid} pc {thread.pc} word {word}\n"
 
-    def is_next(self, place: int, address: str, answer: str) -> bool:
+    def moved(self, state: str, is_quiet: bool) -> str:
+        """What is printed of a place that is gone to, by what the command prints: its state, or why there is none."""
+        place = place_in(state)
+        return state if place is None or not is_quiet else self.where(place)
+
+    def is_next(self, place: int, address: str, is_quiet: bool, answer: str) -> bool:
         """Whether this is the first change after the place."""
         change = place_in(answer)
         if change is None:
             last = place_in(self.said("last", "end", address))
             return answer == "unchanged\n" and (last is None or last <= place)
-        if not place < change < self.total or answer != self.state(change):
+        if not place < change < self.total or answer != self.moved(self.state(change), is_quiet):
             return False
         before = self.said("last", change, address)
         earlier = place_in(before)
-        is_last = self.said("last", change + 1, address) == answer
+        is_last = self.said("last", change + 1, address) == self.state(change)
         return is_last and (before == "unchanged\n" if earlier is None else earlier <= place)
 
-    def wanted(self, place: int, name: str, value: str) -> str:
+    def wanted(self, place: int, is_quiet: bool, name: str, value: str) -> str:
         """What has to be printed of a question at a place."""
         match name:
             case "at":
-                return self.state(value)
+                return self.moved(self.state(value), is_quiet)
             case "forward":
-                return self.state(place + int(value))
+                return self.moved(self.state(place + int(value)), is_quiet)
             case "back" | "last":
-                return self.said(name, place, value)
+                return self.moved(self.said(name, place, value), is_quiet)
+            case "quiet" | "full":
+                return ""
             case "memory":
                 return self.memory(place, value)
             case "where":
@@ -158,8 +177,8 @@ class Asked:
             yield draw.choice([
                 f"at {at}", f"at {at}", f"back {draw.randrange(few)}", f"forward {draw.randrange(few)}",
                 f"last {address}", f"last {address}", f"next {address}", f"next {address}",
-                f"memory {address}:{draw.randint(1, 200)}", "threads", "where", "where", "choices",
-                f"core {self.store}.{self.guest}.{draw.getrandbits(40):010x}", draw.choice([*BAD]),
+                f"memory {address}:{draw.randint(1, 200)}", "threads", "where", "where", "choices", "quiet", "quiet",
+                "full", "full", f"core {self.store}.{self.guest}.{draw.getrandbits(40):010x}", draw.choice([*BAD]),
             ])
 
 
@@ -170,16 +189,21 @@ class Session:
         draw = batch.draw(guest)
         self.asked = asked = Asked(program, f"{batch.number}.store", guest)
         self.lines = [*asked.lines(draw)]
-        self.quits = draw.random() < 0.5
+        self.quits, is_short = draw.random() < 0.5, draw.random() < 0.5
         text = "".join(f"{it}\n" for it in self.lines) + "quit\nat 0\n" * self.quits
         stdin = text.encode("utf-8", "surrogateescape")
-        self.status, out, self.err = asked.program.run("ask", asked.store, asked.guest, stdin=stdin)
+        options = ["--short"] * is_short
+        self.status, out, self.err = asked.program.run("ask", *options, asked.store, asked.guest, stdin=stdin)
         *self.answers, self.rest = re.split(r"(?m)^\.\n", out.decode("latin-1"))
         # The places before each line.
         self.places = [0]
         for it in self.answers:
             place = place_in(it)
             self.places.append(self.places[-1] if place is None else place)
+        # Whether lines that go somewhere are quiet, before each line.
+        self.quiet = [is_short]
+        for line in self.lines:
+            self.quiet.append({"quiet": True, "full": False}.get(line, self.quiet[-1]))
 
 
 class Look(NamedTuple):
@@ -205,27 +229,27 @@ class Looked(Case):
             self.need("end", wanted, (of.status, of.err, of.rest, len(of.answers), of.answers[len(of.lines):]))
             return
         self.assertLess(look.question, len(of.answers), "questions that something is printed of")
-        line = of.lines[look.question]
+        line, place, is_quiet = of.lines[look.question], of.places[look.question], of.quiet[look.question]
         try:
-            self.need_answer(of.asked, of.places[look.question], line, of.answers[look.question])
+            self.need_answer(of.asked, place, is_quiet, line, of.answers[look.question])
         except AssertionError as wrong:
-            text = f"{line[:40]!a} at {of.places[look.question]} of guest {of.asked.guest} in {of.asked.store}"
+            text = f"{'quiet ' * is_quiet}{line[:40]!a} at {place} of guest {of.asked.guest} in {of.asked.store}"
             raise self.failureException(f"{text}\n{wrong}") from None
 
-    def need_answer(self, asked: Asked, place: int, line: str, answer: str) -> None:
+    def need_answer(self, asked: Asked, place: int, is_quiet: bool, line: str, answer: str) -> None:
         """Compares what is printed of a line."""
         name, _, value = line.partition(" ")
         if line in BAD:
             self.need("refusal", f"rrv: {BAD[line]}\n", answer)
         elif name == "next":
-            self.assertTrue(asked.is_next(place, value, answer), f"not the next change:\n{answer}")
+            self.assertTrue(asked.is_next(place, value, is_quiet, answer), f"not the next change:\n{answer}")
         elif name == "core":
             self.need("output", "", answer)
             again = pathlib.Path(f"{value}.again")
             asked.said("core", place, again)
             self.need("core file", again.read_bytes(), pathlib.Path(value).read_bytes())
         else:
-            self.need("output", asked.wanted(place, name, value), answer)
+            self.need("output", asked.wanted(place, is_quiet, name, value), answer)
 
 
 @functools.cache

@@ -6,10 +6,11 @@ import pathlib
 from collections.abc import Callable
 from typing import NamedTuple
 
-from rrv_tools import printed
-from rrv_tools.guests import path_of
+from rrv_tools import elf, printed
+from rrv_tools.guests import MAKE_THREAD, WAIT, exits, path_of
 from rrv_tools.program import Program
-from rrv_tools.testing import Case, add_rows
+from rrv_tools.riscv import A0, SP, X5, ZERO, addi, beq, counted_down, li
+from rrv_tools.testing import Case, add_rows, rows
 
 # Instructions of a slice, and between two checkpoints.
 RECORDINGS = ((64, 0), (1000, 20_000), (50_000, 0))
@@ -109,3 +110,31 @@ for share_and_name in SHARES.items():
 ROWS = {f"{guest} by {recording[0]} {look}": (guest, recording, look)
         for guest in printed.NAMES for recording in RECORDINGS for look in LOOKS}
 add_rows(Choices, ROWS, lambda case, row: LOOKS[row[2]](case, case.once(Recorder, case.program, row[0], *row[1])))
+
+
+# Its second thread waits for no time at all, again and again, at a word that nobody wakes; the first one counts.
+COUNTS = [*li(X5, 100_000), *counted_down(X5, []), *exits(0)]
+NAPS = [*WAIT, beq(ZERO, ZERO, -4 * len(WAIT))]
+NAPPING = [addi(SP, SP, -64), *MAKE_THREAD, beq(A0, ZERO, 4 * len(COUNTS) + 4), *COUNTS, *NAPS]
+# Choices of its threads. After each of the second one, whose slice ends in its wait, the wait ends in the next frame.
+LISTS = {
+    "one wait": "1 64\n2 64\n1 64\n1 100\n1 64\n",
+    "several waits": "1 64\n2 64\n1 64\n2 64\n1 70\n1 64\n2 64\n1 64\n",
+}
+
+
+@rows({f"a list with {it}": it for it in LISTS}, "need_list")
+class Waits(Case):
+    """Choices of a guest of which waits end because their time is over, which takes none of them."""
+
+    seconds = 1
+
+    def need_list(self, name: str) -> None:
+        """Each choice of the list is a slice, and they are those that are printed."""
+        pathlib.Path("napping.elf").write_bytes(elf.executable(NAPPING))
+        pathlib.Path("list").write_text(LISTS[name], encoding="ascii")
+        self.program.run_well("new", "s")
+        self.program.run_well("record", "--upgrade", "--choices", "list", "--then", "none", "s", "napping.elf")
+        ends = printed.text_of(self.program, "dump", "s", 0).count(" expire tid=2 ")
+        self.need("ends of waits", LISTS[name].count("2 64"), ends)
+        self.need_line("choices", "s", 0, out=LISTS[name])

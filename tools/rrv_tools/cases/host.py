@@ -3,6 +3,7 @@
 Expected values: the guests' instructions, from which it follows what they print, their clocks and their sleep; of lines
 docs/FORMATS.md and docs/GUEST.md.
 """
+import contextlib
 import errno
 import itertools
 import os
@@ -16,7 +17,7 @@ from typing import IO, Any
 
 from rrv_tools import elf, guests, preload, store
 from rrv_tools.guests import CLOCK, EXIT, Printer, exits, timed_wait, writes
-from rrv_tools.known import EXITED, FIVE, FIVE_DUMPED, HI, HI_DUMPED, HI_LISTED, HI_VERIFIED
+from rrv_tools.known import EXITED, FIVE, FIVE_DUMPED, FIVE_LISTED, HI, HI_DUMPED, HI_LISTED, HI_VERIFIED
 from rrv_tools.program import ROOT, Result
 from rrv_tools.riscv import A0, A1, A2, S0, SP, X5, ZERO, addi, call, counted_down, li, sw
 from rrv_tools.testing import Case, rows
@@ -228,6 +229,30 @@ class Streams(Host):
         self.need("the place", [b"at 0 of "], [it[:8] for it in parts[0]])
         self.need("the state", state, parts[1])
         self.need("status and errors", (1, b""), ended)
+
+
+class Waited(Host):
+    """A program that is a pipe, for which a recording waits."""
+
+    def opened(self, name: str) -> int:
+        """A pipe that is written to, once someone has it open to read it."""
+        limit = time.monotonic() + NEAR
+        while time.monotonic() < limit:
+            with contextlib.suppress(OSError):
+                return os.open(name, os.O_WRONLY | os.O_NONBLOCK)
+            time.sleep(0.01)
+        raise self.failureException(f"nobody reads {name}")
+
+    def test_another_records_meanwhile(self) -> None:
+        """The store is opened once the program was read, so until then another recording may open it."""
+        os.mkfifo("pipe")
+        with self.program.start("record", "to", "pipe") as waits:
+            with open(self.opened("pipe"), "wb") as pipe:
+                self.need_line("record", "to", "exit_five", err=FIVE.report)
+                pipe.write(FIVE.file)
+            said = waits.communicate(timeout=NEAR)
+        self.need("how the one that waited ended", (0, (FIVE.out, FIVE.report)), (waits.returncode, said))
+        self.need_line("list", "to", out=FIVE_LISTED + FIVE_LISTED.replace(b"0 g0", b"1 g0", 1))
 
 
 # ---- guests beside one whose output is full

@@ -350,7 +350,7 @@ class Copies(Drawn):
         path.unlink(missing_ok=True)
         self.program.run_well("new", path)
         if self.marks:
-            mark(self.program, path)
+            mark(path)
 
     def begin_stores(self) -> None:
         """Two new stores: some guests in the one, and none or some in the other."""

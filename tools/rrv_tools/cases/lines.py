@@ -9,7 +9,7 @@ import re
 import shlex
 import struct
 import subprocess
-from collections.abc import Iterable
+from collections.abc import Iterable, Sequence
 
 from rrv_tools import elf, known
 from rrv_tools.guests import EXIT_FIVE, RECORDED, WAITS, path_of
@@ -155,6 +155,29 @@ def changes(address: int, count: int, end: int, times: int, *options: str) -> Li
     return done(" ".join(words), "".join(changes_of(address, count, end)[:times]) or "unchanged\n")
 
 
+def all_asked(questions: Sequence[tuple[str, str]], words: str = "ask s 0") -> Line:
+    """Questions with their answers."""
+    answers = "".join(f"{answer}.\n" for _, answer in questions)
+    return done(words, answers, stdin="\n".join(line for line, _ in questions).encode())
+
+
+def moved_to(place: int) -> str:
+    """The line of a place of WRITES, whose instructions run one after the other."""
+    address = 0x54 + 4 * place
+    word = int.from_bytes(WRITES[address: address + 4], "little")
+    return f"at {place} of 13 thread 1 pc {0x10000 + address:08x} word {word:08x}\n"
+
+
+def passed(address: int) -> Line:
+    """The line that goes through the changes of a byte of WRITES by quiet moves, from the end back to the first of them
+    and on to the last."""
+    places = [int(it.split()[0].removeprefix("at=")) for it in changes_of(address, 1, 13)]
+    back = [(f"last {address:x}", moved_to(it)) for it in places]
+    on = [(f"next {address:x}", moved_to(it)) for it in places[-2::-1]]
+    none = [(f"{it} {address:x}", "unchanged\n") for it in ("last", "next")]
+    return all_asked([("at end", "at 13 of 13\n"), *back, none[0], *on, none[1]], "ask --short changes 0")
+
+
 # ---- the lines
 
 
@@ -246,7 +269,8 @@ THREE_ENDS = re.compile(
     refused("record --choices /missing s exit_five", CANNOT_READ),
     refused("record --input /missing --choices small s exit_five", CANNOT_READ),
     refused("record --seed 0 --choices small s exit_five", "bad seed"),
-    refused("record --choices small exit_five exit_five", NOT_A_STORE),
+    refused("record --choices small exit_five exit_five", "bad choices\nsmall:3"),
+    refused("record --choices turns exit_five exit_five", NOT_A_STORE),
     bad("record --then all s exit_five", invalid("all", "then", "not turns or none")),
     bad("record --choices turns --choices turns --choices turns s exit_five exit_five",
         "--choices is given 3 times for 2 programs: give it once, or once for each"),
@@ -495,6 +519,7 @@ class Limited(Lines):
     bad("last --word s 0 end fffffffd", invalid("fffffffd", "ADDR", NO_WORD)),
     *(bad(f"last --times {it} s 0 end 0", invalid(it, "times", NO_TIMES)) for it in ("0", "65537", "all")),
     refused("last --short s 0 4 0", PAST_END),
+    *(passed(it) for it in (0x10000, 0x10001, 0x10003, 0x11000)),
 )
 class Changes(Lines):
     """Changes of bytes and words, one before the other."""
@@ -523,6 +548,7 @@ ASKED = (
     ("core core.asked", ""),
     ("choices", "1 64\n"),
     ("at 0x1", f"rrv: {invalid('0x1', 'at', NO_PLACE)}\n"),
+    *((it, f"rrv: a value is required for '{it}'\n") for it in ("at", "back", "forward", "last", "next", "memory")),
     ("go", "rrv: no question 'go': help lists them\n"),
     ("where ", AT_CALL),
     ("quit now", "rrv: unexpected value 'now' for 'quit'\n"),
@@ -531,6 +557,29 @@ ASKED = (
     ("threads", ""),
     ("at +0", state_of_five(0)),
 )
+# After `quiet`, or with `--short`, moves print the line of `where`. The words are those of FIVE_IN_MEMORY.
+MOVED = (
+    ("at end", "at 3 of 3\n"),
+    ("back 1", AT_CALL),
+    ("back 3", "rrv: before the start\n"),
+    ("where", AT_CALL),
+    ("threads", text_of_thread(2)),
+    ("back 1", "at 1 of 3 thread 1 pc 00010058 word 05d00893\n"),
+    ("memory 10000:96", FIVE_IN_MEMORY),
+    ("forward 3", "rrv: past the end\n"),
+    ("last 7FFFFF90", "unchanged\n"),
+    ("next 7FFFFF90", "unchanged\n"),
+    ("core core.2", "rrv: cannot make core file\n"),
+    ("choices", "1 64\n"),
+    ("at 0", "at 0 of 3 thread 1 pc 00010054 word 00500513\n"),
+)
+QUIET = (
+    ("at 1", state_of_five(1)), ("quiet", ""), *MOVED, ("quiet now", "rrv: unexpected value 'now' for 'quiet'\n"),
+    ("quiet", ""), *MOVED, ("full 0", "rrv: unexpected value '0' for 'full'\n"), ("forward 2", AT_CALL),
+    ("full", ""), ("forward 1", state_of_five(3)), ("full", ""), ("back 3", state_of_five(0)),
+    ("quiet ", ""), ("at 2", AT_CALL),
+)  # fmt: skip
+SHORT = (*MOVED, ("full", ""), ("at 2", state_of_five(2)), ("quiet", ""), *MOVED)
 NOTHING = MIXED_IN_MEMORY.splitlines(keepends=True)[2].replace("ffffffff", "00000000")
 TOO_LONG, NO_QUESTION = "rrv: line is longer than 8192 bytes\n.\n", "rrv: no question '{}': help lists them\n.\n"
 
@@ -547,13 +596,18 @@ def asked(stdin: bytes, answers: str, guest: int = 0) -> Line:
     refused("ask exit_five 0", NOT_A_STORE),
     bad("ask s g0", invalid("g0", "GUEST", ANY_NUMBER)),
     missing("ask s", "GUEST", "ask <STORE> <GUEST>"),
-    asked("\n".join(line for line, _ in ASKED).encode(), "".join(f"{answer}.\n" for _, answer in ASKED)),
+    all_asked(ASKED),
+    all_asked(QUIET),
+    all_asked(SHORT, "ask --short s 0"),
+    all_asked((("quiet", ""), ("at 0", "at 0 of 0\n")), "ask s 1"),
     asked(b"quit\nwhere\n", ".\n"),
     asked(b"x" * 1_000_000 + b"\nmemory 0x0:1\n", f"{TOO_LONG}{NOTHING}.\n"),
     asked(b"x" * 1_000_000, TOO_LONG),
     asked(b"x\n" * 300, NO_QUESTION.format("x") * 300),
-    asked(b"x" * 8192 + b"\n", NO_QUESTION.format("x" * 8192)),
-    asked(b"x" * 8192, NO_QUESTION.format("x" * 8192)),
+    asked(b"x" * 200, NO_QUESTION.format("x" * 200)),
+    asked(b"x" * 201, NO_QUESTION.format("x" * 200 + "..")),
+    asked(b"x" * 8192 + b"\n", NO_QUESTION.format("x" * 200 + "..")),
+    asked(b"x" * 8192, NO_QUESTION.format("x" * 200 + "..")),
     asked(b"x" * 8193, TOO_LONG),
     asked(b"\xff\n\nquit", f"rrv: line is not UTF-8\n.\n{NO_QUESTION.format('')}.\n"),
     asked(b"where\nthreads\nchoices\n", f"at 0 of 0\n.\n{text_of_thread(0)}.\n.\n", 1),

@@ -33,7 +33,7 @@ REFUSED = (
 PRINT_AS_READ = ("list ", "dump ", "last ")
 # What `ask` reads: each answer is the same at each place of that guest, so also after a question that was refused.
 QUESTIONS = ("at end", "last 7FFFFF90", "choices", "at 2", "next 7FFFFF90", "memory 10000:96", "go", "forward 4",
-             "back 4", "at 0", "help")
+             "back 4", "at 0", "quiet", "at 1", "full", "help")
 READ = "".join(f"{it}\n" for it in QUESTIONS).encode()
 MEMORY = b"rrv: out of memory\n"
 

@@ -41,7 +41,8 @@ ok records=2 instructions=3 end exited 5
 # Offers what bash completes of the last word.
 OFFER = 'source "$0"; COMP_WORDS=("$@"); COMP_CWORD=$(($# - 1)); _rrv; printf "%s\\n" "${COMPREPLY[@]}"'
 # How the paths of files end that may be run.
-RUNS = (".elf", *(f"/{it}" for it in ("cc", "c++", "hunt", "build", "build-musl", "build-cxx", "guest-words", "try")))
+TOOLS = ("cc", "c++", "hunt", "build", "build-musl", "build-cxx", "guest-words", "try", "unpack")
+RUNS = (".elf", *(f"/{it}" for it in TOOLS))
 COUNTER, TRUE = "examples/lost_update/counter.elf", shutil.which("true") or "true"
 HUNTED, OPTIONS = "deadlock", ("--seed", "3", "--lists", "32")
 # Two threads add up the numbers from 1 to 100 each, which are 5050.

@@ -6,7 +6,7 @@ use commands::{report, report_unread};
 use copying::CopyFault;
 use elf_load::ElfFault;
 use guest_calls::{SetPageFault, SetRestFault};
-use line_io::Refusal;
+use line_io::{FileFault, Refusal};
 use recover::{OpenFault, ReadFault};
 use replayer::{OutputFault, VerifyFault};
 use reverse_step::SeekFault;
@@ -69,6 +69,21 @@ fn texts_of_refusals(rt: HostRuntime) -> Result<(), Fail> {
             ),
         ],
     )
+}
+
+#[test]
+fn names_of_files_are_escaped(rt: HostRuntime) -> Result<(), Fail> {
+    let name = "\u{1b}[31m\t\u{7f}\u{9b}\u{a0} \\x1b";
+    let shown = "\\x1b[31m\\x09\\x7f\\xc2\\x9b\u{a0} \\x1b";
+    let refused = Refusal::BadChoices {
+        file: String::from_str(rt.alloc(), name)?,
+        line: 3,
+    };
+    let want = format!(in rt.alloc(); "bad choices\n{shown}:3")?;
+    shows(&rt, &refused, want.as_str())?;
+    let refused = Refusal::of_checked(rt.alloc(), name, FileFault::TooLong { most: 8 });
+    let want = format!(in rt.alloc(); "{shown}: longer than 8 bytes")?;
+    shows(&rt, &refused, want.as_str())
 }
 
 #[test]

@@ -18,12 +18,12 @@ returns-in_ok-print_refused-in-Err-answer_asked g c =
     record {
       verified = c.answer_asked.ensures.verified;
       answered =
-          refused_line line _ c.args.cursor.now c.answer_asked.new.cursor (contents c.args.out.now) (contents c.answer_asked.new.out)
-          (contents c.print_refused-in-Err-answer_asked.new.out) e asked refuses other
+          refused_line line _ c.args.dialogue.now c.answer_asked.new.dialogue (contents c.args.out.now) (contents c.answer_asked.new.out)
+          (contents c.print_refused-in-Err-answer_asked.new.out) e asked refuses c.answer_asked.ensures.form other
           (ap contents (c.in-Err-answer_asked.ensures.quiet other))
           c.in_ok-print_refused-in-Err-answer_asked.ensures.told;
       ends = (
         (λ h. absurd (true≢false h)),
-        (λ q. absurd (quit_is_answered line _ c.args.cursor.now c.answer_asked.new.cursor e asked refuses q)),
+        (λ q. absurd (quit_is_answered line _ c.args.dialogue.now.cursor c.answer_asked.new.dialogue.cursor e asked refuses q)),
       );
     }

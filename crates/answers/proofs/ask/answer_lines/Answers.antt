@@ -6,7 +6,7 @@ use Rattle.answers.proofs.ask.answer_lines.Goals as goal
 pub returns-then-not-goes_on-clause-answered : goal.returns-then-not-goes_on-clause-answered
 returns-then-not-goes_on-clause-answered g c = λ quiet.
     let contents = g.W.Write.contents in
-    answered_on c.args.cursor.now c.loop.cursor c.answer_input.new.cursor (contents c.args.out.now) (contents c.loop.out)
+    answered_on c.args.dialogue.now c.loop.dialogue c.answer_input.new.dialogue (contents c.args.out.now) (contents c.loop.out)
     (contents c.prompt.new.out) (contents c.answer_input.new.out) (contents c.end_answer.new.out) _ (c.loop.invariant.ran quiet)
     (ap contents (c.prompt.ensures.quiet quiet)) c.in_ok-goes_on.ensures.answered c.in_ok-end_answer.ensures.ended
 
@@ -16,7 +16,7 @@ loop-preserved g c = record {
   ran = λ quiet.
       let contents = g.W.Write.contents in
       let on : c.in_ok-goes_on.goes_on ≡ true = search rules in
-      answered_and_on c.args.cursor.now c.loop.cursor c.answer_input.new.cursor (contents c.args.out.now) (contents c.loop.out)
+      answered_and_on c.args.dialogue.now c.loop.dialogue c.answer_input.new.dialogue (contents c.args.out.now) (contents c.loop.out)
       (contents c.prompt.new.out) (contents c.answer_input.new.out) (contents c.end_answer.new.out) _ (c.loop.invariant.ran quiet)
       (ap contents (c.prompt.ensures.quiet quiet)) c.in_ok-goes_on.ensures.answered c.in_ok-end_answer.ensures.ended
       (subst (λ (b : Bool). GoesOnAfter c.in-Some.line b) on c.in_ok-goes_on.ensures.ends);

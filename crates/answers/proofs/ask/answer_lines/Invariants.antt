@@ -4,6 +4,6 @@ use Rattle.answers.proofs.ask.answer_lines.Given as goal
 
 abbrev pub invariant-loop : goal.invariant-loop
 invariant-loop g l = record {
-  same : l.cursor.verified ≡ l.fn.cursor.verified;
-  ran : l.prompts ≡ false → IsRunOn l.fn.cursor l.cursor (g.W.Write.contents l.fn.out) (g.W.Write.contents l.out);
+  same : l.dialogue.cursor.verified ≡ l.fn.dialogue.cursor.verified;
+  ran : l.prompts ≡ false → IsRunOn l.fn.dialogue l.dialogue (g.W.Write.contents l.fn.out) (g.W.Write.contents l.out);
 }

@@ -3,7 +3,7 @@ use Rattle.std.specs.Borrow.{Bor}
 use Rattle.std.proofs.lemmas.Result.{err_from_is_err_and}
 use Rattle.clap.specs.Words.{Text}
 use Rattle.command_line.specs.Asked.{IsAsked}
-use Rattle.command_line.proofs.Questions.{no_choices, no_core, no_help, no_quit}
+use Rattle.command_line.proofs.Questions.{no_choices, no_core, no_full, no_help, no_quiet, no_quit}
 use Rattle.command_line.proofs.asked.asked_in.Goals as goal
 
 pub returns-in_err-file-in-core : goal.returns-in_err-file-in-core
@@ -24,6 +24,26 @@ returns-in_err-none_of-in-choices c =
       found = tt;
       none = no_choices _ _ (sym parts.name ∙ c.in-choices.is)
           (λ empty. c.in_err-none_of-in-choices.ensures.none tt (parts.value ∙ empty));
+    })
+
+pub returns-in_err-none_of-in-quiet : goal.returns-in_err-none_of-in-quiet
+returns-in_err-none_of-in-quiet c =
+    let p = err_from_is_err_and c.from_residual-in_err-none_of-in-quiet.result c.from_residual-in_err-none_of-in-quiet.ensures.1 in
+    let parts = c.name_and_value.ensures in
+    rw p.1 (record {
+      found = tt;
+      none = no_quiet _ _ (sym parts.name ∙ c.in-quiet.is)
+          (λ empty. c.in_err-none_of-in-quiet.ensures.none tt (parts.value ∙ empty));
+    })
+
+pub returns-in_err-none_of-in-full : goal.returns-in_err-none_of-in-full
+returns-in_err-none_of-in-full c =
+    let p = err_from_is_err_and c.from_residual-in_err-none_of-in-full.result c.from_residual-in_err-none_of-in-full.ensures.1 in
+    let parts = c.name_and_value.ensures in
+    rw p.1 (record {
+      found = tt;
+      none = no_full _ _ (sym parts.name ∙ c.in-full.is)
+          (λ empty. c.in_err-none_of-in-full.ensures.none tt (parts.value ∙ empty));
     })
 
 pub returns-in_err-none_of-in-help : goal.returns-in_err-none_of-in-help

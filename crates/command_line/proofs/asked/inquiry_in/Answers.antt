@@ -6,7 +6,7 @@ pub returns-in_err-range_of-in-memory : goal.returns-in_err-range_of-in-memory
 returns-in_err-range_of-in-memory c =
     let p = err_from_is_err_and c.from_residual-in_err-range_of-in-memory.result c.from_residual-in_err-range_of-in-memory.ensures.1 in
     rw p.1 (record
-    { found = tt; none = no_memory c.args.name.now c.args.value.now c.in-memory.is c.in_err-range_of-in-memory.ensures.none })
+    { found = tt; none = no_memory c.args.name.now c.args.value.now c.in-memory.is c.in_err-range_of-in-memory.ensures.reads.none })
 
 pub returns-in_err-none_of-in-threads : goal.returns-in_err-none_of-in-threads
 returns-in_err-none_of-in-threads c =

@@ -20,7 +20,7 @@ no_last rows none (questions.Back from count memory) h = differ (codes "last") (
 no_last rows none (questions.Last from watched times short memory) h = none watched h.1.1
 no_last rows none questions.Choices h = differ (codes "last") (codes "choices") refl h.0
 no_last rows none (questions.Core at file) h = differ (codes "last") (codes "core") refl h.0
-no_last rows none questions.Lines h = differ (codes "last") (codes "ask") refl h.0
+no_last rows none (questions.Lines short) h = differ (codes "last") (codes "ask") refl h.0
 
 none_of : (rows : List Row) (e : Unread) → OnBad e ((w : Watched) → HasWatched rows w → ⊥) →
     OnBad e ((q : Question) → IsQuestionOf q (codes "last", rows) → ⊥)
